@@ -1,0 +1,140 @@
+-- From a header part and a body to what the stream begins with.
+use Rattle.std.proofs.Common.{◌≡◌, ℕ, suc, ◌+◌, ◌<◌, true, false, Bool, cond, List, [], ◌∷◌, ◌++◌, length, drop, arith, ap, sym, ◌∙◌, refl, Option, None, Some, Ok, Err, length-append, eqb, nat_lt, nat_le}
+use Rattle.std.specs.Prelude.{IfSome}
+use Rattle.std.proofs.lemmas.List.{take_at, drop_at}
+use Rattle.std.proofs.lemmas.Bool.Decides.{nat_tests}
+use Rattle.std.proofs.lemmas.Bool.{lt-ltb}
+use Rattle.std.specs.Global.{Vec}
+use Rattle.std.specs.Io.KnownBytes.{Consumes}
+use Rattle.lsp_frame.specs.Header.{body_length}
+use Rattle.lsp_frame.specs.declared.reader.Frame.TheVariants.{Body, End}
+use Rattle.lsp_frame.specs.declared.fault.FrameFault.{FrameFault}
+use Rattle.lsp_frame.specs.declared.fault.FrameFault.TheVariants.{BadHeader, NoLength, BadLength, BodyTooLong, HeaderTooLong, Truncated, Read, Memory}
+use Rattle.lsp_frame.specs.Stream.{header_len, without_header, StreamEnd, InputEnd, BadFrame, Whole, NoFrame, first_frame, behind_header, left_behind, left_of_body, max_header}
+use Rattle.lsp_frame.specs.Reading.{Answers, Shows, ShowsEnd, HasCause}
+use Rattle.lsp_frame.specs.Steps.{TakesHeader, TakesBody}
+use Rattle.lsp_frame.specs.declared.counts.Counts.{Counts}
+use Rattle.lsp_frame.proofs.StreamLemmas.{frames-whole, frames-end}
+use Rattle.lsp_frame.proofs.Faults.{IsOfHeader}
+
+first_frame-none : (bytes : List ℕ) (end : StreamEnd) → header_len bytes ≡ None → without_header bytes ≡ end → first_frame bytes ≡ NoFrame end
+unfolding first_frame
+first_frame-none bytes end e f = rw e (ap NoFrame f)
+
+pub first_frame-some : (header rest : List ℕ) → header_len (header ++ rest) ≡ Some (length header) → first_frame (header ++ rest) ≡ behind_header rest (body_length header)
+unfolding first_frame
+first_frame-some header rest e = rw (e, take_at header rest (length header) refl, drop_at header rest (length header) refl) refl
+
+left_behind-none : (bytes : List ℕ) → header_len bytes ≡ None → left_behind bytes ≡ drop max_header bytes
+unfolding left_behind
+left_behind-none bytes e = rw e refl
+
+left_behind-some : (header rest : List ℕ) → header_len (header ++ rest) ≡ Some (length header) → left_behind (header ++ rest) ≡ left_of_body rest (body_length header)
+unfolding left_behind
+left_behind-some header rest e = rw (e, take_at header rest (length header) refl, drop_at header rest (length header) refl) refl
+
+-- the bytes end so, and this is left of them
+shows_end : (bytes : List ℕ) (left : Option (List ℕ)) (end : StreamEnd) → first_frame bytes ≡ NoFrame end → left ≡ Some (left_behind bytes) → ShowsEnd bytes left end
+shows_end bytes left end first is_left = record { first = first; none = frames-end bytes end first; is_left = is_left }
+
+show : (bytes : List ℕ) (left : Option (List ℕ)) (fault : FrameFault) → first_frame bytes ≡ NoFrame (BadFrame fault) → left ≡ Some (left_behind bytes) → Shows bytes left fault
+show bytes left BadHeader e l = shows_end bytes left _ e l
+show bytes left NoLength e l = shows_end bytes left _ e l
+show bytes left BadLength e l = shows_end bytes left _ e l
+show bytes left BodyTooLong e l = shows_end bytes left _ e l
+show bytes left HeaderTooLong e l = shows_end bytes left _ e l
+show bytes left Truncated e l = shows_end bytes left _ e l
+show bytes left Read e l = tt
+show bytes left Memory e l = tt
+
+-- no header part, of these bytes and with these left
+show_headless : (bytes : List ℕ) (left : Option (List ℕ)) (fault : FrameFault) → header_len bytes ≡ None → without_header bytes ≡ BadFrame fault → left ≡ Some (drop max_header bytes) → Shows bytes left fault
+show_headless bytes left fault none end is_left = show bytes left fault (first_frame-none bytes _ none end) (is_left ∙ ap Some (sym (left_behind-none bytes none)))
+
+headless : (bytes : List ℕ) (left : Option (List ℕ)) (fault : FrameFault) → TakesHeader bytes left (Err fault) → Shows bytes left fault
+headless bytes left BadHeader h = show_headless bytes left BadHeader h.0 h.1 h.2
+headless bytes left NoLength h = show_headless bytes left NoLength h.0 h.1 h.2
+headless bytes left BadLength h = show_headless bytes left BadLength h.0 h.1 h.2
+headless bytes left BodyTooLong h = show_headless bytes left BodyTooLong h.0 h.1 h.2
+headless bytes left HeaderTooLong h = show_headless bytes left HeaderTooLong h.0 h.1 h.2
+headless bytes left Truncated h = show_headless bytes left Truncated h.0 h.1 h.2
+headless bytes left Read h = tt
+headless bytes left Memory h = tt
+
+pub no_header : (a b : Option (List ℕ)) (fault : FrameFault) → IfSome a (λ bytes. TakesHeader bytes b (Err fault)) → IfSome a (λ bytes. Answers bytes b (Err fault))
+no_header None b fault h = tt
+no_header (Some bytes) b fault h = headless bytes b fault h
+
+empty : (bytes : List ℕ) → without_header bytes ≡ InputEnd → bytes ≡ []
+empty [] e = refl
+empty (x ∷ bytes) e = by_tests (nat_le 8192 (suc (length bytes))) (eqb (suc (length bytes)) 0) (grind (arith, nat_tests)) e
+  where
+    by_tests : (long none : Bool) → none ≡ false → cond long (BadFrame HeaderTooLong) (cond none InputEnd (BadFrame Truncated)) ≡ InputEnd → (x ∷ bytes) ≡ []
+    by_tests true none n e = cc
+    by_tests false true n e = cc
+    by_tests false false n e = cc
+
+pub at_end : (a b : Option (List ℕ)) → IfSome a (λ bytes. TakesHeader bytes b (Ok None)) → IfSome a (λ bytes. Answers bytes b (Ok End))
+at_end None b h = tt
+at_end (Some bytes) b h = (empty bytes h.1, shows_end bytes b InputEnd (first_frame-none bytes InputEnd h.0 h.1) (h.2 ∙ ap Some (sym (left_behind-none bytes h.0))))
+
+-- a header part was taken
+abbrev pub HasHeader : Option (List ℕ) → Option (List ℕ) → List ℕ → Type 0
+HasHeader a b header = IfSome a (λ bytes. (header_len bytes ≡ Some (length header)) × Consumes (Some bytes) b header)
+
+first_frame-after : (bytes header rest : List ℕ) → header_len bytes ≡ Some (length header) → bytes ≡ header ++ rest → first_frame bytes ≡ behind_header rest (body_length header)
+first_frame-after bytes header rest e j = ap first_frame j ∙ first_frame-some header rest (ap header_len (sym j) ∙ e)
+
+left-after : (bytes header rest : List ℕ) → header_len bytes ≡ Some (length header) → bytes ≡ header ++ rest → left_behind bytes ≡ left_of_body rest (body_length header)
+left-after bytes header rest e j = ap left_behind j ∙ left_behind-some header rest (ap header_len (sym j) ∙ e)
+
+pub bad_header : (a b : Option (List ℕ)) (header : List ℕ) (fault : FrameFault) → HasHeader a b header → body_length header ≡ Err fault → IfSome a (λ bytes. Answers bytes b (Err fault))
+bad_header None b header fault h e = tt
+bad_header (Some bytes) None header fault h e = absurd h.1
+bad_header (Some bytes) (Some rest) header fault h e =
+    show bytes (Some rest) fault (first_frame-after bytes header rest h.0 h.1 ∙ ap (behind_header rest) e) (ap Some (sym (left-after bytes header rest h.0 h.1 ∙ ap (left_of_body rest) e)))
+
+short : (rest : List ℕ) (n : ℕ) → length rest < n → behind_header rest (Ok n) ≡ NoFrame (BadFrame Truncated)
+short rest n lt = rw (lt-ltb (length rest) n lt) refl
+
+no_body : (bytes rest : List ℕ) (c : Option (List ℕ)) (n : ℕ) (fault : FrameFault) → first_frame bytes ≡ behind_header rest (Ok n) → left_behind bytes ≡ [] → TakesBody rest n c (Err fault) → Shows bytes c fault
+no_body bytes rest c n BadHeader e l h = cc
+no_body bytes rest c n NoLength e l h = cc
+no_body bytes rest c n BadLength e l h = cc
+no_body bytes rest c n BodyTooLong e l h = cc
+no_body bytes rest c n HeaderTooLong e l h = cc
+no_body bytes rest c n Truncated e l h = show bytes c Truncated (e ∙ short rest n h.1) (h.2 ∙ ap Some (sym l))
+no_body bytes rest c n Read e l h = tt
+no_body bytes rest c n Memory e l h = tt
+
+pub short_body : (a b c : Option (List ℕ)) (header : List ℕ) (n : ℕ) (fault : FrameFault) → HasHeader a b header → body_length header ≡ Ok n → IfSome b (λ rest. TakesBody rest n c (Err fault)) → IfSome a (λ bytes. Answers bytes c (Err fault))
+short_body None b c header n fault h e t = tt
+short_body (Some bytes) None c header n fault h e t = absurd h.1
+short_body (Some bytes) (Some rest) c header n fault h e t =
+    no_body bytes rest c n fault (first_frame-after bytes header rest h.0 h.1 ∙ ap (behind_header rest) e) (left-after bytes header rest h.0 h.1 ∙ ap (left_of_body rest) e) t
+
+pub whole : (body rest : List ℕ) (n : ℕ) → length body ≡ n → behind_header (body ++ rest) (Ok n) ≡ Whole body rest
+whole body rest n len =
+    let fits : nat_lt (length (body ++ rest)) n ≡ false = not_short (length body) (length rest) (length (body ++ rest)) n len (length-append body rest) in
+    rw (fits, take_at body rest n len, drop_at body rest n len) refl
+  where
+    not_short : (b r l n : ℕ) → b ≡ n → l ≡ b + r → nat_lt l n ≡ false
+    not_short b r l n e f = grind (arith, nat_tests)
+
+pub whole_frame : (a b c : Option (List ℕ)) (header : List ℕ) (n : ℕ) (body : Vec ℕ) → HasHeader a b header → body_length header ≡ Ok n → IfSome b (λ rest. TakesBody rest n c (Ok body)) → IfSome a (λ bytes. Answers bytes c (Ok (Body body)))
+whole_frame None b c header n body h e t = tt
+whole_frame (Some bytes) None c header n body h e t = absurd h.1
+whole_frame (Some bytes) (Some rest) None header n body h e t = absurd t.1
+whole_frame (Some bytes) (Some rest) (Some last) header n body h e t =
+    let first = first_frame-after bytes header rest h.0 h.1 ∙ ap (behind_header rest) e ∙ ap (λ r. behind_header r (Ok n)) t.1 ∙ whole body.items last n t.0 in
+    record { rest = last; first = first; others = frames-whole bytes body.items last first; is_left = refl }
+
+pub header_cause : (old new : Counts) (fault : FrameFault) → IsOfHeader fault → HasCause old new fault
+header_cause old new BadHeader h = tt
+header_cause old new NoLength h = tt
+header_cause old new BadLength h = tt
+header_cause old new BodyTooLong h = tt
+header_cause old new HeaderTooLong h = tt
+header_cause old new Truncated h = tt
+header_cause old new Read h = absurd h
+header_cause old new Memory h = tt

@@ -1,0 +1,11 @@
+pub mod Counts
+pub mod Fault
+pub mod Header
+pub mod Grammar
+pub mod Stream
+pub mod Turns
+pub mod Devices
+pub mod FrameReader
+pub mod Reading
+pub mod Writing
+pub mod Steps

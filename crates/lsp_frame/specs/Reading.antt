@@ -1,0 +1,39 @@
+-- What `read_frame` answers of a stream, and what it leaves of it.
+use Rattle.std.specs.Prelude.{◌≡◌, ℕ, List, [], Option, Some, Result, Ok, Err, ⊤}
+use Rattle.lsp_frame.specs.Counts.{HasFailed}
+use Rattle.lsp_frame.specs.Stream.{StreamEnd, Whole, NoFrame, InputEnd, BadFrame, first_frame, frames, with_body, no_frames, left_behind}
+use Rattle.lsp_frame.specs.declared.counts.Counts.{Counts}
+use Rattle.lsp_frame.specs.declared.reader.Frame.{Frame}
+use Rattle.lsp_frame.specs.declared.reader.Frame.TheVariants.{Body, End}
+use Rattle.lsp_frame.specs.declared.fault.FrameFault.{FrameFault}
+use Rattle.lsp_frame.specs.declared.fault.FrameFault.TheVariants.{Read, Memory}
+
+-- the first frame of the bytes has this body, and what is behind it is left
+pub record TakesFrame (bytes : List ℕ) (left : Option (List ℕ)) (body : List ℕ) : Type 0 where
+  pub rest : List ℕ
+  pub first : first_frame bytes ≡ Whole body rest
+  pub others : frames bytes ≡ with_body body (frames rest)
+  pub is_left : left ≡ Some rest
+
+-- no whole frame begins the bytes, which end so, and no byte is taken that isn't needed to tell
+pub record ShowsEnd (bytes : List ℕ) (left : Option (List ℕ)) (end : StreamEnd) : Type 0 where
+  pub first : first_frame bytes ≡ NoFrame end
+  pub none : frames bytes ≡ no_frames end
+  pub is_left : left ≡ Some (left_behind bytes)
+
+-- a fault that the bytes show; one of the reader or of memory says nothing of them
+abbrev pub Shows : List ℕ → Option (List ℕ) → FrameFault → Type 0
+Shows bytes left Read = ⊤
+Shows bytes left Memory = ⊤
+Shows bytes left fault = ShowsEnd bytes left (BadFrame fault)
+
+-- what was answered of the bytes, and what is left of them; the end comes at a frame's border alone
+abbrev pub Answers : List ℕ → Option (List ℕ) → Result Frame FrameFault → Type 0
+Answers bytes left (Ok (Body body)) = TakesFrame bytes left body.items
+Answers bytes left (Ok End) = (bytes ≡ []) × ShowsEnd bytes left InputEnd
+Answers bytes left (Err fault) = Shows bytes left fault
+
+-- a fault of the reader comes only where it failed
+abbrev pub HasCause : Counts → Counts → FrameFault → Type 0
+HasCause old new Read = HasFailed old new
+HasCause old new fault = ⊤

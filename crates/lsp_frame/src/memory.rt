@@ -1,0 +1,139 @@
+// A source and a sink over memory, which fail as a test wants it.
+ghost use Rattle.std.specs.Prelude.{◌≡◌, ◌<◌, ◌≤◌, [], vec_len, vec_capacity, drop, Some, IfOk};
+ghost use Rattle.lsp_frame.specs.Counts.{no_counts};
+
+use crate::counts::Counts;
+use crate::device::{ByteSink, ByteSource, Fail};
+use std::alloc::{AllocError, Global};
+
+/// A source of the bytes of a vector.
+#[derive(Debug, Drop)]
+pub struct MemSource {
+    bytes: Vec<u8>,
+    taken: usize,
+    piece: usize,
+    interruptions: u64,
+    fails: bool,
+    counts: Counts,
+    ghost within: { taken ≤ vec_len bytes },
+    ghost moves: { 0 < piece },
+}
+
+impl MemSource {
+    /// A source that gives at most `piece` bytes at a time, whose first calls are so many interruptions. Behind its
+    /// bytes it fails at each call where `fails` is true, and else is at its end.
+    pub fn new(bytes: Vec<u8>, piece: usize, interruptions: u64, fails: bool) -> Self
+        requires { 0 < piece }
+        ensures left { ⟦<MemSource as ByteSource>⟧.left result ≡ Some bytes.items }
+        ensures counts { ⟦<MemSource as ByteSource>⟧.counts result ≡ no_counts }
+    {
+        MemSource {
+            bytes,
+            taken: 0,
+            piece,
+            interruptions,
+            fails,
+            counts: Counts::new(),
+        }
+    }
+}
+
+impl ByteSource for MemSource {
+    ghost left = { λ source. Some (drop source.taken source.bytes.items) };
+
+    ghost counts = { λ source. source.counts };
+
+    fn read(&mut self, buffer: &mut [u8]) -> Result<usize, Fail> {
+        if self.interruptions > 0 {
+            self.interruptions -= 1;
+            self.counts.add_interruption();
+            return Err(Fail::Interrupted);
+        }
+        let left = self.bytes.len() - self.taken;
+        if left == 0 && self.fails {
+            self.counts.add_error();
+            return Err(Fail::Error);
+        }
+        let count = left.min(self.piece).min(buffer.len());
+        let end = self.taken + count;
+        buffer[..count].copy_from_slice(&self.bytes[self.taken..end]);
+        self.taken = end;
+        self.counts.add_success();
+        Ok(count)
+    }
+}
+
+/// A sink into a vector of a fixed room.
+#[derive(Debug, Drop)]
+pub struct MemSink {
+    bytes: Vec<u8>,
+    room: usize,
+    piece: usize,
+    interruptions: u64,
+    zero: bool,
+    counts: Counts,
+    ghost within: { vec_len bytes ≤ room },
+    ghost reserved: { room ≤ vec_capacity bytes },
+    ghost moves: { 0 < piece },
+}
+
+impl MemSink {
+    /// An empty sink with room for so many bytes. It takes at most `piece` bytes at a time, and its first calls
+    /// are so many interruptions. Behind its room it answers 0 where `zero` is true, and else fails.
+    ///
+    /// The room is reserved here: `AllocError` where memory is refused.
+    pub fn new(
+        alloc: Global,
+        room: usize,
+        piece: usize,
+        interruptions: u64,
+        zero: bool,
+    ) -> Result<Self, AllocError>
+        requires { 0 < piece }
+        ensures written { IfOk result (λ sink. ⟦<MemSink as ByteSink>⟧.written sink ≡ Some []) }
+        ensures counts { IfOk result (λ sink. ⟦<MemSink as ByteSink>⟧.counts sink ≡ no_counts) }
+    {
+        Ok(MemSink {
+            bytes: Vec::with_capacity(alloc, room)?,
+            room,
+            piece,
+            interruptions,
+            zero,
+            counts: Counts::new(),
+        })
+    }
+
+    /// The bytes that it took.
+    pub fn written(&self) -> &[u8]
+        ensures { ⟦<MemSink as ByteSink>⟧.written self.now ≡ Some result.now }
+    {
+        self.bytes.as_slice()
+    }
+}
+
+impl ByteSink for MemSink {
+    ghost written = { λ sink. Some sink.bytes.items };
+
+    ghost counts = { λ sink. sink.counts };
+
+    fn write(&mut self, buffer: &[u8]) -> Result<usize, Fail> {
+        if self.interruptions > 0 {
+            self.interruptions -= 1;
+            self.counts.add_interruption();
+            return Err(Fail::Interrupted);
+        }
+        if buffer.is_empty() {
+            self.counts.add_success();
+            return Ok(0);
+        }
+        let left = self.room - self.bytes.len();
+        if left == 0 {
+            self.counts.add_error();
+            return if self.zero { Ok(0) } else { Err(Fail::Error) };
+        }
+        let count = left.min(self.piece).min(buffer.len());
+        self.bytes.extend_from_slice(&buffer[..count]).unwrap();
+        self.counts.add_success();
+        Ok(count)
+    }
+}
