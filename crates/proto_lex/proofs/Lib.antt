@@ -1,0 +1,16 @@
+pub mod Bools
+pub mod Boundaries
+pub mod ByteTable
+pub mod Comments
+pub mod Cuts
+pub mod Exists
+pub mod Floats
+pub mod Fronts
+pub mod Ints
+pub mod KindForms
+pub mod LongestFront
+pub mod Numbers
+pub mod Order
+pub mod Strings
+pub mod Symbols
+pub mod Unique

@@ -1,0 +1,10 @@
+pub mod Bytes
+pub mod Characters
+pub mod Forms
+pub mod Kinds
+pub mod Laws
+pub mod NumberForms
+pub mod Numbers
+pub mod Scanner
+pub mod Tokens
+pub mod Trivia
