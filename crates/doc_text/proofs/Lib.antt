@@ -1,0 +1,10 @@
+mod Backs
+mod Changes
+mod Cuts
+mod Leads
+mod LineOffsets
+mod Runs
+mod Steps
+mod Trips
+mod Walks
+mod Ways

@@ -1,0 +1,6 @@
+pub mod Bytes
+pub mod Edits
+pub mod Laws
+pub mod Lines
+pub mod Positions
+pub mod Walks

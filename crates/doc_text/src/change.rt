@@ -1,0 +1,9 @@
+//! A change of a text document (Language Server Protocol 3.17, "TextDocumentContentChangeEvent").
+use super::Range;
+
+/// A new text for a range of a document, or for the whole document where there is no range.
+#[derive(Drop)]
+pub struct Change {
+    pub range: Option<Range>,
+    pub text: String,
+}
