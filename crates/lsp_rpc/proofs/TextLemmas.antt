@@ -1,0 +1,78 @@
+-- The texts of replies, byte for byte.
+use Rattle.std.proofs.Common.{◌≡◌, ℕ, List, [], ◌∷◌, ◌++◌, true, false, map, refl, sym, ap, ◌∙◌, append_assoc, codes}
+use Rattle.std.specs.Fmt.{digits}
+use Rattle.std.specs.List.{join_with_byte}
+use Rattle.serde_json.specs.Data.{Data, Items, number, unsigned, string, array, object, member, no_members}
+use Rattle.serde_json.specs.View.{items_of}
+use Rattle.serde_json.specs.Written.{compact_text, items_text}
+use Rattle.serde_json.proofs.OnLiterals.{serde_json_on_literals}
+use Rattle.lsp_rpc.specs.Reply.{id_or_null, error_value}
+use Rattle.lsp_rpc.specs.Diagnostic.{DiagnosticData, range_value, severity_number, diagnostic_value}
+use Rattle.lsp_rpc.specs.Laws.{ResultText, error_object_text, ErrorText, InitializeText, DiagnosticText, ReportText}
+use Rattle.lsp_rpc.specs.declared.error_code.ErrorCode.{ErrorCode}
+use Rattle.lsp_rpc.specs.declared.error_code.ErrorCode.TheVariants.{ParseError, InvalidRequest, MethodNotFound, InvalidParams, ServerNotInitialized}
+
+pub result_text : ResultText
+unfolding serde_json_on_literals
+result_text id result = simp append_assoc
+
+pub initialize_text : InitializeText
+unfolding serde_json_on_literals digits
+initialize_text = refl
+
+-- ---- errors
+
+error_value_text : (code : ErrorCode) → compact_text (error_value code) ≡ error_object_text code
+unfolding serde_json_on_literals digits
+error_value_text ParseError = refl
+error_value_text InvalidRequest = refl
+error_value_text MethodNotFound = refl
+error_value_text InvalidParams = refl
+error_value_text ServerNotInitialized = refl
+
+error_spelled : (id error : Data)
+    → compact_text (object (member (codes "error") error (member (codes "id") id (member (codes "jsonrpc") (string (codes "2.0")) no_members))))
+    ≡ codes "{\"error\":" ++ compact_text error ++ codes ",\"id\":" ++ compact_text id ++ codes ",\"jsonrpc\":\"2.0\"}"
+unfolding serde_json_on_literals
+error_spelled id error = simp append_assoc
+
+pub error_text : ErrorText
+error_text id code =
+    error_spelled (id_or_null id) (error_value code) ∙ ap (λ s. codes "{\"error\":" ++ s ++ codes ",\"id\":" ++ compact_text (id_or_null id) ++ codes ",\"jsonrpc\":\"2.0\"}") (error_value_text code)
+
+-- ---- diagnostics
+
+diagnostic_spelled : (code message range severity : Data)
+    → compact_text
+    (object (member (codes "code") code (member (codes "message") message (member (codes "range") range (member (codes "severity") severity
+    (member (codes "source") (string (codes "protols")) no_members))))))
+    ≡ codes "{\"code\":" ++ compact_text code ++ codes ",\"message\":" ++ compact_text message ++ codes ",\"range\":" ++ compact_text range
+    ++ codes ",\"severity\":" ++ compact_text severity ++ codes ",\"source\":\"protols\"}"
+unfolding serde_json_on_literals
+diagnostic_spelled code message range severity = simp append_assoc
+
+pub diagnostic_text : DiagnosticText
+diagnostic_text d = diagnostic_spelled (number (unsigned d.code)) (string d.message) (range_value d.range) (number (unsigned (severity_number d.severity)))
+
+later_items : (f : DiagnosticData → Data) (x : List ℕ) (ds : List DiagnosticData)
+    → x ++ items_text true (items_of (map f ds)) ≡ join_with_byte 44 (x ∷ map (λ d. compact_text (f d)) ds) ++ 93 ∷ []
+later_items f x [] = refl
+later_items f x (d ∷ ds) =
+    ap (λ s. x ++ 44 ∷ s) (later_items f (compact_text (f d)) ds) ∙ sym (append_assoc x (44 ∷ join_with_byte 44 (compact_text (f d) ∷ map (λ e. compact_text (f e)) ds)) (93 ∷ []))
+
+joined_items : (f : DiagnosticData → Data) (ds : List DiagnosticData) → items_text false (items_of (map f ds)) ≡ join_with_byte 44 (map (λ d. compact_text (f d)) ds) ++ 93 ∷ []
+joined_items f [] = refl
+joined_items f (d ∷ ds) = later_items f (compact_text (f d)) ds
+
+report_spelled : (items : Items)
+    → compact_text (object (member (codes "items") (array items) (member (codes "kind") (string (codes "full")) no_members)))
+    ≡ codes "{\"items\":[" ++ (items_text false items ++ codes ",\"kind\":\"full\"}")
+unfolding serde_json_on_literals
+report_spelled items = refl
+
+pub report_text : ReportText
+report_text ds =
+    let texts : List (List ℕ) = map (λ d. compact_text (diagnostic_value d)) ds in
+    report_spelled (items_of (map diagnostic_value ds))
+    ∙ ap (λ s. codes "{\"items\":[" ++ (s ++ codes ",\"kind\":\"full\"}")) (joined_items diagnostic_value ds)
+    ∙ ap (λ s. codes "{\"items\":[" ++ s) (append_assoc (join_with_byte 44 texts) (93 ∷ []) (codes ",\"kind\":\"full\"}"))

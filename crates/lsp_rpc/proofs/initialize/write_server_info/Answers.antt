@@ -1,0 +1,6 @@
+use Rattle.lsp_rpc.proofs.WritingLemmas.{one, ◌▹◌}
+use Rattle.lsp_rpc.proofs.initialize.write_server_info.Goals as goal
+
+pub returns : goal.returns
+returns c =
+    one c.in_ok-begin_object.ensures ▹ one c.in_ok-key.ensures ▹ one c.in_ok-string.ensures ▹ one c.in_ok-key-2.ensures ▹ one c.in_ok-string-2.ensures ▹ one c.in_ok-end_object.ensures

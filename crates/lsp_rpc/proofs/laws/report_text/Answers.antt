@@ -1,0 +1,5 @@
+use Rattle.lsp_rpc.proofs.TextLemmas as texts
+use Rattle.lsp_rpc.proofs.laws.report_text.Goals as goal
+
+pub returns : goal.returns
+returns c = texts.report_text

@@ -1,0 +1,7 @@
+use Rattle.lsp_rpc.proofs.WritingLemmas.{one, ◌▹◌}
+use Rattle.lsp_rpc.proofs.reply.write_error.Goals as goal
+
+pub returns : goal.returns
+returns c =
+    one c.in_ok-begin_object.ensures ▹ one c.in_ok-key.ensures ▹ c.in_ok-write_error_number.ensures ▹ one c.in_ok-key-2.ensures
+    ▹ (rw c.message.ensures at (one c.in_ok-string.ensures)) ▹ one c.in_ok-end_object.ensures

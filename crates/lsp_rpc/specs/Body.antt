@@ -1,0 +1,26 @@
+-- The JSON value of a message's body, and its members.
+use Rattle.std.specs.Prelude.{ℕ, ℤ, List, Bool, if◌then◌else◌, Option, None, is_some, option_and_then, unwrap_or}
+use Rattle.std.specs.Str.{is_utf8}
+use Rattle.serde_json.specs.Data.{Data, null}
+use Rattle.serde_json.specs.Read.{read}
+use Rattle.serde_json.specs.Find.{get, as_number, as_str, as_i64}
+
+-- the value of a body, which is UTF-8 and one JSON text
+abbrev pub json_of : List ℕ → Option Data
+json_of body = if is_utf8 body then read body else None
+
+-- whether a value is an object that has the member
+abbrev pub has : List ℕ → Data → Bool
+has name d = is_some (get name d)
+
+-- a member, where a missing one looks like `null`
+abbrev pub member_or_null : List ℕ → Data → Data
+member_or_null name d = unwrap_or (get name d) null
+
+-- the member, if it is a string
+abbrev pub text_member : List ℕ → Data → Option (List ℕ)
+text_member name d = option_and_then as_str (get name d)
+
+-- the member, if it is a whole number from -2^63 to 2^63 - 1
+abbrev pub integer_member : List ℕ → Data → Option ℤ
+integer_member name d = option_and_then as_i64 (option_and_then as_number (get name d))

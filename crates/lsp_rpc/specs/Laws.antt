@@ -1,0 +1,74 @@
+-- What the definitions of messages and replies come to, in the words of the standards.
+use Rattle.std.specs.Prelude.{◌≡◌, ◌↔◌, true, false, ℕ, List, ◌++◌, Option, Some, None, map, codes, decimal}
+use Rattle.std.specs.Fmt.{signed_decimal}
+use Rattle.std.specs.List.{join_with_byte}
+use Rattle.json.specs.Print.{quoted}
+use Rattle.serde_json.specs.Data.{Data, Items, array}
+use Rattle.serde_json.specs.Written.{compact_text}
+use Rattle.lsp_rpc.specs.Body.{json_of, has}
+use Rattle.lsp_rpc.specs.Message.{IdData, message_of, parse_error, invalid_request, request, notification, id_of, method_of, params_of, is_version_two, names_method}
+use Rattle.lsp_rpc.specs.Reply.{id_value, id_or_null, result_reply, error_row, error_reply}
+use Rattle.lsp_rpc.specs.Initialize.{initialize_result}
+use Rattle.lsp_rpc.specs.Diagnostic.{DiagnosticData, range_value, severity_number, diagnostic_value, report_value}
+use Rattle.lsp_rpc.specs.declared.method.Method.{Method}
+use Rattle.lsp_rpc.specs.declared.error_code.ErrorCode.{ErrorCode}
+
+-- ---- messages
+
+abbrev pub OnlyJsonIsRead : Type 0
+OnlyJsonIsRead = (body : List ℕ) → (message_of body ≡ parse_error) ↔ (json_of body ≡ None)
+
+abbrev pub BatchesAreInvalid : Type 0
+BatchesAreInvalid = (body : List ℕ) (calls : Items) → json_of body ≡ Some (array calls) → message_of body ≡ invalid_request None
+
+-- a request is "2.0", names a method and has a good id, all under their own names
+pub record IsRequest (d : Data) (i : IdData) (m : Option Method) (p : Data) : Type 0 where
+  pub version : is_version_two d ≡ true
+  pub named : names_method d ≡ true
+  pub id : id_of d ≡ Some i
+  pub method : method_of d ≡ m
+  pub params : params_of d ≡ p
+
+abbrev pub RequestsAreCalls : Type 0
+RequestsAreCalls =
+    (body : List ℕ) (id : IdData) (method : Option Method) (params : Data) → message_of body ≡ request id method params
+    → (d : Data) × (json_of body ≡ Some d) × IsRequest d id method params
+
+abbrev pub NotificationsHaveNoId : Type 0
+NotificationsHaveNoId =
+    (body : List ℕ) (method : Option Method) (params : Data) → message_of body ≡ notification method params
+    → (d : Data) × (json_of body ≡ Some d) × (has (codes "id") d ≡ false)
+
+-- ---- the texts of replies
+
+abbrev pub ResultText : Type 0
+ResultText =
+    (id : IdData) (result : Data) → compact_text (result_reply id result)
+    ≡ codes "{\"id\":" ++ compact_text (id_value id) ++ codes ",\"jsonrpc\":\"2.0\",\"result\":" ++ compact_text result ++ codes "}"
+
+-- no message has a byte that is escaped
+abbrev pub error_object_text : ErrorCode → List ℕ
+error_object_text code =
+    codes "{\"code\":" ++ signed_decimal (error_row code).0 ++ codes ",\"message\":\"" ++ (error_row code).1 ++ codes "\"}"
+
+abbrev pub ErrorText : Type 0
+ErrorText =
+    (id : Option IdData) (code : ErrorCode) → compact_text (error_reply id code)
+    ≡ codes "{\"error\":" ++ error_object_text code ++ codes ",\"id\":" ++ compact_text (id_or_null id) ++ codes ",\"jsonrpc\":\"2.0\"}"
+
+abbrev pub InitializeText : Type 0
+InitializeText =
+    compact_text initialize_result
+    ≡ codes "{\"capabilities\":{\"definitionProvider\":true,\"diagnosticProvider\":{\"interFileDependencies\":true,\"workspaceDiagnostics\":true},\"positionEncoding\":\"utf-16\",\"referencesProvider\":true,\"renameProvider\":true,\"textDocumentSync\":{\"change\":2,\"openClose\":true,\"save\":true},\"workspaceSymbolProvider\":true},\"serverInfo\":{\"name\":\"protols\",\"version\":\"1\"}}"
+
+abbrev pub DiagnosticText : Type 0
+DiagnosticText =
+    (d : DiagnosticData) → compact_text (diagnostic_value d)
+    ≡ codes "{\"code\":" ++ decimal d.code ++ codes ",\"message\":" ++ quoted d.message ++ codes ",\"range\":" ++ compact_text (range_value d.range)
+    ++ codes ",\"severity\":" ++ decimal (severity_number d.severity) ++ codes ",\"source\":\"protols\"}"
+
+-- the diagnostics' texts stand in order, with commas between them
+abbrev pub ReportText : Type 0
+ReportText =
+    (ds : List DiagnosticData) → compact_text (report_value ds)
+    ≡ codes "{\"items\":[" ++ join_with_byte 44 (map (λ d. compact_text (diagnostic_value d)) ds) ++ codes "],\"kind\":\"full\"}"

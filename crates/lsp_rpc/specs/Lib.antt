@@ -1,0 +1,9 @@
+pub mod Body
+pub mod Method
+pub mod Message
+pub mod Params
+pub mod Diagnostic
+pub mod Initialize
+pub mod Reply
+pub mod Writing
+pub mod Laws

@@ -1,0 +1,19 @@
+-- The methods of the Language Server Protocol that the server knows.
+use Rattle.std.specs.Prelude.{ℕ, List, [], ◌∷◌, Option, codes, bytes_eq}
+use Rattle.std.specs.Map.{lookup}
+use Rattle.lsp_rpc.specs.declared.method.Method.{Method}
+use Rattle.lsp_rpc.specs.declared.method.Method.TheVariants.{Initialize, Shutdown, Exit, DidOpen, DocumentDiagnostic}
+
+-- each name with its method: the server's lifecycle, then its documents
+abbrev pub methods : List (List ℕ × Method)
+methods =
+    (codes "initialize", Initialize)
+    ∷ (codes "shutdown", Shutdown)
+    ∷ (codes "exit", Exit)
+    ∷ (codes "textDocument/didOpen", DidOpen)
+    ∷ (codes "textDocument/diagnostic", DocumentDiagnostic)
+    ∷ []
+
+-- the method with this very name
+abbrev pub method_named : List ℕ → Option Method
+method_named name = lookup (bytes_eq name) methods

@@ -1,0 +1,48 @@
+// Laws of the definitions that the contracts cite. Each is a function with nothing to do, whose clause
+// is the law.
+ghost use Rattle.lsp_rpc.specs.Laws.{OnlyJsonIsRead, BatchesAreInvalid, RequestsAreCalls, NotificationsHaveNoId, ResultText, ErrorText, InitializeText, DiagnosticText, ReportText};
+
+/// A law: what is answered as a parse error is what is no JSON text, and nothing else.
+pub fn parse_errors()
+    ensures { OnlyJsonIsRead }
+{}
+
+/// A law: a batch is an invalid request, whatever it holds.
+pub fn batches()
+    ensures { BatchesAreInvalid }
+{}
+
+/// A law: what is taken as a request is one by its own members.
+pub fn requests()
+    ensures { RequestsAreCalls }
+{}
+
+/// A law: what has an id is no notification, whatever the id is.
+pub fn notifications()
+    ensures { NotificationsHaveNoId }
+{}
+
+/// A law: the bytes of a reply with a result.
+pub fn result_text()
+    ensures { ResultText }
+{}
+
+/// A law: the bytes of a reply with an error.
+pub fn error_text()
+    ensures { ErrorText }
+{}
+
+/// A law: the bytes of the result of `initialize`.
+pub fn initialize_text()
+    ensures { InitializeText }
+{}
+
+/// A law: the bytes of a diagnostic.
+pub fn diagnostic_text()
+    ensures { DiagnosticText }
+{}
+
+/// A law: the bytes of a report.
+pub fn report_text()
+    ensures { ReportText }
+{}

@@ -1,0 +1,32 @@
+#![tactic(auto)]
+//! What the bodies of a language server's messages mean, and what the bodies of its replies are:
+//! JSON-RPC 2.0, with the methods, params and results of the Language Server Protocol 3.17.
+//!
+//! `Message::parse` reads a body, `DidOpenParams` and `document_uri` its params, and `report_reply` and
+//! its kin write a reply, token by token straight into its bytes. Nothing here knows of sessions.
+
+mod body;
+mod diagnostic;
+mod error_code;
+mod id;
+mod initialize;
+mod laws;
+mod message;
+mod method;
+mod params;
+mod reply;
+
+pub use diagnostic::{Diagnostic, Severity};
+pub use error_code::ErrorCode;
+pub use id::Id;
+pub use laws::{
+    batches, diagnostic_text, error_text, initialize_text, notifications, parse_errors,
+    report_text, requests, result_text,
+};
+pub use message::Message;
+pub use method::Method;
+pub use params::{DidOpenParams, document_uri};
+pub use reply::{error_reply, initialize_reply, null_reply, report_reply};
+
+#[cfg(test)]
+mod tests;

@@ -1,0 +1,321 @@
+// Messages by what they are, and replies byte for byte.
+use crate::{
+    Diagnostic, DidOpenParams, ErrorCode, Id, Message, Severity, document_uri, error_reply,
+    initialize_reply, null_reply, report_reply,
+};
+use doc_text::{Position, Range};
+use serde_json::Value;
+use std::alloc::{AllocError, Global};
+use std::test::Fail;
+
+// What a message is, without its params.
+fn shown(alloc: Global, body: &[u8]) -> Result<String, AllocError> {
+    match Message::parse(alloc, body)? {
+        Message::ParseError => String::from_str(alloc, "parse error"),
+        Message::InvalidRequest { id } => format!(in alloc; "invalid {id:?}"),
+        Message::Response => String::from_str(alloc, "response"),
+        Message::Request { id, method, .. } => format!(in alloc; "request {id:?} {method:?}"),
+        Message::Notification { method, .. } => format!(in alloc; "notification {method:?}"),
+    }
+}
+
+#[test]
+fn refuses_what_is_no_call(rt: HostRuntime) -> Result<(), Fail> {
+    for (body, want) in [
+        ("", "parse error"),
+        ("{", "parse error"),
+        ("{}{}", "parse error"),
+        ("\"\\ud800\"", "parse error"),
+        ("[]", "invalid None"),
+        ("[{}]", "invalid None"),
+        ("null", "invalid None"),
+        ("\"a\"", "invalid None"),
+        ("{}", "invalid None"),
+        ("{\"id\":true,\"error\":{}}", "response"),
+        ("{\"jsonrpc\":\"2.0\",\"id\":8,\"result\":1}", "response"),
+        ("{\"result\":null}", "response"),
+    ] {
+        let found = shown(rt.alloc(), body.as_bytes())?;
+        assert!(rt; found.as_str() == want, "{body} is {found}");
+    }
+    assert!(rt; shown(rt.alloc(), b"\"\xff\"")?.as_str() == "parse error");
+    Ok(())
+}
+
+#[test]
+fn refuses_bad_members(rt: HostRuntime) -> Result<(), Fail> {
+    for (body, want) in [
+        (
+            "{\"jsonrpc\":\"2.0\",\"id\":1.5,\"method\":\"shutdown\"}",
+            "invalid None",
+        ),
+        (
+            "{\"id\":4,\"method\":\"shutdown\"}",
+            "invalid Some(Number(4))",
+        ),
+        (
+            "{\"jsonrpc\":2.0,\"id\":4,\"method\":\"exit\"}",
+            "invalid Some(Number(4))",
+        ),
+        ("{\"jsonrpc\":\"2\",\"method\":\"exit\"}", "invalid None"),
+        (
+            "{\"jsonrpc\":\"2.0\",\"id\":\"a\"}",
+            "invalid Some(Text(\"a\"))",
+        ),
+        (
+            "{\"jsonrpc\":\"2.0\",\"id\":4,\"method\":null}",
+            "invalid Some(Number(4))",
+        ),
+        (
+            "{\"jsonrpc\":\"2.0\",\"id\":4,\"method\":1,\"result\":1}",
+            "invalid Some(Number(4))",
+        ),
+    ] {
+        let found = shown(rt.alloc(), body.as_bytes())?;
+        assert!(rt; found.as_str() == want, "{body} is {found}");
+    }
+    Ok(())
+}
+
+#[test]
+fn tells_calls_apart(rt: HostRuntime) -> Result<(), Fail> {
+    for (body, want) in [
+        (
+            "{\"jsonrpc\":\"2.0\",\"id\":5,\"method\":\"$/x\"}",
+            "request Number(5) None",
+        ),
+        (
+            "{\"jsonrpc\":\"2.0\",\"id\":7,\"method\":\"initialize\"}",
+            "request Number(7) Some(Initialize)",
+        ),
+        (
+            "{\"jsonrpc\":\"2.0\",\"id\":9,\"method\":\"shutdown\"}",
+            "request Number(9) Some(Shutdown)",
+        ),
+        (
+            "{\"jsonrpc\":\"2.0\",\"id\":9,\"method\":\"Shutdown\"}",
+            "request Number(9) None",
+        ),
+        (
+            "{\"jsonrpc\":\"2.0\",\"id\":\"q\",\"method\":\"textDocument/diagnostic\"}",
+            "request Text(\"q\") Some(DocumentDiagnostic)",
+        ),
+        (
+            "{\"jsonrpc\":\"2.0\",\"method\":\"exit\",\"result\":1}",
+            "notification Some(Exit)",
+        ),
+        (
+            "{\"jsonrpc\":\"2.0\",\"method\":\"$/cancelRequest\"}",
+            "notification None",
+        ),
+        (
+            "{\"jsonrpc\":\"1.0\",\"jsonrpc\":\"2.0\",\"method\":\"textDocument/didOpen\"}",
+            "notification Some(DidOpen)",
+        ),
+    ] {
+        let found = shown(rt.alloc(), body.as_bytes())?;
+        assert!(rt; found.as_str() == want, "{body} is {found}");
+    }
+    Ok(())
+}
+
+#[test]
+fn reads_ids(rt: HostRuntime) -> Result<(), Fail> {
+    let alloc = rt.alloc();
+    for (id, want) in [
+        (
+            "9223372036854775807",
+            "request Number(9223372036854775807) Some(Exit)",
+        ),
+        ("9223372036854775808", "invalid None"),
+        (
+            "-9223372036854775808",
+            "request Number(-9223372036854775808) Some(Exit)",
+        ),
+        ("-9223372036854775809", "invalid None"),
+        ("0", "request Number(0) Some(Exit)"),
+        ("-0", "invalid None"),
+        ("1.0", "invalid None"),
+        ("1e2", "invalid None"),
+        ("null", "invalid None"),
+        ("true", "invalid None"),
+        ("[1]", "invalid None"),
+        ("{}", "invalid None"),
+        ("\"\"", "request Text(\"\") Some(Exit)"),
+        ("1,\"id\":2", "request Number(2) Some(Exit)"),
+    ] {
+        let body = format!(in alloc; "{{\"id\":{id},\"jsonrpc\":\"2.0\",\"method\":\"exit\"}}")?;
+        let found = shown(alloc, body.as_bytes())?;
+        assert!(rt; found.as_str() == want, "{id} is {found}");
+    }
+    Ok(())
+}
+
+fn nested(alloc: Global, depth: usize) -> Result<Vec<u8>, AllocError> {
+    let mut body = Vec::new(alloc);
+    for _ in 0..depth {
+        body.push(b'[')?;
+    }
+    for _ in 0..depth {
+        body.push(b']')?;
+    }
+    Ok(body)
+}
+
+#[test]
+fn limits_depth(rt: HostRuntime) -> Result<(), Fail> {
+    let alloc = rt.alloc();
+    assert!(rt; shown(alloc, &nested(alloc, 128)?)?.as_str() == "parse error");
+    assert!(rt; shown(alloc, &nested(alloc, 127)?)?.as_str() == "invalid None");
+    Ok(())
+}
+
+#[test]
+fn reads_opened_documents(rt: HostRuntime) -> Result<(), Fail> {
+    let alloc = rt.alloc();
+    let body =
+        "{\"jsonrpc\":\"2.0\",\"method\":\"textDocument/didOpen\",\"params\":{\"textDocument\":{\"uri\":\"file:///w/a.proto\",\"languageId\":\"proto\",\"version\":1,\"text\":\"syntax = \\\"proto3\\\";\\n#\\n\"}}}";
+    assert!(rt; body.len() == 171);
+    let Message::Notification { params, .. } = Message::parse(alloc, body.as_bytes())? else {
+        return Err(Fail::from("no notification"));
+    };
+    assert!(rt; document_uri(&params) == Some("file:///w/a.proto"));
+    let Some(opened) = DidOpenParams::from_value(params) else {
+        return Err(Fail::from("no document"));
+    };
+    assert!(rt; opened.uri.as_str() == "file:///w/a.proto");
+    assert!(rt; opened.version == 1);
+    assert!(rt; opened.text.as_str() == "syntax = \"proto3\";\n#\n");
+    Ok(())
+}
+
+#[test]
+fn reads_versions(rt: HostRuntime) -> Result<(), Fail> {
+    let alloc = rt.alloc();
+    for (document, version) in [
+        ("{\"uri\":\"a\",\"version\":-1,\"text\":\"\"}", Some(-1)),
+        (
+            "{\"uri\":\"a\",\"version\":-9223372036854775808,\"text\":\"\"}",
+            Some(i64::MIN),
+        ),
+        (
+            "{\"uri\":\"a\",\"version\":9223372036854775807,\"text\":\"\"}",
+            Some(i64::MAX),
+        ),
+        (
+            "{\"uri\":\"a\",\"version\":9223372036854775808,\"text\":\"\"}",
+            None,
+        ),
+        ("{\"uri\":\"a\",\"version\":1.0,\"text\":\"\"}", None),
+        ("{\"uri\":\"a\",\"version\":\"1\",\"text\":\"\"}", None),
+        ("{\"uri\":\"a\",\"version\":null,\"text\":\"\"}", None),
+        ("{\"uri\":\"a\",\"text\":\"\"}", None),
+        ("{\"uri\":1,\"version\":1,\"text\":\"\"}", None),
+        ("{\"version\":1,\"text\":\"\"}", None),
+        ("{\"uri\":\"a\",\"version\":1}", None),
+        ("{\"uri\":\"a\",\"version\":1,\"text\":[]}", None),
+        ("[]", None),
+        ("null", None),
+    ] {
+        let text = format!(in alloc; "{{\"textDocument\":{document}}}")?;
+        let opened = DidOpenParams::from_value(Value::from_str(alloc, text.as_str())?);
+        assert!(rt;
+            opened.map(|opened| opened.version) == version,
+            "{document}"
+        );
+    }
+    assert!(rt; DidOpenParams::from_value(Value::Null).is_none());
+    assert!(rt; document_uri(&Value::Null).is_none());
+    Ok(())
+}
+
+#[test]
+fn writes_errors(rt: HostRuntime) -> Result<(), Fail> {
+    let alloc = rt.alloc();
+    let parse =
+        "{\"error\":{\"code\":-32700,\"message\":\"parse error\"},\"id\":null,\"jsonrpc\":\"2.0\"}";
+    assert!(rt; parse.len() == 75);
+    assert!(rt; error_reply(alloc, None, ErrorCode::ParseError)?.as_slice() == parse.as_bytes());
+    let early =
+        "{\"error\":{\"code\":-32002,\"message\":\"server not initialized\"},\"id\":\"q\",\"jsonrpc\":\"2.0\"}";
+    assert!(rt; early.len() == 85);
+    let q = Id::Text(String::from_str(alloc, "q")?);
+    assert!(rt;
+        error_reply(alloc, Some(&q), ErrorCode::ServerNotInitialized)?.as_slice()
+            == early.as_bytes()
+    );
+    for (code, want) in [
+        (
+            ErrorCode::InvalidRequest,
+            "-32600,\"message\":\"invalid request\"",
+        ),
+        (
+            ErrorCode::MethodNotFound,
+            "-32601,\"message\":\"method not found\"",
+        ),
+        (
+            ErrorCode::InvalidParams,
+            "-32602,\"message\":\"invalid params\"",
+        ),
+    ] {
+        let want = format!(in alloc;
+            "{{\"error\":{{\"code\":{want}}},\"id\":-4,\"jsonrpc\":\"2.0\"}}"
+        )?;
+        let reply = error_reply(alloc, Some(&Id::Number(-4)), code)?;
+        assert!(rt; reply.as_slice() == want.as_bytes(), "{code:?}");
+    }
+    Ok(())
+}
+
+#[test]
+fn writes_results(rt: HostRuntime) -> Result<(), Fail> {
+    let alloc = rt.alloc();
+    let initialized =
+        "{\"id\":1,\"jsonrpc\":\"2.0\",\"result\":{\"capabilities\":{\"definitionProvider\":true,\"diagnosticProvider\":{\"interFileDependencies\":true,\"workspaceDiagnostics\":true},\"positionEncoding\":\"utf-16\",\"referencesProvider\":true,\"renameProvider\":true,\"textDocumentSync\":{\"change\":2,\"openClose\":true,\"save\":true},\"workspaceSymbolProvider\":true},\"serverInfo\":{\"name\":\"protols\",\"version\":\"1\"}}}";
+    assert!(rt; initialized.len() == 372);
+    assert!(rt; initialize_reply(alloc, &Id::Number(1))?.as_slice() == initialized.as_bytes());
+    let null = "{\"id\":3,\"jsonrpc\":\"2.0\",\"result\":null}";
+    assert!(rt; null.len() == 38);
+    assert!(rt; null_reply(alloc, &Id::Number(3))?.as_slice() == null.as_bytes());
+    let quoted = Id::Text(String::from_str(alloc, "a\"\n")?);
+    let escaped = "{\"id\":\"a\\\"\\n\",\"jsonrpc\":\"2.0\",\"result\":null}";
+    assert!(rt; null_reply(alloc, &quoted)?.as_slice() == escaped.as_bytes());
+    Ok(())
+}
+
+#[test]
+fn writes_reports(rt: HostRuntime) -> Result<(), Fail> {
+    let alloc = rt.alloc();
+    let illegal = Diagnostic {
+        range: Range {
+            start: Position {
+                line: 1,
+                character: 0,
+            },
+            end: Position {
+                line: 1,
+                character: 1,
+            },
+        },
+        severity: Severity::Error,
+        code: 201,
+        message: "illegal character",
+    };
+    let report =
+        "{\"id\":2,\"jsonrpc\":\"2.0\",\"result\":{\"items\":[{\"code\":201,\"message\":\"illegal character\",\"range\":{\"end\":{\"character\":1,\"line\":1},\"start\":{\"character\":0,\"line\":1}},\"severity\":1,\"source\":\"protols\"}],\"kind\":\"full\"}}";
+    assert!(rt; report.len() == 208);
+    let two = Id::Number(2);
+    assert!(rt; report_reply(alloc, &two, &[illegal])?.as_slice() == report.as_bytes());
+    let empty = "{\"id\":2,\"jsonrpc\":\"2.0\",\"result\":{\"items\":[],\"kind\":\"full\"}}";
+    assert!(rt; report_reply(alloc, &two, &[])?.as_slice() == empty.as_bytes());
+    let proto2 = Diagnostic {
+        severity: Severity::Information,
+        code: 317,
+        message: "not a proto3 file",
+        ..illegal
+    };
+    let both =
+        "{\"id\":2,\"jsonrpc\":\"2.0\",\"result\":{\"items\":[{\"code\":317,\"message\":\"not a proto3 file\",\"range\":{\"end\":{\"character\":1,\"line\":1},\"start\":{\"character\":0,\"line\":1}},\"severity\":3,\"source\":\"protols\"},{\"code\":201,\"message\":\"illegal character\",\"range\":{\"end\":{\"character\":1,\"line\":1},\"start\":{\"character\":0,\"line\":1}},\"severity\":1,\"source\":\"protols\"}],\"kind\":\"full\"}}";
+    assert!(rt; report_reply(alloc, &two, &[proto2, illegal])?.as_slice() == both.as_bytes());
+    Ok(())
+}
