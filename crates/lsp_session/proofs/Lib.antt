@@ -1,0 +1,5 @@
+mod DocumentsLemmas
+mod DiagnosticsLemmas
+mod CoreLemmas
+mod RunLemmas
+mod ServingLemmas

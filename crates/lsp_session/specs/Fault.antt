@@ -1,0 +1,14 @@
+-- The numbers of the faults.
+use Rattle.std.specs.Prelude.{ℕ}
+use Rattle.lsp_session.specs.declared.fault.CoreFault.{CoreFault}
+use Rattle.lsp_session.specs.declared.fault.CoreFault.TheVariants as core
+use Rattle.lsp_session.specs.declared.fault.ServeFault.{ServeFault}
+use Rattle.lsp_session.specs.declared.fault.ServeFault.TheVariants as serve
+
+abbrev pub core_code : CoreFault → ℕ
+core_code core.Memory = 803
+
+abbrev pub serve_code : ServeFault → ℕ
+serve_code serve.Read = 801
+serve_code serve.Write = 802
+serve_code serve.Memory = 803

@@ -1,0 +1,10 @@
+pub mod Configuration
+pub mod Fault
+pub mod FileView
+pub mod Diagnostics
+pub mod Session
+pub mod Stream
+pub mod Core
+pub mod Run
+pub mod View
+pub mod Steps

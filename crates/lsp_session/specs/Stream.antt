@@ -1,0 +1,57 @@
+-- The session over a stream of frames: what the server writes, and how it ends.
+use Rattle.std.specs.Prelude.{ℕ, zero, suc, List, [], ◌∷◌, Bool, true, false, if◌then◌else◌, Option, Some, None, is_some}
+use Rattle.std.specs.List.{flat_map}
+use Rattle.lsp_frame.specs.Fault.{code_of}
+use Rattle.lsp_frame.specs.Stream.{StreamEnd, InputEnd, BadFrame, FirstFrame, Whole, NoFrame, first_frame, frames}
+use Rattle.lsp_frame.specs.Writing.{frame_of}
+use Rattle.lsp_rpc.specs.Message.{message_of}
+use Rattle.lsp_session.specs.Configuration.{Configuration}
+use Rattle.lsp_session.specs.Session.{State, start, turn, session}
+use Rattle.lsp_session.specs.declared.phase.Phase.{Phase}
+use Rattle.lsp_session.specs.declared.phase.Phase.TheVariants.{Uninitialized, Running, Shut, Exited}
+use Rattle.lsp_session.specs.declared.ended.Ended.{Ended}
+use Rattle.lsp_session.specs.declared.ended.Ended.TheVariants as how
+
+-- the frames of these bodies, one after the other
+abbrev pub frames_of : List (List ℕ) → List ℕ
+frames_of bodies = flat_map frame_of bodies
+
+-- what is written for a stream: a frame for each reply to the messages of its frames
+abbrev pub output : Configuration → List ℕ → List ℕ
+output config bytes = frames_of (session config (frames bytes).bodies).replies
+
+abbrev pub ended_in : Phase → StreamEnd → Ended
+ended_in (Exited after_shutdown) end = how.Exit after_shutdown
+ended_in _ InputEnd = how.InputEnd
+ended_in _ (BadFrame fault) = how.BadFrame (code_of fault)
+
+-- how the session on a stream ends: by an exit, or as the stream does
+abbrev pub ended : Configuration → List ℕ → Ended
+ended config bytes = ended_in (session config (frames bytes).bodies).state.phase (frames bytes).end
+
+-- whether an exit came, and if so, whether a shutdown came before it
+abbrev pub exit_of : Phase → Option Bool
+exit_of (Exited after_shutdown) = Some after_shutdown
+exit_of _ = None
+
+abbrev pub is_exited : Phase → Bool
+is_exited phase = is_some (exit_of phase)
+
+-- how many of the bodies are taken from a state on: those up to the exit, with it
+abbrev pub taken_from : State → List (List ℕ) → ℕ
+taken_from s [] = 0
+taken_from s (body ∷ bodies) = if is_exited s.phase then 0 else suc (taken_from (turn s (message_of body)).state bodies)
+
+-- the bytes without their first frame
+abbrev pub behind_first : List ℕ → FirstFrame → List ℕ
+behind_first bytes (Whole body rest) = rest
+behind_first bytes (NoFrame end) = bytes
+
+-- the bytes without their first n frames
+abbrev pub behind_frames : ℕ → List ℕ → List ℕ
+behind_frames zero bytes = bytes
+behind_frames (suc n) bytes = behind_frames n (behind_first bytes (first_frame bytes))
+
+-- the bytes behind the frame of the exit
+abbrev pub behind_exit : Configuration → List ℕ → List ℕ
+behind_exit config bytes = behind_frames (taken_from (start config) (frames bytes).bodies) bytes

@@ -1,0 +1,55 @@
+// What can fail in a server.
+ghost use Rattle.std.specs.Prelude.{◌≡◌};
+
+use std::alloc::AllocError;
+use thiserror::Error;
+
+/// Why a core goes on no more.
+#[derive(Clone, Copy, Debug, PartialEq, Eq, Error)]
+pub enum CoreFault {
+    /// 803: memory was refused.
+    #[error("out of memory")]
+    Memory,
+}
+
+impl CoreFault {
+    ghost use Rattle.lsp_session.specs.Fault.{core_code};
+
+    /// The fault's number, 803.
+    pub fn code(&self) -> u32
+        ensures { result ≡ core_code self.now }
+    {
+        match self {
+            CoreFault::Memory => 803,
+        }
+    }
+}
+
+/// Why a server stopped before the end of its session.
+#[derive(Clone, Copy, Debug, PartialEq, Eq, Error)]
+pub enum ServeFault {
+    /// 801: the reader failed.
+    #[error("the reader failed")]
+    Read,
+    /// 802: the writer failed.
+    #[error("the writer failed")]
+    Write,
+    /// 803: memory was refused.
+    #[error("out of memory")]
+    Memory,
+}
+
+impl ServeFault {
+    ghost use Rattle.lsp_session.specs.Fault.{serve_code};
+
+    /// The fault's number, from 801 to 803.
+    pub fn code(&self) -> u32
+        ensures { result ≡ serve_code self.now }
+    {
+        match self {
+            ServeFault::Read => 801,
+            ServeFault::Write => 802,
+            ServeFault::Memory => 803,
+        }
+    }
+}

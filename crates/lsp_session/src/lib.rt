@@ -1,0 +1,32 @@
+//! A session with an editor (Language Server Protocol 3.17): what the server keeps, and what it replies.
+//!
+//! A [`Core`] takes the bodies of messages and gives the bodies of replies; it knows no streams. [`serve`] reads the
+//! messages from a stream of frames and writes the replies to another, until the editor ends the session or the
+//! stream ends. [`run_core`] does the same over a list of events.
+#![tactic(auto)]
+
+mod config;
+mod diagnostics;
+mod documents;
+mod ended;
+mod fault;
+mod phase;
+mod reply;
+mod run;
+mod serving;
+mod session;
+mod session_core;
+mod verdict;
+
+pub use config::{Config, DiskFile};
+pub use ended::Ended;
+pub use fault::{CoreFault, ServeFault};
+pub use phase::Phase;
+pub use reply::Reply;
+pub use run::{CoreEvent, CoreRun, run_core};
+pub use serving::serve;
+pub use session_core::Core;
+pub use verdict::Verdict;
+
+#[cfg(test)]
+mod tests;

@@ -1,0 +1,34 @@
+// What the server says to the editor.
+ghost use Rattle.std.specs.Prelude.{◌≡◌};
+
+use std::marker::Model;
+
+/// The body of a message to the editor, which contracts see as the list of its bytes.
+#[derive(Debug, Drop)]
+pub struct Reply {
+    body: Vec<u8>,
+}
+
+impl Model for Reply {
+    ghost use Rattle.std.specs.Prelude.{ℕ, List};
+
+    ghost Value = { List ℕ };
+
+    ghost view = { λ r. r.body.items };
+}
+
+impl Reply {
+    /// The reply with this body.
+    pub(crate) fn new(body: Vec<u8>) -> Reply
+        ensures { result ≡ body.items }
+    {
+        Reply { body }
+    }
+
+    /// The bytes of the body, JSON without line ends.
+    pub fn as_bytes(&self) -> &[u8]
+        ensures { result.now ≡ self.now }
+    {
+        self.body.as_slice()
+    }
+}
