@@ -1,0 +1,123 @@
+"""What the tests of `protols serve` share: frames of the base protocol, whole runs of the program, and live dialogues."""
+import os
+import pathlib
+import select
+import subprocess
+import time
+
+ROOT = pathlib.Path(__file__).resolve().parent.parent
+PROGRAM = pathlib.Path(os.environ.get("PROTOLS", ROOT / "crates/protols/out/protols"))
+
+# The seconds after which a run that hasn't ended, or a reply that hasn't come, is a failure.
+LIMIT = 60
+
+SEPARATOR = b"\r\n\r\n"
+
+
+def command(args=("serve",)):
+    """The words that start the program. A program that isn't there is a failure and never a test passed over."""
+    if not PROGRAM.is_file():
+        raise AssertionError(f"the program isn't there: build {PROGRAM}, or name another one in the variable PROTOLS")
+    return [str(PROGRAM), *args]
+
+
+def frame(body):
+    """A body, text or bytes, as a frame of the Language Server Protocol's base protocol."""
+    data = body.encode() if isinstance(body, str) else body
+    return b"Content-Length: %d\r\n\r\n%b" % (len(data), data)
+
+
+def frames(bodies):
+    """The bodies as frames, one behind the other."""
+    return b"".join(map(frame, bodies))
+
+
+def split_frames(data):
+    """The bodies of frames as the server writes them. Anything but whole frames is a failure."""
+    bodies = []
+    while data:
+        header, separator, rest = data.partition(SEPARATOR)
+        name, _, digits = header.partition(b": ")
+        if name != b"Content-Length" or not digits.isdigit() or not separator or len(rest) < int(digits):
+            raise AssertionError(f"no whole frame begins with {data[:100]!r}")
+        bodies.append(rest[: int(digits)])
+        data = rest[int(digits) :]
+    return bodies
+
+
+def run(input_bytes, args=("serve",)):
+    """Runs the program on these bytes, which then end: its standard output, standard error and exit status."""
+    try:
+        done = subprocess.run(command(args), input=input_bytes, capture_output=True, timeout=LIMIT)
+    except subprocess.TimeoutExpired:
+        raise AssertionError(f"no end within {LIMIT} seconds") from None
+    return done.stdout, done.stderr, done.returncode
+
+
+class Server:
+    """A running program whose input stays open while its replies are read."""
+
+    def __init__(self, args=("serve",)):
+        pipe = subprocess.PIPE
+        self.process = subprocess.Popen(command(args), stdin=pipe, stdout=pipe, stderr=pipe, bufsize=0)
+
+    def __enter__(self):
+        return self
+
+    def __exit__(self, *_):
+        if self.process.poll() is None:
+            self.process.kill()
+        self.process.communicate()
+
+    def send(self, body):
+        """Sends one frame, in one write where the pipe takes it."""
+        self.send_bytes(frame(body))
+
+    def send_bytes(self, data):
+        """Sends these bytes as they are."""
+        while data:
+            data = data[self.process.stdin.write(data) :]
+
+    def receive(self, timeout=LIMIT):
+        """The body of the next frame, of which exactly the bytes are read."""
+        deadline = time.monotonic() + timeout
+        header = b""
+        while not header.endswith(SEPARATOR):
+            header += self._read(1, deadline)
+        digits = header.removeprefix(b"Content-Length: ").removesuffix(SEPARATOR)
+        if not digits.isdigit():
+            raise AssertionError(f"not the header of a frame: {header!r}")
+        body = b""
+        while len(body) < int(digits):
+            body += self._read(int(digits) - len(body), deadline)
+        return body
+
+    def is_silent(self, seconds):
+        """Whether nothing, not even the end of the output, comes for that long."""
+        return not self._is_readable(seconds)
+
+    def wait(self, timeout=LIMIT):
+        """The exit status of a program that has to end although its input stays open."""
+        try:
+            return self.process.wait(timeout)
+        except subprocess.TimeoutExpired:
+            raise AssertionError(f"no end within {timeout} seconds, while the input is open") from None
+
+    def close(self, timeout=LIMIT):
+        """Ends the input: the rest of standard output, standard error and the exit status."""
+        try:
+            out, err = self.process.communicate(timeout=timeout)
+        except subprocess.TimeoutExpired:
+            raise AssertionError(f"no end within {timeout} seconds behind the end of the input") from None
+        return out, err, self.process.returncode
+
+    def _is_readable(self, seconds):
+        return bool(select.select([self.process.stdout], [], [], max(seconds, 0))[0])
+
+    def _read(self, most, deadline):
+        if not self._is_readable(deadline - time.monotonic()):
+            raise AssertionError("no reply came in time, while the input is open")
+        data = os.read(self.process.stdout.fileno(), most)
+        if not data:
+            raise AssertionError("the output ended in place of a reply")
+        return data
