@@ -17,7 +17,7 @@ need-rt:
 
 # Proves the program and all that it stands on, and builds it. The program that is run here gets no words, and says so.
 build: need-rt
-	@cd crates/protols && rt run < /dev/null; test -x out/protols
+	@cd crates/protols && rm -f out/protols && rt run < /dev/null; test -x out/protols
 	@echo "the program is $(PROGRAM)"
 
 # Runs the stored stream of an editor, and compares the replies with the stored ones.

@@ -1,4 +1,4 @@
-"""The gate: `rt ci`, which proves and tests every crate from nothing, and then the project's own tests.
+"""The gate: `rt ci`, which proves and tests every crate from nothing, and then the project's own tests on the program.
 
 The last line is `N passed, M failed` over both, and the status is 0 only where M is 0.
 """
@@ -27,6 +27,11 @@ def run_rt_ci():
     return passed, failed
 
 
+def build_program():
+    """Builds the program that the tests of this folder run, and says whether that worked."""
+    return subprocess.run(["make", "build"], cwd=HERE.parent, stdin=subprocess.DEVNULL).returncode == 0
+
+
 def run_own_tests():
     """Runs the tests of this folder, and gives how many passed and failed."""
     tests = unittest.defaultTestLoader.discover(str(HERE), pattern="test_*.py")
@@ -37,6 +42,8 @@ def run_own_tests():
 
 def main():
     passed, failed = run_rt_ci()
+    if not build_program():
+        failed += 1
     own_passed, own_failed = run_own_tests()
     print(f"{passed + own_passed} passed, {failed + own_failed} failed", flush=True)
     return 0 if failed + own_failed == 0 else 1

