@@ -8,7 +8,7 @@ use Rattle.std.proofs.lemmas.Str.{IsUtf8-take, IsUtf8-drop, chars-append, chars-
 use Rattle.doc_text.specs.declared.encoding.Encoding.{Encoding}
 use Rattle.doc_text.specs.declared.encoding.Encoding.TheVariants.{Utf8}
 use Rattle.doc_text.specs.declared.position.Position.{Position}
-use Rattle.doc_text.specs.Lines.{is_line_end, ends_line, onto_first, lines, content}
+use Rattle.doc_text.specs.Lines.{is_lf_or_cr, ends_line, onto_first, lines, content}
 use Rattle.doc_text.specs.Positions.{char_units, units, fitting, offset_of, next_line, in_line, position_in, position_of}
 use Rattle.doc_text.specs.Bytes.{lead_len}
 use Rattle.doc_text.specs.Walks.{moved}
@@ -45,7 +45,7 @@ content_within (c ∷ l) =
     let less = content_within l in
     ⊎_elim (λ ends. let e = ap (λ b. units Utf8 (cond b [] (c ∷ content l))) ends in omega (arith, e))
     (λ plain. let e = ap (λ b. units Utf8 (cond b [] (c ∷ content l))) plain in omega (arith, e, less))
-    (cases_Bool (is_line_end c))
+    (cases_Bool (is_lf_or_cr c))
 
 in_line_past : (e : Encoding) (l : List ℕ) (n m : ℕ) → units Utf8 l ≤ n → units Utf8 l ≤ m → in_line e l n ≡ in_line e l m
 in_line_past e l n m first second =
@@ -84,7 +84,7 @@ same_step e c cs n m first second same =
     ⊎_elim (λ ends. position_ends e n c cs ends first ∙ ap next_line same ∙ sym (position_ends e m c cs ends second))
     (λ goes. ⊎_elim (λ end. position_return e n c cs goes end first ∙ same ∙ sym (position_return e m c cs goes end second))
     (λ plain. position_plain e n c cs plain first ∙ ap (moved 0 (char_units e c)) same ∙ sym (position_plain e m c cs plain second))
-    (cases_Bool (is_line_end c)))
+    (cases_Bool (is_lf_or_cr c)))
     (cases_Bool (ends_line c cs))
 
 less_first : (a b n : ℕ) → ((a + b) + n) - a ≡ b + n

@@ -7,7 +7,7 @@ use Rattle.std.proofs.lemmas.Str.{IsUtf8-append, IsUtf8-take, IsUtf8-drop}
 use Rattle.doc_text.specs.declared.encoding.Encoding.{Encoding}
 use Rattle.doc_text.specs.declared.position.Position.{Position}
 use Rattle.doc_text.specs.declared.position.Range.{Range}
-use Rattle.doc_text.specs.Lines.{is_line_end, lines}
+use Rattle.doc_text.specs.Lines.{is_lf_or_cr, lines}
 use Rattle.doc_text.specs.Positions.{offset_in, offset_of}
 use Rattle.doc_text.specs.Edits.{replaced}
 use Rattle.doc_text.specs.Bytes.{lead_len, lead_units, line_offset}
@@ -35,7 +35,7 @@ run_on (suc fuel) e text character at left within on =
     (λ full. subst (IsCut text) (line_full e text character at left n inside on refl plain full) here)
     (λ fits. run_on fuel e text character (at + lead_len b) (left - n) (omega arith) (line_more e text character at left (lead_len b) n inside on refl refl plain fits))
     (cases_lt left n))
-    (cases_Bool (is_line_end b)))
+    (cases_Bool (is_lf_or_cr b)))
     (λ past. subst (IsCut text) (line_out e text character at left on past) here)
     (cases_lt at (length text))
 

@@ -10,7 +10,7 @@ use Rattle.std.proofs.lemmas.List.{get_or-drop, length-drop}
 use Rattle.std.proofs.lemmas.Str.{encode_ascii, chars-encodes, length-encode, drop_past_char}
 use Rattle.doc_text.specs.declared.encoding.Encoding.{Encoding}
 use Rattle.doc_text.specs.declared.encoding.Encoding.TheVariants.{Utf16, Utf8, Utf32}
-use Rattle.doc_text.specs.Lines.{is_line_end, ends_line}
+use Rattle.doc_text.specs.Lines.{is_lf_or_cr, ends_line}
 use Rattle.doc_text.specs.Positions.{char_units}
 use Rattle.doc_text.specs.Bytes.{lead_len, lead_units}
 
@@ -30,7 +30,7 @@ pub record Lead (c : ℕ) : Type 0 where
   pub others : List ℕ
   pub is : encode_utf8 c ≡ byte ∷ others
   pub lead : LeadOf byte c
-  pub plain : NonePass is_line_end others
+  pub plain : NonePass is_lf_or_cr others
 
 lead_of : (b c : ℕ) → lead_len b ≡ length (encode_utf8 c) → (cond (ltb b 240) 1 2) ≡ length (encode_utf16 c) → (b == 10) ≡ (c == 10) → (b == 13) ≡ (c == 13) → LeadOf b c
 lead_of b c len wide feed return = record { len = len; units = all; feed = feed; return = return }
@@ -43,7 +43,7 @@ lead_of b c len wide feed return = record { len = len; units = all; feed = feed;
 eqb_apart : (a b : ℕ) → b < a → (a == b) ≡ false
 eqb_apart a b above = ne_eqb a b (λ same. omega arith)
 
-continuation_plain : (x : ℕ) → is_line_end (128 + x) ≡ false
+continuation_plain : (x : ℕ) → is_lf_or_cr (128 + x) ≡ false
 continuation_plain x = rw (eqb_apart (128 + x) 10 (omega arith), eqb_apart (128 + x) 13 (omega arith)) refl
 
 one_byte : (c : ℕ) → c < 128 → Lead c

@@ -7,8 +7,8 @@ use mir.Val.{bool_byte}
 use Rattle.std.proofs.Math.ListN.{drop_of_length-le}
 use Rattle.std.proofs.lemmas.Bool.{cases_Bool}
 use Rattle.std.proofs.lemmas.List.{get_or-drop, drop-drop, length-drop}
-use Rattle.doc_text.specs.Lines.{is_line_end, ends_line, onto_first}
-use Rattle.doc_text.specs.Bytes.{line_ends, line_offset}
+use Rattle.doc_text.specs.Lines.{is_lf_or_cr, ends_line, onto_first}
+use Rattle.doc_text.specs.Bytes.{line_end_count, line_offset}
 use Rattle.doc_text.proofs.Steps.{plain_goes, lines_ends, lines_goes, some_line}
 
 pub line_offset-none : (bs : List ℕ) → line_offset 0 bs ≡ 0
@@ -34,7 +34,7 @@ line_offset-goes line b bs goes =
     ∙ ap (λ ls. 1 + length (concat (take (suc line) ls))) (sym more.is)
 
 -- bytes that end no line
-pub line_offset-plain : (line : ℕ) (xs bs : List ℕ) → NonePass is_line_end xs → line_offset (suc line) (xs ++ bs) ≡ length xs + line_offset (suc line) bs
+pub line_offset-plain : (line : ℕ) (xs bs : List ℕ) → NonePass is_lf_or_cr xs → line_offset (suc line) (xs ++ bs) ≡ length xs + line_offset (suc line) bs
 line_offset-plain line [] bs plain = sym (zero-add _)
 line_offset-plain line (x ∷ xs) bs plain =
     let rest = line_offset-plain line xs bs plain.1 in
@@ -42,30 +42,30 @@ line_offset-plain line (x ∷ xs) bs plain =
     omega (arith, first, rest)
 
 -- a block, in which fewer lines end than are left
-pub line_ends-few : (n : ℕ) (bs : List ℕ) → line_ends n bs ≤ n
-unfolding line_ends
-line_ends-few zero bs = omega arith
-line_ends-few (suc n) [] = omega arith
-line_ends-few (suc n) (b ∷ bs) =
-    let few = line_ends-few n bs in
-    ⊎_elim (λ ends. let one = ap (λ t. cond t 1 0 + line_ends n bs) ends in omega (arith, few, one))
-    (λ goes. let none = ap (λ t. cond t 1 0 + line_ends n bs) goes in omega (arith, few, none))
+pub line_end_count-few : (n : ℕ) (bs : List ℕ) → line_end_count n bs ≤ n
+unfolding line_end_count
+line_end_count-few zero bs = omega arith
+line_end_count-few (suc n) [] = omega arith
+line_end_count-few (suc n) (b ∷ bs) =
+    let few = line_end_count-few n bs in
+    ⊎_elim (λ ends. let one = ap (λ t. cond t 1 0 + line_end_count n bs) ends in omega (arith, few, one))
+    (λ goes. let none = ap (λ t. cond t 1 0 + line_end_count n bs) goes in omega (arith, few, none))
     (cases_Bool (ends_line b bs))
 
-pub line_offset-block : (n line : ℕ) (bs : List ℕ) → n ≤ length bs → line_offset (line_ends n bs + suc line) bs ≡ n + line_offset (suc line) (drop n bs)
-unfolding line_ends
+pub line_offset-block : (n line : ℕ) (bs : List ℕ) → n ≤ length bs → line_offset (line_end_count n bs + suc line) bs ≡ n + line_offset (suc line) (drop n bs)
+unfolding line_end_count
 line_offset-block zero line bs within = ap (λ k. line_offset k bs) (zero-add (suc line)) ∙ sym (zero-add _)
 line_offset-block (suc n) line [] within = absurd (omega arith)
 line_offset-block (suc n) line (b ∷ bs) within =
     let rest = line_offset-block n line bs (omega arith) in
-    ⊎_elim (λ ends. ap (λ t. line_offset ((cond t 1 0 + line_ends n bs) + suc line) (b ∷ bs)) ends
-    ∙ ap (λ k. line_offset k (b ∷ bs)) (one_more (line_ends n bs) (suc line))
-    ∙ line_offset-ends (line_ends n bs + suc line) b bs ends
+    ⊎_elim (λ ends. ap (λ t. line_offset ((cond t 1 0 + line_end_count n bs) + suc line) (b ∷ bs)) ends
+    ∙ ap (λ k. line_offset k (b ∷ bs)) (one_more (line_end_count n bs) (suc line))
+    ∙ line_offset-ends (line_end_count n bs + suc line) b bs ends
     ∙ ap (λ k. 1 + k) rest ∙ one_in n _)
-    (λ goes. ap (λ t. line_offset ((cond t 1 0 + line_ends n bs) + suc line) (b ∷ bs)) goes
-    ∙ ap (λ k. line_offset k (b ∷ bs)) (none_more (line_ends n bs) line)
-    ∙ line_offset-goes (line_ends n bs + line) b bs goes
-    ∙ ap (λ k. 1 + line_offset k bs) (sym (add_suc_in (line_ends n bs) line))
+    (λ goes. ap (λ t. line_offset ((cond t 1 0 + line_end_count n bs) + suc line) (b ∷ bs)) goes
+    ∙ ap (λ k. line_offset k (b ∷ bs)) (none_more (line_end_count n bs) line)
+    ∙ line_offset-goes (line_end_count n bs + line) b bs goes
+    ∙ ap (λ k. 1 + line_offset k bs) (sym (add_suc_in (line_end_count n bs) line))
     ∙ ap (λ k. 1 + k) rest ∙ one_in n _)
     (cases_Bool (ends_line b bs))
   where
@@ -82,52 +82,52 @@ line_offset-block (suc n) line (b ∷ bs) within =
     one_in n m = omega arith
 
 -- one byte more in the block
-line_ends-suc : (n : ℕ) (bs : List ℕ) → n < length bs → line_ends (suc n) bs ≡ line_ends n bs + cond (ends_line (get_or bs n 0) (drop (suc n) bs)) 1 0
-unfolding line_ends
-line_ends-suc n [] inside = absurd (omega arith)
-line_ends-suc zero (b ∷ bs) inside = add-zero _ ∙ sym (zero-add _)
-line_ends-suc (suc n) (b ∷ bs) inside = ap (λ k. cond (ends_line b bs) 1 0 + k) (line_ends-suc n bs (omega arith))
-    ∙ sym (add_assoc (cond (ends_line b bs) 1 0) (line_ends n bs) (cond (ends_line (get_or bs n 0) (drop (suc n) bs)) 1 0))
+line_end_count-suc : (n : ℕ) (bs : List ℕ) → n < length bs → line_end_count (suc n) bs ≡ line_end_count n bs + cond (ends_line (get_or bs n 0) (drop (suc n) bs)) 1 0
+unfolding line_end_count
+line_end_count-suc n [] inside = absurd (omega arith)
+line_end_count-suc zero (b ∷ bs) inside = add-zero _ ∙ sym (zero-add _)
+line_end_count-suc (suc n) (b ∷ bs) inside = ap (λ k. cond (ends_line b bs) 1 0 + k) (line_end_count-suc n bs (omega arith))
+    ∙ sym (add_assoc (cond (ends_line b bs) 1 0) (line_end_count n bs) (cond (ends_line (get_or bs n 0) (drop (suc n) bs)) 1 0))
 
-pub line_ends-more : (n : ℕ) (bs : List ℕ) → n < length bs → line_ends (n + 1) bs ≡ line_ends n bs + cond (ends_line (get_or bs n 0) (drop (n + 1) bs)) 1 0
-line_ends-more n bs inside = ap (λ k. line_ends k bs) (add-one n) ∙ line_ends-suc n bs inside ∙ ap (λ k. line_ends n bs + cond (ends_line (get_or bs n 0) (drop k bs)) 1 0) (sym (add-one n))
+pub line_end_count-more : (n : ℕ) (bs : List ℕ) → n < length bs → line_end_count (n + 1) bs ≡ line_end_count n bs + cond (ends_line (get_or bs n 0) (drop (n + 1) bs)) 1 0
+line_end_count-more n bs inside = ap (λ k. line_end_count k bs) (add-one n) ∙ line_end_count-suc n bs inside ∙ ap (λ k. line_end_count n bs + cond (ends_line (get_or bs n 0) (drop k bs)) 1 0) (sym (add-one n))
 
 byte_cond : (b : Bool) → bool_byte b ≡ cond b 1 0
 byte_cond true = refl
 byte_cond false = refl
 
-pub line_ends-next : (ends at : ℕ) (block : List ℕ) → at < length block → ends ≡ line_ends at block
-    → ends + bool_byte ((get_or block at 0 == 10) || ((get_or block at 0 == 13) && not (get_or block (at + 1) 0 == 10))) ≡ line_ends (at + 1) block
-line_ends-next ends at block inside is =
+pub line_end_count-next : (ends at : ℕ) (block : List ℕ) → at < length block → ends ≡ line_end_count at block
+    → ends + bool_byte ((get_or block at 0 == 10) || ((get_or block at 0 == 13) && not (get_or block (at + 1) 0 == 10))) ≡ line_end_count (at + 1) block
+line_end_count-next ends at block inside is =
     ap (λ n. ends + n) (byte_cond ((get_or block at 0 == 10) || ((get_or block at 0 == 13) && not (get_or block (at + 1) 0 == 10))))
     ∙ ap (λ n. n + cond ((get_or block at 0 == 10) || ((get_or block at 0 == 13) && not (get_or block (at + 1) 0 == 10))) 1 0) is
-    ∙ ap (λ next. line_ends at block + cond ((get_or block at 0 == 10) || ((get_or block at 0 == 13) && not (next == 10))) 1 0) (sym (get_or-drop (at + 1) block 0 0 ∙ ap (λ i. get_or block i 0) (add-zero (at + 1))))
-    ∙ sym (line_ends-more at block inside)
+    ∙ ap (λ next. line_end_count at block + cond ((get_or block at 0 == 10) || ((get_or block at 0 == 13) && not (next == 10))) 1 0) (sym (get_or-drop (at + 1) block 0 0 ∙ ap (λ i. get_or block i 0) (add-zero (at + 1))))
+    ∙ sym (line_end_count-more at block inside)
 
 pub few_more : (ends at : ℕ) (b : Bool) → ends ≤ at → ends + bool_byte b ≤ at + 1
 few_more ends at true few = omega arith
 few_more ends at false few = omega arith
 
 -- a block says what the text says there
-line_ends-cut : (n : ℕ) (bs : List ℕ) → line_ends n (take (suc n) bs) ≡ line_ends n bs
-unfolding line_ends
-line_ends-cut zero bs = refl
-line_ends-cut (suc n) [] = refl
-line_ends-cut (suc n) (b ∷ bs) =
-    ap (λ k. cond (ends_line b (take (suc n) bs)) 1 0 + k) (line_ends-cut n bs) ∙ ap (λ next. cond ((b == 10) || ((b == 13) && not (next == 10))) 1 0 + line_ends n bs) (first bs)
+line_end_count-cut : (n : ℕ) (bs : List ℕ) → line_end_count n (take (suc n) bs) ≡ line_end_count n bs
+unfolding line_end_count
+line_end_count-cut zero bs = refl
+line_end_count-cut (suc n) [] = refl
+line_end_count-cut (suc n) (b ∷ bs) =
+    ap (λ k. cond (ends_line b (take (suc n) bs)) 1 0 + k) (line_end_count-cut n bs) ∙ ap (λ next. cond ((b == 10) || ((b == 13) && not (next == 10))) 1 0 + line_end_count n bs) (first bs)
   where
     first : (bs : List ℕ) → get_or (take (suc n) bs) 0 0 ≡ get_or bs 0 0
     first [] = refl
     first (x ∷ xs) = refl
 
-pub block_on : (text block : List ℕ) (whole at left n size : ℕ) → at + 64 < length text → size ≡ 65 → block ≡ take size (drop at text) → n ≡ line_ends 64 block → n < left
+pub block_on : (text block : List ℕ) (whole at left n size : ℕ) → at + 64 < length text → size ≡ 65 → block ≡ take size (drop at text) → n ≡ line_end_count 64 block → n < left
     → whole ≡ at + line_offset left (drop at text) → whole ≡ (at + 64) + line_offset (left - n) (drop (at + 64) text)
 block_on text block whole at left n size inside wide is ends fewer on =
     let rest = drop at text in
-    let same : line_ends 64 rest ≡ n = sym (ends ∙ ap (line_ends 64) (is ∙ ap (λ k. take k rest) wide) ∙ line_ends-cut 64 rest) in
+    let same : line_end_count 64 rest ≡ n = sym (ends ∙ ap (line_end_count 64) (is ∙ ap (λ k. take k rest) wide) ∙ line_end_count-cut 64 rest) in
     let size = length-drop at text in
     let block_is = line_offset-block 64 (left - n - 1) rest (omega (arith, size)) in
-    let all : line_ends 64 rest + suc (left - n - 1) ≡ left = ap (λ k. k + suc (left - n - 1)) same ∙ back n left fewer in
+    let all : line_end_count 64 rest + suc (left - n - 1) ≡ left = ap (λ k. k + suc (left - n - 1)) same ∙ back n left fewer in
     let some : suc (left - n - 1) ≡ left - n = omega arith in
     let over : line_offset left rest ≡ 64 + line_offset (left - n) (drop (at + 64) text) =
     ap (λ k. line_offset k rest) (sym all) ∙ block_is ∙ ap (λ k. 64 + line_offset k (drop 64 rest)) some ∙ ap (λ l. 64 + line_offset (left - n) l) (drop-drop 64 at text) in

@@ -6,7 +6,7 @@ use Rattle.std.proofs.lemmas.Bool.{cases_lt, cases_Bool, ne_eqb}
 use Rattle.doc_text.specs.declared.encoding.Encoding.{Encoding}
 use Rattle.doc_text.specs.declared.encoding.Encoding.TheVariants.{Utf8}
 use Rattle.doc_text.specs.declared.position.Position.{Position}
-use Rattle.doc_text.specs.Lines.{is_line_end, ends_line, onto_first, lines, content}
+use Rattle.doc_text.specs.Lines.{is_lf_or_cr, ends_line, onto_first, lines, content}
 use Rattle.doc_text.specs.Positions.{char_units, units, fitting, offset_in, next_line, in_line, position_in}
 use Rattle.doc_text.specs.Walks.{moved}
 
@@ -16,7 +16,7 @@ or_and true b x ends = refl
 or_and false true x ends = refl
 or_and false false x ends = ends
 
-pub ends_is_end : (c : ℕ) (cs : List ℕ) → ends_line c cs ≡ true → is_line_end c ≡ true
+pub ends_is_end : (c : ℕ) (cs : List ℕ) → ends_line c cs ≡ true → is_lf_or_cr c ≡ true
 ends_is_end c cs ends = or_and (c == 10) (c == 13) (not (get_or cs 0 0 == 10)) ends
 
 plain_and : (a b x : Bool) → (a || b) ≡ false → (a || (b && x)) ≡ false
@@ -24,7 +24,7 @@ plain_and true b x plain = plain
 plain_and false true x plain = cc (plain)
 plain_and false false x plain = refl
 
-pub plain_goes : (c : ℕ) (cs : List ℕ) → is_line_end c ≡ false → ends_line c cs ≡ false
+pub plain_goes : (c : ℕ) (cs : List ℕ) → is_lf_or_cr c ≡ false → ends_line c cs ≡ false
 plain_goes c cs plain = plain_and (c == 10) (c == 13) (not (get_or cs 0 0 == 10)) plain
 
 pub lines_ends : (c : ℕ) (cs : List ℕ) → ends_line c cs ≡ true → lines (c ∷ cs) ≡ (c ∷ []) ∷ lines cs
@@ -80,14 +80,14 @@ offset_goes e line character c cs goes =
     ∙ ap (λ ls. char_units Utf8 c + offset_in e (suc line) character ls) (sym more.is)
 
 -- offsets: a character of the line itself
-first_content : (c : ℕ) (cs : List ℕ) → is_line_end c ≡ false → content (get_or (lines (c ∷ cs)) 0 []) ≡ c ∷ content (get_or (lines cs) 0 [])
+first_content : (c : ℕ) (cs : List ℕ) → is_lf_or_cr c ≡ false → content (get_or (lines (c ∷ cs)) 0 []) ≡ c ∷ content (get_or (lines cs) 0 [])
 first_content c cs plain =
     let more = some_line cs in
     ap (λ ls. content (get_or ls 0 [])) (lines_goes c cs (plain_goes c cs plain) ∙ ap (onto_first c) more.is)
     ∙ ap (λ b. cond b [] (c ∷ content more.first)) plain
     ∙ ap (λ ls. c ∷ content (get_or ls 0 [])) (sym more.is)
 
-pub offset_fits : (e : Encoding) (character c : ℕ) (cs : List ℕ) → is_line_end c ≡ false → char_units e c ≤ character →
+pub offset_fits : (e : Encoding) (character c : ℕ) (cs : List ℕ) → is_lf_or_cr c ≡ false → char_units e c ≤ character →
     offset_in e 0 character (lines (c ∷ cs)) ≡ char_units Utf8 c + offset_in e 0 (character - char_units e c) (lines cs)
 offset_fits e character c cs plain fits =
     let run = content (get_or (lines cs) 0 []) in
@@ -96,7 +96,7 @@ offset_fits e character c cs plain fits =
     ∙ ap (λ b. units Utf8 (cond b [] (c ∷ fitting e (character - char_units e c) run))) (le-ltb character (char_units e c) fits)
     ∙ ap (λ n. char_units Utf8 c + n) (sym (zero-add _))
 
-pub offset_full : (e : Encoding) (character c : ℕ) (cs : List ℕ) → is_line_end c ≡ false → character < char_units e c →
+pub offset_full : (e : Encoding) (character c : ℕ) (cs : List ℕ) → is_lf_or_cr c ≡ false → character < char_units e c →
     offset_in e 0 character (lines (c ∷ cs)) ≡ 0
 offset_full e character c cs plain full =
     let run = content (get_or (lines cs) 0 []) in
@@ -104,7 +104,7 @@ offset_full e character c cs plain full =
     ∙ ap (λ l. units Utf8 (fitting e character l)) (first_content c cs plain)
     ∙ ap (λ b. units Utf8 (cond b [] (c ∷ fitting e (character - char_units e c) run))) (lt-ltb character (char_units e c) full)
 
-pub offset_at_end : (e : Encoding) (character c : ℕ) (cs : List ℕ) → is_line_end c ≡ true → offset_in e 0 character (lines (c ∷ cs)) ≡ 0
+pub offset_at_end : (e : Encoding) (character c : ℕ) (cs : List ℕ) → is_lf_or_cr c ≡ true → offset_in e 0 character (lines (c ∷ cs)) ≡ 0
 offset_at_end e character c cs ends =
     let more = begins_with c cs in
     zero-add _
@@ -152,7 +152,7 @@ none_line e offset c l past =
     (λ ends. ap (λ b. place e offset (cond b [] (c ∷ content l))) ends)
     (λ plain. ap (λ b. place e offset (cond b [] (c ∷ content l))) plain
     ∙ ap (λ b. of_run e (cond b [] (c ∷ fitting Utf8 (offset - char_units Utf8 c) (content l)))) (lt-ltb offset (char_units Utf8 c) past))
-    (cases_Bool (is_line_end c))
+    (cases_Bool (is_lf_or_cr c))
   where
     of_run : Encoding → List ℕ → Position
     of_run e run = record { line = 0; character = units e run }
@@ -160,7 +160,7 @@ none_line e offset c l past =
     place : Encoding → ℕ → List ℕ → Position
     place e offset l = of_run e (fitting Utf8 offset l)
 
-at_end_line : (e : Encoding) (offset c : ℕ) (l : List ℕ) → is_line_end c ≡ true → (let q : Position = record { line = 0; character = 0 } in in_line e (c ∷ l) offset ≡ q)
+at_end_line : (e : Encoding) (offset c : ℕ) (l : List ℕ) → is_lf_or_cr c ≡ true → (let q : Position = record { line = 0; character = 0 } in in_line e (c ∷ l) offset ≡ q)
 at_end_line e offset c l ends = ap (λ b. place (cond b [] (c ∷ content l))) ends
   where
     place : List ℕ → Position
@@ -213,10 +213,10 @@ first_is_feed false false x goes ends = cc (ends)
 pub feed_ends : (d : ℕ) (cs : List ℕ) → (d == 10) ≡ true → ends_line d cs ≡ true
 feed_ends d cs feed = ap (λ b. b || ((d == 13) && not (get_or cs 0 0 == 10))) feed
 
-feed_is_end : (d : ℕ) → (d == 10) ≡ true → is_line_end d ≡ true
+feed_is_end : (d : ℕ) → (d == 10) ≡ true → is_lf_or_cr d ≡ true
 feed_is_end d feed = ap (λ b. b || (d == 13)) feed
 
-position_return_in : (e : Encoding) (offset c d : ℕ) (cs : List ℕ) → ends_line c (d ∷ cs) ≡ false → is_line_end c ≡ true → (d == 10) ≡ true → char_units Utf8 c ≤ offset
+position_return_in : (e : Encoding) (offset c d : ℕ) (cs : List ℕ) → ends_line c (d ∷ cs) ≡ false → is_lf_or_cr c ≡ true → (d == 10) ≡ true → char_units Utf8 c ≤ offset
     → position_in e (lines (c ∷ d ∷ cs)) offset ≡ position_in e (lines (d ∷ cs)) (offset - char_units Utf8 c)
 position_return_in e offset c d cs goes ends feed past =
     let second = lines_ends d cs (feed_ends d cs feed) in
@@ -234,13 +234,13 @@ position_return_in e offset c d cs goes ends feed past =
     minus : (n a b : ℕ) → n - (a + b) ≡ (n - a) - b
     minus n a b = omega arith
 
-pub position_return : (e : Encoding) (offset c : ℕ) (cs : List ℕ) → ends_line c cs ≡ false → is_line_end c ≡ true → char_units Utf8 c ≤ offset
+pub position_return : (e : Encoding) (offset c : ℕ) (cs : List ℕ) → ends_line c cs ≡ false → is_lf_or_cr c ≡ true → char_units Utf8 c ≤ offset
     → position_in e (lines (c ∷ cs)) offset ≡ position_in e (lines cs) (offset - char_units Utf8 c)
 position_return e offset c [] goes ends past = let no = first_is_feed (c == 10) (c == 13) (0 == 10) goes ends in cc (no)
 position_return e offset c (d ∷ cs) goes ends past = position_return_in e offset c d cs goes ends (first_is_feed (c == 10) (c == 13) (d == 10) goes ends) past
 
 -- positions: any other character
-line_plain : (e : Encoding) (offset c : ℕ) (l : List ℕ) → is_line_end c ≡ false → char_units Utf8 c ≤ offset
+line_plain : (e : Encoding) (offset c : ℕ) (l : List ℕ) → is_lf_or_cr c ≡ false → char_units Utf8 c ≤ offset
     → in_line e (c ∷ l) offset ≡ moved 0 (char_units e c) (in_line e l (offset - char_units Utf8 c))
 line_plain e offset c l plain past =
     ap (λ b. place offset (cond b [] (c ∷ content l))) plain
@@ -255,7 +255,7 @@ line_plain e offset c l plain past =
 moved_over : (n : ℕ) (p : Position) → next_line p ≡ moved 0 n (next_line p)
 moved_over n p = position_eq _ _ _ _ (omega arith) (sym (ap (λ b. cond b (n + p.character) p.character) (one_line p.line)))
 
-position_plain_in : (e : Encoding) (offset c : ℕ) (l : List ℕ) (ls : List (List ℕ)) → is_line_end c ≡ false → char_units Utf8 c ≤ offset
+position_plain_in : (e : Encoding) (offset c : ℕ) (l : List ℕ) (ls : List (List ℕ)) → is_lf_or_cr c ≡ false → char_units Utf8 c ≤ offset
     → position_in e ((c ∷ l) ∷ ls) offset ≡ moved 0 (char_units e c) (position_in e (l ∷ ls) (offset - char_units Utf8 c))
 position_plain_in e offset c l [] plain past = line_plain e offset c l plain past
 position_plain_in e offset c l (m ∷ ls) plain past =
@@ -274,7 +274,7 @@ position_plain_in e offset c l (m ∷ ls) plain past =
     minus : (n a b : ℕ) → n - (a + b) ≡ (n - a) - b
     minus n a b = omega arith
 
-pub position_plain : (e : Encoding) (offset c : ℕ) (cs : List ℕ) → is_line_end c ≡ false → char_units Utf8 c ≤ offset
+pub position_plain : (e : Encoding) (offset c : ℕ) (cs : List ℕ) → is_lf_or_cr c ≡ false → char_units Utf8 c ≤ offset
     → position_in e (lines (c ∷ cs)) offset ≡ moved 0 (char_units e c) (position_in e (lines cs) (offset - char_units Utf8 c))
 position_plain e offset c cs plain past =
     let more = some_line cs in

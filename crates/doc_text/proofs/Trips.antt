@@ -11,7 +11,7 @@ use Rattle.std.proofs.lemmas.Str.{IsUtf8-take, IsUtf8-drop, chars-append, chars-
 use Rattle.doc_text.specs.declared.encoding.Encoding.{Encoding}
 use Rattle.doc_text.specs.declared.encoding.Encoding.TheVariants.{Utf16, Utf8, Utf32}
 use Rattle.doc_text.specs.declared.position.Position.{Position}
-use Rattle.doc_text.specs.Lines.{is_line_end, ends_line, lines}
+use Rattle.doc_text.specs.Lines.{is_lf_or_cr, ends_line, lines}
 use Rattle.doc_text.specs.Positions.{char_units, units, offset_in, offset_of, next_line, position_in, position_of}
 use Rattle.doc_text.specs.Bytes.{lead_units}
 use Rattle.doc_text.specs.Walks.{moved}
@@ -36,7 +36,7 @@ start_position e (c ∷ cs) = position_before e 0 c cs (units_some Utf8 c)
 
 start_offset : (e : Encoding) (cs : List ℕ) → offset_in e 0 0 (lines cs) ≡ 0
 start_offset e [] = refl
-start_offset e (c ∷ cs) = ⊎_elim (offset_at_end e 0 c cs) (λ plain. offset_full e 0 c cs plain (units_some e c)) (cases_Bool (is_line_end c))
+start_offset e (c ∷ cs) = ⊎_elim (offset_at_end e 0 c cs) (λ plain. offset_full e 0 c cs plain (units_some e c)) (cases_Bool (is_lf_or_cr c))
 
 -- one character more in front
 past_end : (e : Encoding) (c : ℕ) (cs : List ℕ) (q : Position) → ends_line c cs ≡ true → offset_at e (next_line q) (c ∷ cs) ≡ char_units Utf8 c + offset_at e q cs
@@ -50,7 +50,7 @@ past_return e c cs q goes =
 less_same : (a b : ℕ) → (a + b) - a ≡ b
 less_same a b = omega arith
 
-past_plain_at : (e : Encoding) (c : ℕ) (cs : List ℕ) (line character : ℕ) → is_line_end c ≡ false → ends_line c cs ≡ false
+past_plain_at : (e : Encoding) (c : ℕ) (cs : List ℕ) (line character : ℕ) → is_lf_or_cr c ≡ false → ends_line c cs ≡ false
     → (let q : Position = record { line = line; character = character } in offset_at e (moved 0 (char_units e c) q) (c ∷ cs) ≡ char_units Utf8 c + offset_at e q cs)
 past_plain_at e c cs zero character plain goes =
     offset_fits e (char_units e c + character) c cs plain (omega arith)
@@ -76,7 +76,7 @@ trip_end e c cs n ends back =
     ∙ past_end e c cs (position_in e (lines cs) n) ends
     ∙ ap (λ o. char_units Utf8 c + o) back
 
-trip_return : (e : Encoding) (c d : ℕ) (cs : List ℕ) (n : ℕ) → ends_line c (d ∷ cs) ≡ false → is_line_end c ≡ true → (d == 10) ≡ true → char_units Utf8 d ≤ n
+trip_return : (e : Encoding) (c d : ℕ) (cs : List ℕ) (n : ℕ) → ends_line c (d ∷ cs) ≡ false → is_lf_or_cr c ≡ true → (d == 10) ≡ true → char_units Utf8 d ≤ n
     → offset_at e (position_in e (lines (d ∷ cs)) n) (d ∷ cs) ≡ n
     → offset_at e (position_in e (lines (c ∷ d ∷ cs)) (char_units Utf8 c + n)) (c ∷ d ∷ cs) ≡ char_units Utf8 c + n
 trip_return e c d cs n goes end feed past back =
@@ -88,7 +88,7 @@ trip_return e c d cs n goes end feed past back =
     ∙ ap (λ p. char_units Utf8 c + offset_at e p (d ∷ cs)) (sym there)
     ∙ ap (λ o. char_units Utf8 c + o) back
 
-trip_plain : (e : Encoding) (c : ℕ) (cs : List ℕ) (n : ℕ) → is_line_end c ≡ false → ends_line c cs ≡ false → offset_at e (position_in e (lines cs) n) cs ≡ n
+trip_plain : (e : Encoding) (c : ℕ) (cs : List ℕ) (n : ℕ) → is_lf_or_cr c ≡ false → ends_line c cs ≡ false → offset_at e (position_in e (lines cs) n) cs ≡ n
     → offset_at e (position_in e (lines (c ∷ cs)) (char_units Utf8 c + n)) (c ∷ cs) ≡ char_units Utf8 c + n
 trip_plain e c cs n plain goes back =
     let q = position_in e (lines cs) n in
@@ -97,7 +97,7 @@ trip_plain e c cs n plain goes back =
     ∙ past_plain_at e c cs q.line q.character plain goes
     ∙ ap (λ o. char_units Utf8 c + o) back
 
-trip_goes : (e : Encoding) (c : ℕ) (xs ys : List ℕ) → EndsApart (c ∷ xs) ys → ends_line c (xs ++ ys) ≡ false → is_line_end c ≡ true
+trip_goes : (e : Encoding) (c : ℕ) (xs ys : List ℕ) → EndsApart (c ∷ xs) ys → ends_line c (xs ++ ys) ≡ false → is_lf_or_cr c ≡ true
     → offset_at e (position_in e (lines (xs ++ ys)) (units Utf8 xs)) (xs ++ ys) ≡ units Utf8 xs
     → offset_at e (position_in e (lines (c ∷ (xs ++ ys))) (char_units Utf8 c + units Utf8 xs)) (c ∷ (xs ++ ys)) ≡ char_units Utf8 c + units Utf8 xs
 trip_goes e c [] ys apart goes end back =
@@ -115,7 +115,7 @@ trip e [] ys apart = ap (λ p. offset_at e p ys) (start_position e ys) ∙ start
 trip e (c ∷ xs) ys apart =
     let back = trip e xs ys (apart_tail c xs ys apart) in
     ⊎_elim (λ ends. trip_end e c (xs ++ ys) (units Utf8 xs) ends back)
-    (λ goes. ⊎_elim (λ end. trip_goes e c xs ys apart goes end back) (λ plain. trip_plain e c (xs ++ ys) (units Utf8 xs) plain goes back) (cases_Bool (is_line_end c)))
+    (λ goes. ⊎_elim (λ end. trip_goes e c xs ys apart goes end back) (λ plain. trip_plain e c (xs ++ ys) (units Utf8 xs) plain goes back) (cases_Bool (is_lf_or_cr c)))
     (cases_Bool (ends_line c (xs ++ ys)))
 
 -- as bytes

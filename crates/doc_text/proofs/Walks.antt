@@ -10,7 +10,7 @@ use Rattle.doc_text.specs.declared.encoding.Encoding.TheVariants.{Utf16, Utf8, U
 use Rattle.doc_text.specs.declared.position.Position.{Position}
 use Rattle.doc_text.specs.declared.position.Range.{Range}
 use Rattle.doc_text.specs.declared.cursor.Cursor.{Cursor}
-use Rattle.doc_text.specs.Lines.{is_line_end, ends_line, lines}
+use Rattle.doc_text.specs.Lines.{is_lf_or_cr, ends_line, lines}
 use Rattle.doc_text.specs.Positions.{char_units, offset_in, offset_of, position_in, position_of}
 use Rattle.doc_text.specs.Edits.{replaced}
 use Rattle.doc_text.specs.Bytes.{is_simple, lead_len, lead_units}
@@ -19,7 +19,7 @@ use Rattle.doc_text.proofs.Leads.{LeadOf, CharAt, char_at}
 use Rattle.doc_text.proofs.Ways.{nothing_left, sum_on, offset_nothing, IsOnWay}
 use Rattle.doc_text.proofs.Steps.{plain_goes, offset_fits, offset_full, offset_at_end, position_before, position_ends, position_return, position_plain, moved_next, moved_units, moved_none, moved_start}
 
-same_end : (b c : ℕ) → LeadOf b c → is_line_end b ≡ is_line_end c
+same_end : (b c : ℕ) → LeadOf b c → is_lf_or_cr b ≡ is_lf_or_cr c
 same_end b c lead = rw (lead.feed, lead.return) refl
 
 units_within : (e : Encoding) (b : ℕ) → lead_units e b ≤ lead_len b
@@ -40,7 +40,7 @@ pub line_first : (e : Encoding) (text : List ℕ) (character : ℕ) → IsUtf8 t
 line_first e text character utf8 = record { in_range = omega arith; utf8 = utf8; onward = sym (zero-add _) }
 
 pub line_more : (e : Encoding) (text : List ℕ) (character at left len n : ℕ) → at < length text → IsOnLine e text character at left
-    → len ≡ lead_len (get_or text at 0) → n ≡ lead_units e (get_or text at 0) → is_line_end (get_or text at 0) ≡ false → n ≤ left
+    → len ≡ lead_len (get_or text at 0) → n ≡ lead_units e (get_or text at 0) → is_lf_or_cr (get_or text at 0) ≡ false → n ≤ left
     → IsOnLine e text character (at + len) (left - n)
 line_more e text character at left len n inside on is units plain fits =
     let here = char_at text at inside on.utf8 in
@@ -55,7 +55,7 @@ line_more e text character at left len n inside on is units plain fits =
     })
 
 pub line_ended : (e : Encoding) (text : List ℕ) (character at left : ℕ) → at < length text → IsOnLine e text character at left
-    → is_line_end (get_or text at 0) ≡ true → at ≡ offset_in e 0 character (lines (chars text))
+    → is_lf_or_cr (get_or text at 0) ≡ true → at ≡ offset_in e 0 character (lines (chars text))
 line_ended e text character at left inside on ends =
     let here = char_at text at inside on.utf8 in
     let after = chars (drop (at + lead_len (get_or text at 0)) text) in
@@ -63,7 +63,7 @@ line_ended e text character at left inside on ends =
     ∙ ap (λ n. at + n) (offset_at_end e left here.code after (sym (same_end _ _ here.lead) ∙ ends)) ∙ add-zero at)
 
 pub line_full : (e : Encoding) (text : List ℕ) (character at left n : ℕ) → at < length text → IsOnLine e text character at left
-    → n ≡ lead_units e (get_or text at 0) → is_line_end (get_or text at 0) ≡ false → left < n → at ≡ offset_in e 0 character (lines (chars text))
+    → n ≡ lead_units e (get_or text at 0) → is_lf_or_cr (get_or text at 0) ≡ false → left < n → at ≡ offset_in e 0 character (lines (chars text))
 line_full e text character at left n inside on units plain full =
     let here = char_at text at inside on.utf8 in
     let after = chars (drop (at + lead_len (get_or text at 0)) text) in
@@ -122,7 +122,7 @@ cursor_ends e text c len inside cursor is ends =
     ∙ moved_next c.position.line c.position.character (position_in e (lines after) (offset - char_units Utf8 here.code))))
 
 pub cursor_return : (e : Encoding) (text : List ℕ) (c : Cursor) (len : ℕ) → c.at < length text → IsCursor e text c → len ≡ lead_len (get_or text c.at 0)
-    → ends_line (get_or text c.at 0) (drop (c.at + 1) text) ≡ false → is_line_end (get_or text c.at 0) ≡ true
+    → ends_line (get_or text c.at 0) (drop (c.at + 1) text) ≡ false → is_lf_or_cr (get_or text c.at 0) ≡ true
     → IsCursor e text (record { at = c.at + len; position = c.position })
 cursor_return e text c len inside cursor is goes ends =
     let here = char_at text c.at inside cursor.utf8 in
@@ -132,7 +132,7 @@ cursor_return e text c len inside cursor is goes ends =
     (λ offset past. ap (moved c.position.line c.position.character) (position_return e offset here.code after (sym here.ends ∙ goes) (sym (same_end _ _ here.lead) ∙ ends) past)))
 
 pub cursor_plain : (e : Encoding) (text : List ℕ) (c : Cursor) (len n : ℕ) → c.at < length text → IsCursor e text c → len ≡ lead_len (get_or text c.at 0)
-    → n ≡ lead_units e (get_or text c.at 0) → is_line_end (get_or text c.at 0) ≡ false
+    → n ≡ lead_units e (get_or text c.at 0) → is_lf_or_cr (get_or text c.at 0) ≡ false
     → IsCursor e text (record { at = c.at + len; position = record { line = c.position.line; character = c.position.character + n } })
 cursor_plain e text c len n inside cursor is units plain =
     let here = char_at text c.at inside cursor.utf8 in
@@ -195,7 +195,7 @@ simple_units Utf16 b simple = grind (arith, nat_tests)
 simple_units Utf8 b simple = grind (arith, nat_tests)
 simple_units Utf32 b simple = refl
 
-pub simple_plain : (b : ℕ) → is_simple b ≡ true → is_line_end b ≡ false
+pub simple_plain : (b : ℕ) → is_simple b ≡ true → is_lf_or_cr b ≡ false
 simple_plain b simple = grind (arith, nat_tests)
 
 pub simple_goes : (b : ℕ) (bs : List ℕ) → is_simple b ≡ true → ends_line b bs ≡ false

@@ -8,7 +8,7 @@ use Rattle.std.proofs.lemmas.List.{get_or-drop, drop-drop}
 use Rattle.std.proofs.lemmas.Str.{chars-nil}
 use Rattle.doc_text.specs.declared.encoding.Encoding.{Encoding}
 use Rattle.doc_text.specs.declared.encoding.Encoding.TheVariants.{Utf8}
-use Rattle.doc_text.specs.Lines.{is_line_end, ends_line, lines}
+use Rattle.doc_text.specs.Lines.{is_lf_or_cr, ends_line, lines}
 use Rattle.doc_text.specs.Positions.{char_units, offset_in}
 use Rattle.doc_text.specs.Bytes.{lead_len, line_offset}
 use Rattle.doc_text.proofs.Leads.{lead, CharAt, char_at}
@@ -72,14 +72,14 @@ way_out text line at left way past = record {
 }
 
 -- the walk, over all lines that are left
-feed_or_return : (b : ℕ) → is_line_end b ≡ true → (b ≡ 10) ⊎ (b ≡ 13)
+feed_or_return : (b : ℕ) → is_lf_or_cr b ≡ true → (b ≡ 10) ⊎ (b ≡ 13)
 feed_or_return b ends = either (b == 10) (b == 13) ends (eqb-true b 10) (eqb-true b 13)
   where
     either : (x y : Bool) → (x || y) ≡ true → (x ≡ true → b ≡ 10) → (y ≡ true → b ≡ 13) → (b ≡ 10) ⊎ (b ≡ 13)
     either true y both feed return = inl (feed refl)
     either false y both feed return = inr (return both)
 
-end_len : (b : ℕ) → is_line_end b ≡ true → lead_len b ≡ 1
+end_len : (b : ℕ) → is_lf_or_cr b ≡ true → lead_len b ≡ 1
 end_len b ends = ⊎_elim (λ feed. ap lead_len feed) (λ return. ap lead_len return) (feed_or_return b ends)
 
 past_char : (text : List ℕ) (at left : ℕ) (here : CharAt text at) → ends_line (get_or text at 0) (drop (at + 1) text) ≡ false

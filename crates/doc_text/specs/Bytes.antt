@@ -21,10 +21,10 @@ lead_units Utf8 b = lead_len b
 lead_units Utf32 b = 1
 
 -- how many of the first n bytes end a line
-unfoldable pub line_ends : ℕ → List ℕ → ℕ
-line_ends zero bs = 0
-line_ends (suc n) [] = 0
-line_ends (suc n) (b ∷ bs) = (if ends_line b bs then 1 else 0) + line_ends n bs
+unfoldable pub line_end_count : ℕ → List ℕ → ℕ
+line_end_count zero bs = 0
+line_end_count (suc n) [] = 0
+line_end_count (suc n) (b ∷ bs) = (if ends_line b bs then 1 else 0) + line_end_count n bs
 
 -- the bytes of the lines before a line, or of all lines if it lies past the last one
 unfoldable pub line_offset : ℕ → List ℕ → ℕ

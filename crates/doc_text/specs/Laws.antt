@@ -5,7 +5,7 @@ use Rattle.std.specs.Str.{NonePass, chars}
 use Rattle.doc_text.specs.declared.encoding.Encoding.{Encoding}
 use Rattle.doc_text.specs.declared.position.Position.{Position}
 use Rattle.doc_text.specs.declared.position.Range.{Range}
-use Rattle.doc_text.specs.Lines.{is_line_end, lines}
+use Rattle.doc_text.specs.Lines.{is_lf_or_cr, lines}
 use Rattle.doc_text.specs.Positions.{units, fitting, offset_of, position_of}
 use Rattle.doc_text.specs.Edits.{replaced}
 
@@ -17,7 +17,7 @@ IsLineEnd end after = (end ≡ 13 ∷ 10 ∷ []) ⊎ ((end ≡ 10 ∷ []) ⊎ ((
 
 -- no line end among the characters
 abbrev pub IsPlain : List ℕ → Type 0
-IsPlain cs = NonePass is_line_end cs
+IsPlain cs = NonePass is_lf_or_cr cs
 
 -- the first line: plain characters and a line end
 pub record IsEndedLine (l cs after : List ℕ) : Type 0 where

@@ -2,8 +2,8 @@
 use Rattle.std.specs.Prelude.{ℕ, Bool, List, [], ◌∷◌, ◌||◌, ◌&&◌, ◌==◌, not, if◌then◌else◌, slice_index}
 
 -- a character that only a line end holds: a line feed or a carriage return
-abbrev pub is_line_end : ℕ → Bool
-is_line_end c = (c == 10) || (c == 13)
+abbrev pub is_lf_or_cr : ℕ → Bool
+is_lf_or_cr c = (c == 10) || (c == 13)
 
 -- A line ends behind a line feed, and behind a carriage return that no line feed follows.
 abbrev pub ends_line : ℕ → List ℕ → Bool
@@ -22,4 +22,4 @@ lines (c ∷ cs) = if ends_line c cs then (c ∷ []) ∷ lines cs else onto_firs
 -- a line without its line end
 abbrev pub content : List ℕ → List ℕ
 content [] = []
-content (c ∷ cs) = if is_line_end c then [] else c ∷ content cs
+content (c ∷ cs) = if is_lf_or_cr c then [] else c ∷ content cs

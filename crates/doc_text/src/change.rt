@@ -1,5 +1,5 @@
-//! A change of a text document (Language Server Protocol 3.17, "TextDocumentContentChangeEvent").
-use super::Range;
+// A change of a text document (Language Server Protocol 3.17, "TextDocumentContentChangeEvent").
+use crate::Range;
 
 /// A new text for a range of a document, or for the whole document where there is no range.
 #[derive(Drop)]

@@ -1,4 +1,4 @@
-//! The units in which a position counts characters (Language Server Protocol 3.17, "Position").
+// The units in which a position counts characters (Language Server Protocol 3.17, "Position").
 
 /// What one unit of a position's `character` is.
 #[derive(Clone, Copy, Debug, PartialEq, Eq)]

@@ -1,4 +1,4 @@
-//! Laws of the definitions that the contracts cite. Each is a function with nothing to do, whose clause is the law.
+// Laws of the definitions that the contracts cite. Each is a function with nothing to do, whose clause is the law.
 ghost use Rattle.doc_text.specs.Laws.{LinesAreTheCut, LinesJoinedAreTheText, FittingIsLongest, PositionsComeBack, PositionsPastAreTheEnd, OffsetsPastAreTheEnd, OffsetsGoBack, OffsetsInLineEnds, ChangesKeepTheRest, ChangesOfTheWhole, RangesTurnedRound, ChangesKeepUtf8};
 
 /// A law: a text is cut in one way into lines, each but the last ended by `\r\n`, by `\n`, or by a `\r` without a

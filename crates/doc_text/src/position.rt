@@ -1,4 +1,4 @@
-//! Places in a text document (Language Server Protocol 3.17, "Position" and "Range").
+// Places in a text document (Language Server Protocol 3.17, "Position" and "Range").
 
 /// A place between two characters of a text. Any two numbers are a position: one past the text's last line is
 /// the text's end, one past its line's last character is the line's end.

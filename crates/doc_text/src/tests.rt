@@ -1,20 +1,20 @@
-//! Worked positions, offsets and changes, in texts with characters of one to four bytes and each line end.
+// Worked positions, offsets and changes, in texts with characters of one to four bytes and each line end.
 use super::*;
 use std::process::Abort;
 use std::test::Fail;
 
-/// Bytes 0 to 11: `/`, `/`, a space, `é` of two bytes, an emoji of four, `x`, a line feed.
+// Offsets 0 to 11: `/`, `/`, a space, `é` of two bytes, an emoji of four, `x`, a line feed.
 const COMMENT: &str = "// é😀x\n";
 
-/// Bytes 0 to 15: characters of one, two, three and four bytes, `\r\n`; `b`, `\r`; `c` without a line end.
+// Offsets 0 to 15: characters of one, two, three and four bytes, `\r\n`; `b`, `\r`; `c` without a line end.
 const MIXED: &str = "aé消😀\r\nb\rc";
 
-/// Rows of a line, a character, and the offset of that position.
+// Rows of a line, a character, and the offset of that position.
 mod offsets {
     const MAX: u64 = u64::MAX;
 
-    /// A place inside a character goes back, one past the line's end is the line's end, a line past the last is the
-    /// text's end.
+    // A place inside a character goes back, one past the line's end is the line's end, a line past the last is the
+    // text's end.
     pub static COMMENT_UTF16: [(u64, u64, usize); 12] = [
         (0, 3, 3),
         (0, 4, 5),
@@ -91,9 +91,9 @@ mod offsets {
     pub static EMPTY: [(u64, u64, usize); 4] = [(0, 0, 0), (0, 5, 0), (7, 0, 0), (MAX, MAX, 0)];
 }
 
-/// Rows of an offset, and the line and character of its position.
+// Rows of an offset, and the line and character of its position.
 mod positions {
-    /// An offset inside a character, inside a line end or past the text goes back.
+    // An offset inside a character, inside a line end or past the text goes back.
     pub static MIXED_UTF16: [(usize, u64, u64); 15] = [
         (0, 0, 0),
         (1, 0, 1),
@@ -165,7 +165,7 @@ fn change(
     })
 }
 
-/// Compares the offsets of positions, given as line, character and offset.
+// Compares the offsets of positions, given as line, character and offset.
 fn expect_offsets<R: AllocGlobal + Abort>(
     rt: &R,
     text: &str,
@@ -179,8 +179,8 @@ fn expect_offsets<R: AllocGlobal + Abort>(
     Ok(())
 }
 
-/// Compares the positions of offsets, given as offset, line and character: one by one, all at once, and all at
-/// once in an order that doesn't ascend.
+// Compares the positions of offsets, given as offset, line and character: one by one, all at once, and all at
+// once in an order that doesn't ascend.
 fn expect_positions<R: AllocGlobal + Abort>(
     rt: &R,
     text: &str,
@@ -227,7 +227,7 @@ fn offsets_have_positions(rt: HostRuntime) -> Result<(), Fail> {
     expect_positions(&rt, "", Encoding::Utf8, &positions::EMPTY)
 }
 
-/// `x`, then twenty lines of four bytes, the `\r\n` of one of which lies on bytes 63 and 64.
+// `x`, then twenty lines of four bytes, the `\r\n` of one of which lies on bytes 63 and 64.
 #[test]
 fn long_texts_have_positions(rt: HostRuntime) -> Result<(), Fail> {
     let mut long = String::from_str(rt.alloc(), "x")?;
@@ -252,9 +252,9 @@ fn long_texts_have_positions(rt: HostRuntime) -> Result<(), Fail> {
 
 #[test]
 fn changes_follow_one_another(rt: HostRuntime) -> Result<(), Fail> {
-    let mut text = text_of(&rt, "ab\ncd\n")?;
+    let mut text = text_of(&rt, "ab\ncd")?;
     text.apply(change(&rt, place(0, 1), place(1, 1), "X")?, Encoding::Utf16)?;
-    assert_eq!(rt; text.as_str(), "aXd\n");
+    assert_eq!(rt; text.as_str(), "aXd");
     // A range turned round.
     text.apply(
         change(&rt, place(9, 0), place(0, 2), "\n")?,

@@ -1,8 +1,8 @@
-//! The text of a document (Language Server Protocol 3.17, "Text Documents").
+// The text of a document (Language Server Protocol 3.17, "Text Documents").
 ghost use Rattle.std.specs.Prelude.{◌≡◌, ℕ, ◌≤◌, List, length, map, IsCharBoundary, IfOk, OnOk, OnErr, IsOk, None};
 ghost use Rattle.std.specs.String.{string_bytes};
 
-use super::{Change, Encoding, Position, cursor, scan};
+use crate::{Change, Encoding, Position, cursor, scan};
 use std::alloc::{AllocError, Global};
 use std::marker::Model;
 
@@ -23,7 +23,7 @@ impl Text {
     ghost use Rattle.doc_text.specs.Positions.{offset_of, position_of};
     ghost use Rattle.doc_text.specs.Edits.{edited};
 
-    /// The document of a text. Takes no memory.
+    /// A document with this text. Takes no memory.
     pub fn new(text: String) -> Text
         ensures { result ≡ string_bytes text }
     {

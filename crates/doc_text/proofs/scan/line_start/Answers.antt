@@ -6,7 +6,7 @@ use Rattle.doc_text.proofs.scan.line_start.Goals.{then-ends_line, else-ends_line
 pub loop-at-preserved : goal.loop-at-preserved
 loop-at-preserved c = record {
   in_range = omega arith;
-  onward = block_on c.args.text.now _ _ c.loop-at.at c.loop-at.left c.line_ends-ends.result ((c.loop-at.at + 64) + 1 - c.loop-at.at) (omega arith) (omega arith) refl c.line_ends-ends.ensures.value c.if-left-ends.false c.loop-at.invariant.onward;
+  onward = block_on c.args.text.now _ _ c.loop-at.at c.loop-at.left c.line_end_count-ends.result ((c.loop-at.at + 64) + 1 - c.loop-at.at) (omega arith) (omega arith) refl c.line_end_count-ends.ensures.value c.if-left-ends.false c.loop-at.invariant.onward;
 }
 
 pub loop-left-preserved : goal.loop-left-preserved

@@ -1,6 +1,0 @@
-use Rattle.std.proofs.Common.{◌≡◌, ◌≤◌}
-use Rattle.doc_text.specs.Bytes.{line_ends}
-use Rattle.doc_text.proofs.scan.line_ends.Given as goal
-
-abbrev pub invariant-loop-at : goal.invariant-loop-at
-invariant-loop-at l = record { value : l.ends ≡ line_ends l.at l.block; few : l.ends ≤ l.at }
