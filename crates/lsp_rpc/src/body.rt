@@ -1,7 +1,7 @@
 // The JSON value of a message's body, and its members.
 ghost use Rattle.std.specs.Prelude.{◌≡◌, IfOk, option_map};
 ghost use Rattle.serde_json.specs.View.{view};
-ghost use Rattle.lsp_rpc.specs.Body.{json_of, has, member_or_null, text_member, integer_member};
+ghost use Rattle.lsp_rpc.specs.Body.{json_of, has, member_or_null, text_member};
 
 use serde_json::Value;
 use std::alloc::{AllocError, Global};
@@ -33,13 +33,6 @@ pub(crate) fn text_member<'v>(value: &'v Value, name: &str) -> Option<&'v str>
     ensures { option_map (λ s. s.now) result ≡ text_member name.now (view value.now) }
 {
     value.get(name)?.as_str()
-}
-
-/// The member, if it is a whole number from -2^63 to 2^63 - 1: `1.0` and `1e2` are none.
-pub(crate) fn integer_member(value: &Value, name: &str) -> Option<i64>
-    ensures { result ≡ integer_member name.now (view value.now) }
-{
-    value.get(name)?.as_i64()
 }
 
 /// The member, or `null` where there is none. The rest of the value is dropped.

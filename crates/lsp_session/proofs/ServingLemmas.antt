@@ -19,9 +19,9 @@ use Rattle.lsp_rpc.specs.Message.{message_of}
 use Rattle.lsp_session.specs.Configuration.{Configuration}
 use Rattle.lsp_session.specs.Core.{CoreState}
 use Rattle.lsp_session.specs.Session.{State, Run, turn, turn_in, next, start, session}
-use Rattle.lsp_session.specs.Steps.{turns, Knows, replies_to, SendsFront, IsExit, end_by}
+use Rattle.lsp_session.specs.Steps.{turns, Knows, replies_to, end_by}
 use Rattle.lsp_session.specs.declared.fault.ServeFault.TheVariants as served
-use Rattle.lsp_session.specs.Stream.{frames_of, output, ended, ended_in, exit_of, is_exited, taken_from, behind_first, behind_frames, behind_exit}
+use Rattle.lsp_session.specs.Stream.{SendsPrefix, IsExit, HasFrameCode, frames_of, output, ended, ended_in, exit_of, is_exited, taken_from, behind_first, behind_frames, behind_exit}
 use Rattle.lsp_session.specs.declared.ended.Ended.{Ended}
 use Rattle.lsp_session.specs.declared.ended.Ended.TheVariants as how
 use Rattle.lsp_session.specs.declared.phase.Phase.{Phase}
@@ -149,6 +149,9 @@ stays-exited : (r : Run) (bodies : List (List ℕ)) → is_exited r.state.phase 
 stays-exited r [] e = refl
 stays-exited r (body ∷ bodies) e = ap (λ q. fold next q bodies) (silent-next r r.state.phase body refl e) ∙ stays-exited r bodies e
 
+pub nothing_follows : (config : Configuration) (bodies later : List (List ℕ)) → is_exited (session config bodies).state.phase ≡ true → session config (bodies ++ later) ≡ session config bodies
+nothing_follows config bodies later e = session-append config bodies later ∙ stays-exited (session config bodies) later e
+
 taken-exited : (s : State) (later : List (List ℕ)) → is_exited s.phase ≡ true → taken_from s later ≡ 0
 taken-exited s [] e = refl
 taken-exited s (body ∷ later) e = rw e refl
@@ -187,7 +190,7 @@ exits_at config (Some bytes) (Some rest) v w core after_shutdown s e =
 
 -- ---- where something failed
 
-front-of : (v w : Option (List ℕ)) (sent more all : List ℕ) → all ≡ sent ++ more → Appends v w sent → SendsFront v w all
+front-of : (v w : Option (List ℕ)) (sent more all : List ℕ) → all ≡ sent ++ more → Appends v w sent → SendsPrefix v w all
 front-of v w sent more all is s = (length sent, omega (arith, ap length is, length-append sent more), rw (is, take_at sent more (length sent) refl) s)
 
 -- the output goes on behind the replies to the first messages
@@ -197,25 +200,25 @@ output-more config bodies later =
     let new = map compact_text (turns first.state (map message_of later)).replies in
     (frames_of new, ap (λ r. frames_of r.replies) (session-append config bodies later) ∙ ap frames_of (fold-next first later).replies ∙ flat_map-append frame_of first.replies new)
 
-pub stops : (config : Configuration) (a b v w : Option (List ℕ)) (core : CoreState) → Serving config a b core v w → IfSome a (λ bytes. SendsFront v w (output config bytes))
+pub stops : (config : Configuration) (a b v w : Option (List ℕ)) (core : CoreState) → Serving config a b core v w → IfSome a (λ bytes. SendsPrefix v w (output config bytes))
 stops config None b v w core s = tt
 stops config (Some bytes) None v w core s = absurd s
 stops config (Some bytes) (Some rest) v w core s =
     let more = output-more config s.bodies (frames rest).bodies in
     front-of v w (frames_of (session config s.bodies).replies) more.0 (output config bytes) (ap (λ bs. frames_of (session config bs).replies) s.came ∙ more.1) s.wrote
 
-pub nothing_sent : (v : Option (List ℕ)) (all : List ℕ) → SendsFront v v all
+pub nothing_sent : (v : Option (List ℕ)) (all : List ℕ) → SendsPrefix v v all
 nothing_sent v all = (0, omega arith, Appends-nil v)
 
 -- a front of a part, behind what went out before
-pub front-behind : (v w x : Option (List ℕ)) (sent part more all : List ℕ) → all ≡ sent ++ (part ++ more) → Appends v w sent → SendsFront w x part → SendsFront v x all
+pub front-behind : (v w x : Option (List ℕ)) (sent part more all : List ℕ) → all ≡ sent ++ (part ++ more) → Appends v w sent → SendsPrefix w x part → SendsPrefix v x all
 front-behind v w x sent part more all is s p =
     let cut : take (length sent + p.0) all ≡ sent ++ take p.0 part = ap (take (length sent + p.0)) is ∙ take-append-add sent (part ++ more) p.0 ∙ ap (λ l. sent ++ l) (take-append-le p.0 part more p.1) in
     (length sent + p.0, omega (arith, ap length is, length-append sent (part ++ more), length-append part more, p.1), rw cut (Appends-trans v w x sent (take p.0 part) s p.2))
 
 -- the writer failed within the replies to a message
 pub stops_within : (config : Configuration) (a b c v w x : Option (List ℕ)) (core : CoreState) (body : List ℕ) → Serving config a b core v w → IfSome b (λ rest. TakesFrame rest c body)
-    → ((bodies : List (List ℕ)) → Knows config core bodies → SendsFront w x (frames_of (replies_to config bodies body))) → IfSome a (λ bytes. SendsFront v x (output config bytes))
+    → ((bodies : List (List ℕ)) → Knows config core bodies → SendsPrefix w x (frames_of (replies_to config bodies body))) → IfSome a (λ bytes. SendsPrefix v x (output config bytes))
 stops_within config None b c v w x core body s t sent = tt
 stops_within config (Some bytes) None c v w x core body s t sent = absurd s
 stops_within config (Some bytes) (Some rest) c v w x core body s t sent =
@@ -231,7 +234,7 @@ stops_within config (Some bytes) (Some rest) c v w x core body s t sent =
 
 -- ---- the frames of some replies
 
-pub frames-sent : (v w x : Option (List ℕ)) (replies : List (List ℕ)) (i : ℕ) (reply : List ℕ) (n : ℕ) → i < length replies → reply ≡ get_or replies i reply → Appends v w (frames_of (take i replies)) → n < length (frame_of reply) → Appends w x (take n (frame_of reply)) → SendsFront v x (frames_of replies)
+pub frames-sent : (v w x : Option (List ℕ)) (replies : List (List ℕ)) (i : ℕ) (reply : List ℕ) (n : ℕ) → i < length replies → reply ≡ get_or replies i reply → Appends v w (frames_of (take i replies)) → n < length (frame_of reply) → Appends w x (take n (frame_of reply)) → SendsPrefix v x (frames_of replies)
 frames-sent v w x replies i reply n lt is before fits here =
     let cut : replies ≡ take i replies ++ reply ∷ drop (i + 1) replies = sym (take-append-drop i replies) ∙ ap (λ l. take i replies ++ l) (drop_more replies i reply lt ∙ ap (λ r. r ∷ drop (i + 1) replies) (sym is)) in
     let whole : frames_of replies ≡ frames_of (take i replies) ++ (frame_of reply ++ frames_of (drop (i + 1) replies)) = ap frames_of cut ∙ flat_map-append frame_of (take i replies) (reply ∷ drop (i + 1) replies) in
@@ -314,3 +317,24 @@ fault-write P HeaderTooLong = tt
 fault-write P Truncated = tt
 fault-write P Read = λ e. cc
 fault-write P Memory = λ e. cc
+
+-- what is said of every answer where there is no further frame
+pub fault-code : (fault : FrameFault) → IfOk (end_by fault) HasFrameCode
+fault-code BadHeader = (omega arith, omega arith)
+fault-code NoLength = (omega arith, omega arith)
+fault-code BadLength = (omega arith, omega arith)
+fault-code BodyTooLong = (omega arith, omega arith)
+fault-code HeaderTooLong = (omega arith, omega arith)
+fault-code Truncated = (omega arith, omega arith)
+fault-code Read = tt
+fault-code Memory = tt
+
+pub fault-goes_on : (P : Type 0) (fault : FrameFault) → IfOk (end_by fault) (λ end. IsExit end → P)
+fault-goes_on P BadHeader = λ no. absurd no
+fault-goes_on P NoLength = λ no. absurd no
+fault-goes_on P BadLength = λ no. absurd no
+fault-goes_on P BodyTooLong = λ no. absurd no
+fault-goes_on P HeaderTooLong = λ no. absurd no
+fault-goes_on P Truncated = λ no. absurd no
+fault-goes_on P Read = tt
+fault-goes_on P Memory = tt

@@ -10,14 +10,12 @@ use Rattle.doc_text.specs.Positions.{position_of}
 use Rattle.doc_text.specs.declared.encoding.Encoding.TheVariants.{Utf16}
 use Rattle.doc_text.specs.declared.position.Position.{Position}
 use Rattle.lsp_rpc.specs.Diagnostic.{DiagnosticData}
-use Rattle.lsp_rpc.specs.declared.diagnostic.Severity.TheVariants as severity
 use Rattle.proto_lex.specs.declared.token.Reason.{Reason}
 use Rattle.proto_lex.specs.declared.token.Token.{Token}
-use Rattle.lsp_session.specs.Diagnostics.{reason_of}
-use Rattle.lsp_session.specs.Diagnostics as text
+use Rattle.lsp_session.specs.Diagnostics.{reason_of, error_between}
 use Rattle.lsp_session.specs.declared.diagnostics.BadToken.{BadToken}
 use Rattle.lsp_session.specs.declared.ended.Ended.{Ended}
-use Rattle.lsp_session.specs.declared.ended.Ended.TheVariants as ended
+use Rattle.lsp_session.specs.declared.ended.Ended.TheVariants as how
 use Rattle.lsp_session.specs.declared.fault.ServeFault.{ServeFault}
 use Rattle.lsp_session.specs.declared.fault.ServeFault.TheVariants as fault
 use Rattle.serde_json.specs.Data.{Data}
@@ -47,7 +45,7 @@ bad_token_if t = option_map (bad_token_of t) (reason_of t.kind)
 
 -- the error at a bad token with these positions
 abbrev pub diagnostic_of : BadToken → Position → Position → DiagnosticData
-diagnostic_of t start end = record { range = record { start = start; «end» = end }; severity = severity.Error; code = 201; message = text.message_of t.reason }
+diagnostic_of t start end = error_between start end t.reason
 
 -- the error at a bad token of a text
 abbrev pub error_at : List ℕ → BadToken → DiagnosticData
@@ -66,14 +64,6 @@ pub record Knows (config : Configuration) (core : CoreState) (bodies : List (Lis
 abbrev pub replies_to : Configuration → List (List ℕ) → List ℕ → List (List ℕ)
 replies_to config bodies body = map compact_text (turn (session config bodies).state (message_of body)).replies
 
--- a front of the bytes went out
-abbrev pub SendsFront : Option (List ℕ) → Option (List ℕ) → List ℕ → Type 0
-SendsFront old new bytes = (n : ℕ) × (n ≤ length bytes) × Appends old new (take n bytes)
-
-abbrev pub IsExit : Ended → Type 0
-IsExit (ended.Exit after_shutdown) = ⊤
-IsExit _ = ⊥
-
 -- a fault of a reply: the writer's only where it failed
 abbrev pub IsWriteOrMemory : Counts → Counts → ServeFault → Type 0
 IsWriteOrMemory old new fault.Read = ⊥
@@ -84,4 +74,4 @@ IsWriteOrMemory old new fault.Memory = ⊤
 abbrev pub end_by : FrameFault → Result Ended ServeFault
 end_by frame.Read = Err fault.Read
 end_by frame.Memory = Err fault.Memory
-end_by f = Ok (ended.BadFrame (code_of f))
+end_by f = Ok (how.BadFrame (code_of f))

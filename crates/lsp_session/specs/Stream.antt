@@ -1,6 +1,7 @@
 -- The session over a stream of frames: what the server writes, and how it ends.
-use Rattle.std.specs.Prelude.{ℕ, zero, suc, List, [], ◌∷◌, Bool, true, false, if◌then◌else◌, Option, Some, None, is_some}
+use Rattle.std.specs.Prelude.{◌≡◌, ℕ, zero, suc, ◌≤◌, List, [], ◌∷◌, ◌++◌, length, take, ⊤, Bool, true, false, if◌then◌else◌, Option, Some, None, is_some}
 use Rattle.std.specs.List.{flat_map}
+use Rattle.std.specs.Io.KnownBytes.{Appends}
 use Rattle.lsp_frame.specs.Fault.{code_of}
 use Rattle.lsp_frame.specs.Stream.{StreamEnd, InputEnd, BadFrame, FirstFrame, Whole, NoFrame, first_frame, frames}
 use Rattle.lsp_frame.specs.Writing.{frame_of}
@@ -55,3 +56,22 @@ behind_frames (suc n) bytes = behind_frames n (behind_first bytes (first_frame b
 -- the bytes behind the frame of the exit
 abbrev pub behind_exit : Configuration → List ℕ → List ℕ
 behind_exit config bytes = behind_frames (taken_from (start config) (frames bytes).bodies) bytes
+
+-- messages behind an exit change nothing, and nothing is replied to them
+abbrev pub NothingFollowsAnExit : Type 0
+NothingFollowsAnExit = (config : Configuration) (bodies later : List (List ℕ)) → is_exited (session config bodies).state.phase ≡ true → session config (bodies ++ later) ≡ session config bodies
+
+-- ---- what a caller of the server sees
+
+-- a prefix of the bytes went out
+abbrev pub SendsPrefix : Option (List ℕ) → Option (List ℕ) → List ℕ → Type 0
+SendsPrefix old new bytes = (n : ℕ) × (n ≤ length bytes) × Appends old new (take n bytes)
+
+abbrev pub IsExit : Ended → Type 0
+IsExit (how.Exit after_shutdown) = ⊤
+IsExit _ = ⊥
+
+-- a bad frame has a number from 101 to 106
+abbrev pub HasFrameCode : Ended → Type 0
+HasFrameCode (how.BadFrame code) = (101 ≤ code) × (code ≤ 106)
+HasFrameCode _ = ⊤

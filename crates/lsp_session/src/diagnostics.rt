@@ -3,7 +3,7 @@ ghost use Rattle.std.specs.Prelude.{◌≡◌, [], ◌∷◌, ◌++◌, IfOk, On
 ghost use Rattle.std.specs.List.{filter_map};
 ghost use Rattle.doc_text.specs.Positions.{position_of};
 ghost use Rattle.lsp_rpc.specs.Diagnostic.{diagnostic_view};
-ghost use Rattle.lsp_session.specs.Diagnostics.{diagnostics, message_of, reason_of};
+ghost use Rattle.lsp_session.specs.Diagnostics.{diagnostics, reason_text, reason_of};
 ghost use Rattle.lsp_session.specs.Steps.{bad_token_if, diagnostic_of, error_at};
 
 use doc_text::{Encoding, Position, Range, Text};
@@ -21,8 +21,8 @@ fn reason_of(kind: Kind) -> Option<Reason>
     }
 }
 
-fn message_of(reason: Reason) -> &'static str
-    ensures { result.now ≡ message_of reason }
+fn reason_text(reason: Reason) -> &'static str
+    ensures { result.now ≡ reason_text reason }
 {
     match reason {
         Reason::Character => "illegal character",
@@ -84,7 +84,7 @@ fn push_error(
         range: Range { start, end },
         severity: Severity::Error,
         code: 201,
-        message: message_of(token.reason),
+        message: reason_text(token.reason),
     })?;
     Ok(())
 }

@@ -7,15 +7,15 @@ use doc_text::Text;
 use std::alloc::AllocError;
 use std::collections::BTreeMap;
 
-/// An open document, as the editor names it.
+// An open document, as the editor names it.
 #[derive(Drop)]
-pub struct Document {
-    pub uri: String,
-    pub version: i64,
-    pub text: Text,
+pub(crate) struct Document {
+    pub(crate) uri: String,
+    pub(crate) version: i64,
+    pub(crate) text: Text,
 }
 
-/// The open documents by their paths.
+// The open documents by their paths.
 pub(crate) type Documents = BTreeMap<String, Document>;
 
 // Puts a document under its path, in the place of one that is there.

@@ -7,9 +7,9 @@ pub enum Phase {
     Uninitialized,
     /// The server answers.
     Running,
-    /// Behind the request `shutdown`: only `exit` counts.
+    /// After the request `shutdown`: only `exit` counts.
     Shut,
-    /// Behind the notification `exit`: every message is dropped.
+    /// After the notification `exit`: every message is dropped.
     Exited {
         /// Whether `shutdown` came before it.
         after_shutdown: bool,

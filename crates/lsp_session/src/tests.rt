@@ -136,6 +136,15 @@ fn says_what_waits(rt: HostRuntime) -> Result<(), Fail> {
     let replies = core.advance()?;
     assert_eq!(rt; replies.len(), 1);
     assert!(rt; !core.waits());
+    // Messages that waited are answered in order, each on the text of its moment.
+    for body in [OPEN, DIAGNOSTIC, OPEN_GOOD, DIAGNOSTIC] {
+        core.message(body.as_bytes())?;
+    }
+    let replies = core.advance()?;
+    assert_eq!(rt; replies.len(), 2);
+    for (reply, wanted) in replies.iter().zip([REPORT, NO_REPORT]) {
+        assert_eq!(rt; reply.as_bytes(), wanted.as_bytes());
+    }
     assert_eq!(rt; CoreFault::Memory.code(), 803);
     assert_eq!(rt; ServeFault::Read.code(), 801);
     Ok(())

@@ -1,0 +1,7 @@
+// What the definitions of the session say, beside what the code meets.
+ghost use Rattle.lsp_session.specs.Stream.{NothingFollowsAnExit};
+
+/// A law. After an exit the session stays as it is: later messages change nothing and get no reply.
+pub fn nothing_follows_an_exit()
+    ensures { NothingFollowsAnExit }
+{}
