@@ -8,6 +8,7 @@ mod MemoryReads
 mod Parts
 mod Splits
 mod StreamLemmas
-mod Rows
+mod WorkedStreams
 mod Grammar
 mod Ends
+mod WrittenFrames

@@ -7,7 +7,7 @@ use Rattle.lsp_frame.specs.Header.{is_whole_header, body_length}
 use Rattle.lsp_frame.specs.declared.fault.FrameFault.{FrameFault}
 use Rattle.lsp_frame.specs.declared.fault.FrameFault.TheVariants.{Truncated}
 use Rattle.lsp_frame.specs.Stream.{least_below, header_len, max_header, without_header, StreamEnd, BadFrame, FirstFrame, Whole, NoFrame, first_frame, behind_header, frames, with_body}
-use Rattle.lsp_frame.specs.Turns.{InTurn, IsFrame, AreFrames}
+use Rattle.lsp_frame.specs.StreamLaws.{InTurn, IsFrame, AreFrames}
 use Rattle.lsp_frame.proofs.Headers.{NoneBelow, NoneWhole, header_len-at}
 use Rattle.lsp_frame.proofs.StreamLemmas.{first_frame-shorter, least_below-passes, whole-cases, frames-whole, frames-end}
 use Rattle.lsp_frame.proofs.Fronts.{first_frame-some, whole}

@@ -1,5 +1,5 @@
 -- How often a device has failed.
-use Rattle.std.specs.Prelude.{ℕ, ◌+◌, ◌^◌, ◌-◌, ◌≤◌, ◌⊎◌, ◌&&◌, List, length, nat_lt, ◌==◌, if◌then◌else◌, Result, Ok, Err}
+use Rattle.std.specs.Prelude.{◌≡◌, ℕ, ◌+◌, ◌^◌, ◌-◌, ◌≤◌, ◌⊎◌, ◌&&◌, List, length, nat_lt, ◌==◌, if◌then◌else◌, Result, Ok, Err}
 use Rattle.lsp_frame.specs.declared.counts.Counts.{Counts}
 use Rattle.lsp_frame.specs.declared.device.Fail.{Fail}
 use Rattle.lsp_frame.specs.declared.device.Fail.TheVariants.{Error, Interrupted}
@@ -41,6 +41,10 @@ after_write c (Err fail) bytes = after_fail c fail
 pub record NoneFell (old new : Counts) : Type 0 where
   pub errors : old.errors ≤ new.errors
   pub interruptions : old.interruptions ≤ new.interruptions
+
+-- no error came since then
+abbrev pub NoError : Counts → Counts → Type 0
+NoError old new = new.errors ≡ old.errors
 
 -- the total rose by n, or is at `u64::MAX`, which counts as risen
 abbrev pub RoseBy : ℕ → ℕ → ℕ → Type 0

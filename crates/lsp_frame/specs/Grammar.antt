@@ -1,5 +1,5 @@
 -- The grammar of a header part: lines, each with its end, and an empty line.
-use Rattle.std.specs.Prelude.{◌≡◌, ℕ, ◌+◌, ◌<◌, ◌≤◌, List, [], ◌∷◌, ◌++◌, length, take, get_or, Some}
+use Rattle.std.specs.Prelude.{◌≡◌, ℕ, ◌+◌, ◌<◌, ◌≤◌, List, [], ◌∷◌, ◌++◌, length, take, get_or, Some, ⊤}
 use Rattle.std.specs.List.{flat_map}
 use Rattle.lsp_frame.specs.Header.{line_end, header_lines}
 use Rattle.lsp_frame.specs.Stream.{max_header, header_len}
@@ -12,7 +12,7 @@ abbrev pub IsLine : List ℕ → Type 0
 IsLine line = (0 < length line) × HasNoLineEnd line
 
 abbrev pub AreLines : List (List ℕ) → Type 0
-AreLines [] = Unit {0}
+AreLines [] = ⊤
 AreLines (line ∷ lines) = IsLine line × AreLines lines
 
 -- the header part that these lines make

@@ -17,8 +17,8 @@ abbrev pub ◌>>=◌ : {A B : Type 0} → Result A FrameFault → (A → Result 
 abbrev pub line_end : List ℕ
 line_end = 13 ∷ 10 ∷ []
 
--- The bytes are a whole header part, whose closing empty line comes last: they end with `\r\n\r\n`, or begin
--- with `\r\n`.
+-- The test of a header part at the front of a stream: the front of some length that passes, where no shorter one
+-- does, is the header part. It ends with `\r\n\r\n`, or begins with `\r\n`.
 abbrev pub is_whole_header : List ℕ → Bool
 is_whole_header bytes = starts_with nat_eq bytes line_end || ends_with nat_eq bytes (line_end ++ line_end)
 

@@ -3,7 +3,7 @@ pub mod Fault
 pub mod Header
 pub mod Grammar
 pub mod Stream
-pub mod Turns
+pub mod StreamLaws
 pub mod Devices
 pub mod FrameReader
 pub mod Reading

@@ -1,6 +1,6 @@
 -- What `read_frame` answers of a stream, and what it leaves of it.
 use Rattle.std.specs.Prelude.{◌≡◌, ℕ, List, [], Option, Some, Result, Ok, Err, ⊤}
-use Rattle.lsp_frame.specs.Counts.{HasFailed}
+use Rattle.lsp_frame.specs.Counts.{NoError, HasFailed}
 use Rattle.lsp_frame.specs.Stream.{StreamEnd, Whole, NoFrame, InputEnd, BadFrame, first_frame, frames, with_body, no_frames, left_behind}
 use Rattle.lsp_frame.specs.declared.counts.Counts.{Counts}
 use Rattle.lsp_frame.specs.declared.reader.Frame.{Frame}
@@ -37,3 +37,8 @@ Answers bytes left (Err fault) = Shows bytes left fault
 abbrev pub HasCause : Counts → Counts → FrameFault → Type 0
 HasCause old new Read = HasFailed old new
 HasCause old new fault = ⊤
+
+-- an error of the source is answered at once: beside every other fault none came
+abbrev pub NoErrorUnlessRead : Counts → Counts → FrameFault → Type 0
+NoErrorUnlessRead old new Read = ⊤
+NoErrorUnlessRead old new fault = NoError old new

@@ -1,9 +1,13 @@
 // How often a device has failed.
-ghost use Rattle.std.specs.Prelude.{◌≡◌};
+ghost use Rattle.std.specs.Prelude.{◌≡◌, ◌↔◌};
+ghost use Rattle.std.specs.IoError.{error_kind};
 ghost use Rattle.lsp_frame.specs.Counts.{no_counts, one_more, after_success, after_error, after_interruption, after_fail};
 
 use crate::device::Fail;
 use std::io::{self, ErrorKind};
+
+// How often in a row a device may be interrupted.
+pub(crate) const MAX_INTERRUPTIONS: u32 = 1_000_000;
 
 /// How often a device has failed so far. Each number stops at `u64::MAX`.
 #[derive(Clone, Copy, Debug, PartialEq, Eq)]
@@ -63,7 +67,8 @@ impl Counts {
 
     // Counts an error of std, and says what it is for a device: only an interrupted call may be made again.
     pub(crate) fn add_io_error(&mut self, error: &io::Error) -> Fail
-        ensures { self.new ≡ after_fail self.old result }
+        ensures counts { self.new ≡ after_fail self.old result }
+        ensures kind { (result ≡ Fail.Interrupted) ↔ (error_kind error.now ≡ ErrorKind.Interrupted) }
     {
         if error.kind() == ErrorKind::Interrupted {
             self.add_interruption();

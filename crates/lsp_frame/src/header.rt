@@ -97,7 +97,7 @@ fn is_line_end(first: u8, second: u8) -> bool
 }
 
 // The place of the first `\r\n`.
-fn line_end(bytes: &[u8]) -> Option<usize>
+fn first_line_end(bytes: &[u8]) -> Option<usize>
     ensures { EndsLine bytes.now result }
 {
     for i in 1..bytes.len() {
@@ -113,7 +113,7 @@ fn first_line(bytes: &[u8]) -> (&[u8], &[u8])
     ensures shorter { length result.0.now + length result.1.now ≤ length bytes.now }
     ensures lines { header_lines bytes.now ≡ up_to_empty result.0.now (header_lines result.1.now) }
 {
-    match line_end(bytes) {
+    match first_line_end(bytes) {
         Some(end) => (&bytes[..end], &bytes[end + 2..]),
         None => (bytes, &bytes[bytes.len()..]),
     }

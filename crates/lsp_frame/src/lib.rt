@@ -22,7 +22,7 @@ pub use counts::Counts;
 pub use device::{ByteSink, ByteSource, Fail};
 pub use fault::{FrameFault, WriteFault};
 pub use from_read::FromRead;
-pub use laws::{header_is_lines, stream_is_frames, stream_shows_its_fault};
+pub use laws::{header_is_lines, stream_is_frames, stream_shows_its_fault, written_is_read};
 pub use memory::{MemSink, MemSource};
 pub use reader::{Frame, FrameReader, LastAnswer};
 pub use to_write::ToWrite;

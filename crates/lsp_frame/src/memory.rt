@@ -20,12 +20,15 @@ pub struct MemSource {
 }
 
 impl MemSource {
+    ghost use Rattle.lsp_frame.specs.Devices.{SourceIsSet};
+
     /// A source that gives at most `piece` bytes at a time, whose first calls are so many interruptions. Behind its
     /// bytes it fails at each call where `fails` is true, and else is at its end.
     pub fn new(bytes: Vec<u8>, piece: usize, interruptions: u64, fails: bool) -> Self
         requires { 0 < piece }
         ensures left { ⟦<MemSource as ByteSource>⟧.left result ≡ Some bytes.items }
         ensures counts { ⟦<MemSource as ByteSource>⟧.counts result ≡ no_counts }
+        ensures settings { SourceIsSet result piece interruptions fails }
     {
         MemSource {
             bytes,
@@ -78,6 +81,8 @@ pub struct MemSink {
 }
 
 impl MemSink {
+    ghost use Rattle.lsp_frame.specs.Devices.{SinkIsSet};
+
     /// An empty sink with room for so many bytes. It takes at most `piece` bytes at a time, and its first calls
     /// are so many interruptions. Behind its room it answers 0 where `zero` is true, and else fails.
     ///
@@ -92,6 +97,7 @@ impl MemSink {
         requires { 0 < piece }
         ensures written { IfOk result (λ sink. ⟦<MemSink as ByteSink>⟧.written sink ≡ Some []) }
         ensures counts { IfOk result (λ sink. ⟦<MemSink as ByteSink>⟧.counts sink ≡ no_counts) }
+        ensures settings { IfOk result (λ sink. SinkIsSet sink room piece interruptions zero) }
     {
         Ok(MemSink {
             bytes: Vec::with_capacity(alloc, room)?,

@@ -1,8 +1,8 @@
 // Reads the frames of a source, one after the other.
-ghost use Rattle.std.specs.Prelude.{◌≡◌, IfErr, IfSome};
-ghost use Rattle.lsp_frame.specs.Counts.{NoneFell};
+ghost use Rattle.std.specs.Prelude.{◌≡◌, IfErr, IfSome, MatchResult};
+ghost use Rattle.lsp_frame.specs.Counts.{NoneFell, NoError};
 ghost use Rattle.lsp_frame.specs.FrameReader.{source_of, last_answer, IsOpen, repeated, kept};
-ghost use Rattle.lsp_frame.specs.Reading.{HasCause, Answers};
+ghost use Rattle.lsp_frame.specs.Reading.{HasCause, NoErrorUnlessRead, Answers};
 
 use crate::device::ByteSource;
 use crate::fault::FrameFault;
@@ -91,6 +91,9 @@ impl<S> FrameReader<S> {
 
         // `Read` is answered first where the source failed in the call.
         ensures cause { IsOpen self.old → IfErr result (HasCause (S.counts (source_of self.old)) (S.counts (source_of self.new))) }
+
+        // An error of the source is answered at once, by `Read`: with a frame, the end or another fault none came.
+        ensures calm { IsOpen self.old → MatchResult result (λ _. NoError (S.counts (source_of self.old)) (S.counts (source_of self.new))) (NoErrorUnlessRead (S.counts (source_of self.old)) (S.counts (source_of self.new))) }
         ensures counts { NoneFell (S.counts (source_of self.old)) (S.counts (source_of self.new)) }
     {
         match self.answered {

@@ -2,19 +2,17 @@
 ghost use Rattle.std.specs.Prelude.{◌≡◌, ◌<◌, IfErr, IfOk, OnErr, OnOk, [], ◌∷◌, ◌++◌, IfSome, MatchResult};
 ghost use Rattle.std.specs.Io.{ReadsAtMost};
 ghost use Rattle.std.specs.Io.KnownBytes.{ReadConsumes, Keeps};
-ghost use Rattle.lsp_frame.specs.Counts.{NoneFell, HasFailed};
+ghost use Rattle.lsp_frame.specs.Counts.{NoneFell, NoError, HasFailed};
 ghost use Rattle.lsp_frame.specs.Header.{is_whole_header};
-ghost use Rattle.lsp_frame.specs.Reading.{HasCause, Answers};
+ghost use Rattle.lsp_frame.specs.Reading.{HasCause, NoErrorUnlessRead, Answers};
 ghost use Rattle.lsp_frame.specs.Steps.{TakesByte, TakesSome, TakesHeader, TakesBody, IsOutside};
 
+use crate::counts::MAX_INTERRUPTIONS;
 use crate::device::{ByteSource, Fail};
 use crate::fault::FrameFault;
 use crate::header::body_length;
 use crate::reader::Frame;
 use std::alloc::Global;
-
-// How often in a row a source may be interrupted.
-const MAX_INTERRUPTIONS: u32 = 1_000_000;
 
 // The longest header part, in bytes.
 const MAX_HEADER: usize = 8192;
@@ -29,6 +27,7 @@ fn read_some<S: ByteSource>(source: &mut S, buffer: &mut [u8]) -> Result<usize, 
     ensures counts { NoneFell (S.counts source.old) (S.counts source.new) }
     ensures fault { IfErr result (λ f. f ≡ FrameFault.Read) }
     ensures cause { OnErr result (HasFailed (S.counts source.old) (S.counts source.new)) }
+    ensures calm { OnOk result (NoError (S.counts source.old) (S.counts source.new)) }
 {
     for _turn in 0..MAX_INTERRUPTIONS {
         match source.read(buffer) {
@@ -46,6 +45,7 @@ fn read_byte<S: ByteSource>(source: &mut S) -> Result<Option<u8>, FrameFault>
     ensures counts { NoneFell (S.counts source.old) (S.counts source.new) }
     ensures fault { IfErr result (λ f. f ≡ FrameFault.Read) }
     ensures cause { OnErr result (HasFailed (S.counts source.old) (S.counts source.new)) }
+    ensures calm { OnOk result (NoError (S.counts source.old) (S.counts source.new)) }
 {
     let mut byte = [0u8];
     match read_some(source, &mut byte)? {
@@ -76,6 +76,7 @@ fn read_header<S: ByteSource>(alloc: Global, source: &mut S) -> Result<Option<Ve
     ensures bytes { IfSome (S.left source.old) (λ bytes. TakesHeader bytes (S.left source.new) result) }
     ensures counts { NoneFell (S.counts source.old) (S.counts source.new) }
     ensures cause { IfErr result (HasCause (S.counts source.old) (S.counts source.new)) }
+    ensures calm { MatchResult result (λ _. NoError (S.counts source.old) (S.counts source.new)) (NoErrorUnlessRead (S.counts source.old) (S.counts source.new)) }
 {
     let mut header = Vec::new(alloc);
     for _taken in 0..MAX_HEADER {
@@ -104,6 +105,7 @@ fn read_onto<S: ByteSource>(
     ensures counts { NoneFell (S.counts source.old) (S.counts source.new) }
     ensures fault { IfErr result IsOutside }
     ensures cause { IfErr result (HasCause (S.counts source.old) (S.counts source.new)) }
+    ensures calm { MatchResult result (λ _. NoError (S.counts source.old) (S.counts source.new)) (NoErrorUnlessRead (S.counts source.old) (S.counts source.new)) }
 {
     let mut piece = [0u8; PIECE];
     let most = room.min(PIECE);
@@ -123,6 +125,7 @@ fn read_body<S: ByteSource>(
     ensures bytes { IfSome (S.left source.old) (λ bytes. TakesBody bytes length (S.left source.new) result) }
     ensures counts { NoneFell (S.counts source.old) (S.counts source.new) }
     ensures cause { IfErr result (HasCause (S.counts source.old) (S.counts source.new)) }
+    ensures calm { MatchResult result (λ _. NoError (S.counts source.old) (S.counts source.new)) (NoErrorUnlessRead (S.counts source.old) (S.counts source.new)) }
 {
     let mut body = Vec::new(alloc);
     'reads: while body.len() < length {
@@ -139,6 +142,7 @@ pub(crate) fn next_frame<S: ByteSource>(alloc: Global, source: &mut S) -> Result
     ensures bytes { IfSome (S.left source.old) (λ bytes. Answers bytes (S.left source.new) result) }
     ensures counts { NoneFell (S.counts source.old) (S.counts source.new) }
     ensures cause { IfErr result (HasCause (S.counts source.old) (S.counts source.new)) }
+    ensures calm { MatchResult result (λ _. NoError (S.counts source.old) (S.counts source.new)) (NoErrorUnlessRead (S.counts source.old) (S.counts source.new)) }
 {
     let Some(header) = read_header(alloc, source)? else {
         return Ok(Frame::End);

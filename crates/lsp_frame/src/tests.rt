@@ -2,6 +2,8 @@
 // protocol's.
 ghost use Rattle.std.specs.Prelude.{◌<◌};
 
+mod devices;
+
 use super::*;
 use std::alloc::{AllocError, Global};
 use std::process::Abort;
@@ -10,7 +12,19 @@ use std::test::Fail;
 const INITIALIZE: &[u8] =
     b"Content-Length: 107\r\n\r\n{\"jsonrpc\":\"2.0\",\"id\":1,\"method\":\"initialize\",\"params\":{\"capabilities\":{\"textDocument\":{\"diagnostic\":{}}}}}";
 
+const OPEN: &[u8] =
+    b"Content-Length: 171\r\n\r\n{\"jsonrpc\":\"2.0\",\"method\":\"textDocument/didOpen\",\"params\":{\"textDocument\":{\"uri\":\"file:///w/a.proto\",\"languageId\":\"proto\",\"version\":1,\"text\":\"syntax = \\\"proto3\\\";\\n#\\n\"}}}";
+
+const DIAGNOSTIC: &[u8] =
+    b"Content-Length: 113\r\n\r\n{\"jsonrpc\":\"2.0\",\"id\":2,\"method\":\"textDocument/diagnostic\",\"params\":{\"textDocument\":{\"uri\":\"file:///w/a.proto\"}}}";
+
+const SHUTDOWN: &[u8] =
+    b"Content-Length: 44\r\n\r\n{\"jsonrpc\":\"2.0\",\"id\":3,\"method\":\"shutdown\"}";
+
 const EXIT: &[u8] = b"Content-Length: 33\r\n\r\n{\"jsonrpc\":\"2.0\",\"method\":\"exit\"}";
+
+const SYMBOLS: &[u8] =
+    b"Content-Length: 76\r\n\r\n{\"jsonrpc\":\"2.0\",\"id\":\"q\",\"method\":\"workspace/symbol\",\"params\":{\"query\":\"\"}}";
 
 // A reader of the bytes, in pieces, that is interrupted five times first.
 fn reader_of(
@@ -25,8 +39,27 @@ fn reader_of(
     Ok(FrameReader::new(alloc, MemSource::new(bytes, piece, 5, fails)))
 }
 
-// The bytes hold frames with these bodies, and then end by that number, 0 for the end of the input, which is
-// answered again.
+// The reader answers a frame with this body.
+fn expect_body(rt: &impl Abort, reader: &mut FrameReader<MemSource>, body: &[u8]) {
+    match reader.read_frame() {
+        Ok(Frame::Body(read)) => assert_eq!(rt; read.as_slice(), body),
+        Ok(Frame::End) => assert!(rt; false, "an early end"),
+        Err(fault) => assert!(rt; false, "an early fault {fault}"),
+    }
+}
+
+// The reader ends by that number, 0 for the end of the input, and answers it again.
+fn expect_end(rt: &impl Abort, reader: &mut FrameReader<MemSource>, end: u32) {
+    for _again in 0..2u8 {
+        match reader.read_frame() {
+            Ok(Frame::Body(_)) => assert!(rt; false, "a frame too many"),
+            Ok(Frame::End) => assert_eq!(rt; 0, end),
+            Err(fault) => assert_eq!(rt; fault.code(), end),
+        }
+    }
+}
+
+// The bytes hold frames with these bodies, and then end by that number, in whatever pieces they come.
 fn expect_frames(
     rt: &impl Abort,
     alloc: Global,
@@ -37,19 +70,9 @@ fn expect_frames(
     for piece in 1..40usize {
         let mut reader = reader_of(alloc, bytes, piece, false)?;
         for body in bodies {
-            match reader.read_frame() {
-                Ok(Frame::Body(read)) => assert_eq!(rt; read.as_slice(), *body),
-                Ok(Frame::End) => assert!(rt; false, "an early end"),
-                Err(fault) => assert!(rt; false, "an early fault {fault}"),
-            }
+            expect_body(rt, &mut reader, body);
         }
-        for _again in 0..2u8 {
-            match reader.read_frame() {
-                Ok(Frame::Body(_)) => assert!(rt; false, "a frame too many"),
-                Ok(Frame::End) => assert_eq!(rt; 0, end),
-                Err(fault) => assert_eq!(rt; fault.code(), end),
-            }
-        }
+        expect_end(rt, &mut reader, end);
     }
     Ok(())
 }
@@ -74,6 +97,47 @@ fn reads_frames(rt: HostRuntime) -> Result<(), Fail> {
     let mut cut = Vec::from_slice(alloc, INITIALIZE)?;
     cut.extend_from_slice(b"Content-Length: 10\r\n\r\nabc")?;
     expect_frames(&rt, alloc, cut.as_slice(), &[&INITIALIZE[23..]], 106)?;
+    Ok(())
+}
+
+#[test]
+fn reads_a_session(rt: HostRuntime) -> Result<(), Fail> {
+    let mut session = Vec::new(rt.alloc());
+    for frame in [INITIALIZE, OPEN, DIAGNOSTIC, SHUTDOWN, EXIT] {
+        session.extend_from_slice(frame)?;
+    }
+    let bodies = [
+        &INITIALIZE[23..],
+        &OPEN[23..],
+        &DIAGNOSTIC[23..],
+        &SHUTDOWN[22..],
+        &EXIT[22..],
+    ];
+    expect_frames(&rt, rt.alloc(), session.as_slice(), &bodies, 0)?;
+    // A request before the first one of a session, and the end of it.
+    let mut early = Vec::from_slice(rt.alloc(), SYMBOLS)?;
+    early.extend_from_slice(EXIT)?;
+    let bodies = [&SYMBOLS[22..], &EXIT[22..]];
+    expect_frames(&rt, rt.alloc(), early.as_slice(), &bodies, 0)?;
+    Ok(())
+}
+
+#[test]
+fn reads_a_long_body(rt: HostRuntime) -> Result<(), Fail> {
+    // It is asked for in more than one piece, whatever the source gives at once.
+    let mut body = Vec::new(rt.alloc());
+    for i in 0..10_000u32 {
+        body.push((i % 251) as u8)?;
+    }
+    let mut stream = Vec::from_slice(rt.alloc(), b"Content-Length: 10000\r\n\r\n")?;
+    stream.extend_from_slice(body.as_slice())?;
+    stream.extend_from_slice(EXIT)?;
+    for thousands in 1..21usize {
+        let mut reader = reader_of(rt.alloc(), stream.as_slice(), 1_000 * thousands, false)?;
+        expect_body(&rt, &mut reader, body.as_slice());
+        expect_body(&rt, &mut reader, &EXIT[22..]);
+        expect_end(&rt, &mut reader, 0);
+    }
     Ok(())
 }
 
@@ -107,13 +171,15 @@ fn numbers_bad_frames(rt: HostRuntime) -> Result<(), Fail> {
     Ok(())
 }
 
-// `X: `, so many letters and, where it is closed, an empty line.
+// A reader of some frames, `X: `, so many letters and, where it is closed, an empty line.
 fn letters(
     alloc: Global,
+    frames: &[u8],
     count: usize,
     closed: bool,
 ) -> Result<FrameReader<MemSource>, AllocError> {
-    let mut bytes = Vec::from_slice(alloc, b"X: ")?;
+    let mut bytes = Vec::from_slice(alloc, frames)?;
+    bytes.extend_from_slice(b"X: ")?;
     for _letter in 0..count {
         bytes.push(b'a')?;
     }
@@ -132,10 +198,12 @@ fn measures_the_header(rt: HostRuntime) -> Result<(), Fail> {
         (8188, false, 106),
         (8189, false, 105),
     ] {
-        match letters(rt.alloc(), count, closed)?.read_frame() {
-            Ok(_) => assert!(rt; false, "a frame of {count} letters"),
-            Err(fault) => assert_eq!(rt; fault.code(), code),
-        }
+        let mut alone = letters(rt.alloc(), b"", count, closed)?;
+        expect_end(&rt, &mut alone, code);
+        // They are counted from behind the frame before.
+        let mut behind = letters(rt.alloc(), INITIALIZE, count, closed)?;
+        expect_body(&rt, &mut behind, &INITIALIZE[23..]);
+        expect_end(&rt, &mut behind, code);
     }
     Ok(())
 }
@@ -145,12 +213,7 @@ fn numbers_failed_reads(rt: HostRuntime) -> Result<(), Fail> {
     // The source fails behind the first n bytes of a frame: only the whole frame is answered.
     for count in 0..EXIT.len() {
         let mut reader = reader_of(rt.alloc(), &EXIT[..count], 7, true)?;
-        for _again in 0..2u8 {
-            match reader.read_frame() {
-                Ok(_) => assert!(rt; false, "a frame of {count} bytes"),
-                Err(fault) => assert_eq!(rt; fault.code(), 107),
-            }
-        }
+        expect_end(&rt, &mut reader, 107);
     }
     for (interruptions, code) in [(999_999, 0), (1_000_000, 107)] {
         let bytes = Vec::from_slice(rt.alloc(), EXIT)?;
@@ -186,8 +249,14 @@ fn writes_frames(rt: HostRuntime) -> Result<(), Fail> {
         write_frame(&mut sink, b"{}")?;
         assert_eq!(rt; sink.written(), frame.as_slice());
     }
-    let mut sink = ToWrite::new(Vec::new(rt.alloc()));
-    write_frame(&mut sink, &EXIT[22..])?;
+    // The bytes reach a writer of std, each frame behind the one before.
+    let mut sent = Vec::new(rt.alloc());
+    write_frame(&mut ToWrite::new(&mut sent), &EXIT[22..])?;
+    assert_eq!(rt; sent.as_slice(), EXIT);
+    write_frame(&mut ToWrite::new(&mut sent), &OPEN[23..])?;
+    let mut frames = Vec::from_slice(rt.alloc(), EXIT)?;
+    frames.extend_from_slice(OPEN)?;
+    assert_eq!(rt; sent.as_slice(), frames.as_slice());
     Ok(())
 }
 

@@ -1,16 +1,14 @@
 // Writes frames to a sink of bytes.
 ghost use Rattle.std.specs.Prelude.{◌≡◌, ◌+◌, ◌^◌, ◌<◌, ◌≤◌, length, IfOk, IfErr, OnOk, OnErr};
 ghost use Rattle.std.specs.Io.KnownBytes.{Appends, WriteAppends};
-ghost use Rattle.lsp_frame.specs.Counts.{NoneFell, HasFailed};
+ghost use Rattle.lsp_frame.specs.Counts.{NoneFell, NoError, HasFailed};
 ghost use Rattle.lsp_frame.specs.Steps.{SendsPrefixAfter};
 ghost use Rattle.lsp_frame.specs.Writing.{frame_of, SendsPrefix};
 
+use crate::counts::MAX_INTERRUPTIONS;
 use crate::device::{ByteSink, Fail};
 use crate::fault::WriteFault;
 use itoa::Buffer;
-
-// How often in a row a writer may be interrupted.
-const MAX_INTERRUPTIONS: u32 = 1_000_000;
 
 // One write of some bytes, made again after an interruption. An answer of 0 is an error.
 fn write_some<K: ByteSink>(writer: &mut K, bytes: &[u8]) -> Result<usize, Fail>
@@ -19,6 +17,7 @@ fn write_some<K: ByteSink>(writer: &mut K, bytes: &[u8]) -> Result<usize, Fail>
     ensures bytes { WriteAppends (K.written writer.old) (K.written writer.new) result bytes.now }
     ensures counts { NoneFell (K.counts writer.old) (K.counts writer.new) }
     ensures cause { OnErr result (HasFailed (K.counts writer.old) (K.counts writer.new)) }
+    ensures calm { OnOk result (NoError (K.counts writer.old) (K.counts writer.new)) }
 {
     for _turn in 0..MAX_INTERRUPTIONS {
         match writer.write(bytes) {
@@ -39,6 +38,7 @@ fn write_part<K: ByteSink>(writer: &mut K, part: &[u8], before: u64) -> Result<u
     ensures err { IfErr result (λ fault. SendsPrefixAfter (K.written writer.old) (K.written writer.new) part.now before fault.written) }
     ensures counts { NoneFell (K.counts writer.old) (K.counts writer.new) }
     ensures cause { OnErr result (HasFailed (K.counts writer.old) (K.counts writer.new)) }
+    ensures calm { OnOk result (NoError (K.counts writer.old) (K.counts writer.new)) }
 {
     let mut sent = 0;
     'writes: while sent < part.len() {
@@ -66,6 +66,9 @@ pub fn write_frame<K: ByteSink>(writer: &mut K, body: &[u8]) -> Result<(), Write
 
     // It fails only where the writer failed in the call.
     ensures cause { OnErr result (HasFailed (K.counts writer.old) (K.counts writer.new)) }
+
+    // It ends well only where no error came in the call.
+    ensures calm { OnOk result (NoError (K.counts writer.old) (K.counts writer.new)) }
     ensures counts { NoneFell (K.counts writer.old) (K.counts writer.new) }
 {
     let mut digits = Buffer::new();

@@ -33,6 +33,7 @@ loop-taken-preserved g c =
     let open_still = ap is_whole_header (sym grown ∙ sym c.as_slice.ensures.value) ∙ sym c.is_whole_header.ensures ∙ c.if-is_whole_header.false in
     record {
       none_fell = NoneFell-trans at.invariant.none_fell c.read_byte.ensures.counts;
+      no_error = c.in_ok-byte.ensures.calm ∙ at.invariant.no_error;
       len = ap length grown ∙ length-append at.header.items (c.in-Some.byte ∷ []) ∙ ap (λ n. n + 1) at.invariant.len;
       consumed = rw grown (Consumes-trans _ _ _ at.header.items (c.in-Some.byte ∷ []) at.invariant.consumed (rw c.in-Some.is at c.in_ok-byte.ensures.bytes));
       none_whole = rw grown (NoneWhole-push at.header.items at._taken c.in-Some.byte at.invariant.len at.invariant.none_whole open_still);

@@ -1,6 +1,6 @@
 use Rattle.std.proofs.Common.{◌≡◌, ◌+◌, ◌-◌, get_or, arith, ap, ◌∙◌}
 use Rattle.lsp_frame.proofs.Lines.{between_line_ends-at, no_end_at_all}
-use Rattle.lsp_frame.proofs.header.line_end.Goals as goal
+use Rattle.lsp_frame.proofs.header.first_line_end.Goals as goal
 
 pub returns-then-is_line_end : goal.returns-then-is_line_end
 returns-then-is_line_end c =

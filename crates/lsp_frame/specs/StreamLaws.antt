@@ -1,8 +1,10 @@
 -- A stream as a whole: frames one after the other, and a rest that none begins.
-use Rattle.std.specs.Prelude.{◌≡◌, ℕ, ◌≤◌, List, [], ◌∷◌, ◌++◌}
+use Rattle.std.specs.Prelude.{◌≡◌, ℕ, ◌≤◌, List, [], ◌∷◌, ◌++◌, length}
 use Rattle.lsp_frame.specs.declared.fault.FrameFault.{FrameFault}
 use Rattle.lsp_frame.specs.Fault.{code_of}
+use Rattle.lsp_frame.specs.Header.{max_body}
 use Rattle.lsp_frame.specs.Stream.{StreamEnd, BadFrame, Whole, NoFrame, first_frame, frames}
+use Rattle.lsp_frame.specs.Writing.{frame_of}
 
 -- a whole frame with this body and nothing behind it
 abbrev pub IsFrame : List ℕ → List ℕ → Type 0
@@ -33,3 +35,7 @@ TurnsAreFrames = (bytes : List ℕ) (bodies : List (List ℕ)) (end : StreamEnd)
 -- a stream that ends with a fault ends with one of 101 to 106: its bytes show no other
 abbrev pub StreamsShowTheirFaults : Type 0
 StreamsShowTheirFaults = (bytes : List ℕ) (fault : FrameFault) → (frames bytes).end ≡ BadFrame fault → (101 ≤ code_of fault) × (code_of fault ≤ 106)
+
+-- what is written of a body, at most the longest, is a whole frame with this body
+abbrev pub WrittenFramesAreWhole : Type 0
+WrittenFramesAreWhole = (body : List ℕ) → length body ≤ max_body → IsFrame (frame_of body) body
