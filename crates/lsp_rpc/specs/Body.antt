@@ -3,7 +3,7 @@ use Rattle.std.specs.Prelude.{ℕ, ℤ, List, Bool, if◌then◌else◌, Option,
 use Rattle.std.specs.Str.{is_utf8}
 use Rattle.serde_json.specs.Data.{Data, null}
 use Rattle.serde_json.specs.Read.{read}
-use Rattle.serde_json.specs.Find.{get, as_number, as_str, as_i64}
+use Rattle.serde_json.specs.Find.{get, as_number, as_str, as_i64, as_u64}
 
 -- the value of a body, which is UTF-8 and one JSON text
 abbrev pub json_of : List ℕ → Option Data
@@ -24,3 +24,7 @@ text_member name d = option_and_then as_str (get name d)
 -- the member, if it is a whole number from -2^63 to 2^63 - 1
 abbrev pub integer_member : List ℕ → Data → Option ℤ
 integer_member name d = option_and_then as_i64 (option_and_then as_number (get name d))
+
+-- the member, if it is a whole number from 0 to 2^64 - 1
+abbrev pub natural_member : List ℕ → Data → Option ℕ
+natural_member name d = option_and_then as_u64 (option_and_then as_number (get name d))

@@ -2,7 +2,7 @@
 use Rattle.std.specs.Prelude.{ℕ, List, [], ◌∷◌, Option, codes, bytes_eq}
 use Rattle.std.specs.Map.{lookup}
 use Rattle.lsp_rpc.specs.declared.method.Method.{Method}
-use Rattle.lsp_rpc.specs.declared.method.Method.TheVariants.{Initialize, Shutdown, Exit, DidOpen, DocumentDiagnostic}
+use Rattle.lsp_rpc.specs.declared.method.Method.TheVariants.{Initialize, Shutdown, Exit, DidOpen, DidChange, DidSave, DidClose, DocumentDiagnostic}
 
 -- each name with its method: the server's lifecycle, then its documents
 abbrev pub methods : List (List ℕ × Method)
@@ -11,6 +11,9 @@ methods =
     ∷ (codes "shutdown", Shutdown)
     ∷ (codes "exit", Exit)
     ∷ (codes "textDocument/didOpen", DidOpen)
+    ∷ (codes "textDocument/didChange", DidChange)
+    ∷ (codes "textDocument/didSave", DidSave)
+    ∷ (codes "textDocument/didClose", DidClose)
     ∷ (codes "textDocument/diagnostic", DocumentDiagnostic)
     ∷ []
 

@@ -2,7 +2,7 @@
 //! What the bodies of a language server's messages mean, and what the bodies of its replies are:
 //! JSON-RPC 2.0, with the methods, params and results of the Language Server Protocol 3.17.
 //!
-//! `Message::parse` reads a body, `DidOpenParams` and `document_uri` its params, and `report_reply` and
+//! `Message::parse` reads a body, `DidOpenParams`, `DidChangeParams` and `document_uri` its params, and `report_reply` and
 //! its kin write a reply, token by token straight into its bytes. Nothing here knows of sessions.
 
 mod body;
@@ -25,7 +25,7 @@ pub use laws::{
 };
 pub use message::Message;
 pub use method::Method;
-pub use params::{DidOpenParams, document_uri};
+pub use params::{DidChangeParams, DidOpenParams, VersionedDocument, document_uri};
 pub use reply::{error_reply, initialize_reply, null_reply, report_reply};
 
 #[cfg(test)]

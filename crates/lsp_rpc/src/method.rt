@@ -13,6 +13,12 @@ pub enum Method {
     Exit,
     /// `textDocument/didOpen`
     DidOpen,
+    /// `textDocument/didChange`
+    DidChange,
+    /// `textDocument/didSave`
+    DidSave,
+    /// `textDocument/didClose`
+    DidClose,
     /// `textDocument/diagnostic`
     DocumentDiagnostic,
 }
@@ -27,6 +33,9 @@ impl Method {
             "shutdown" => Some(Method::Shutdown),
             "exit" => Some(Method::Exit),
             "textDocument/didOpen" => Some(Method::DidOpen),
+            "textDocument/didChange" => Some(Method::DidChange),
+            "textDocument/didSave" => Some(Method::DidSave),
+            "textDocument/didClose" => Some(Method::DidClose),
             "textDocument/diagnostic" => Some(Method::DocumentDiagnostic),
             _ => None,
         }

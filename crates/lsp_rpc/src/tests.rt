@@ -1,7 +1,7 @@
 // Messages by what they are, and replies byte for byte.
 use crate::{
-    Diagnostic, DidOpenParams, ErrorCode, Id, Message, Severity, document_uri, error_reply,
-    initialize_reply, null_reply, report_reply,
+    Diagnostic, DidChangeParams, DidOpenParams, ErrorCode, Id, Message, Severity, document_uri,
+    error_reply, initialize_reply, null_reply, report_reply,
 };
 use doc_text::{Position, Range};
 use serde_json::Value;
@@ -317,5 +317,83 @@ fn writes_reports(rt: HostRuntime) -> Result<(), Fail> {
     let both =
         "{\"id\":2,\"jsonrpc\":\"2.0\",\"result\":{\"items\":[{\"code\":317,\"message\":\"not a proto3 file\",\"range\":{\"end\":{\"character\":1,\"line\":1},\"start\":{\"character\":0,\"line\":1}},\"severity\":3,\"source\":\"protols\"},{\"code\":201,\"message\":\"illegal character\",\"range\":{\"end\":{\"character\":1,\"line\":1},\"start\":{\"character\":0,\"line\":1}},\"severity\":1,\"source\":\"protols\"}],\"kind\":\"full\"}}";
     assert!(rt; report_reply(alloc, &two, &[proto2, illegal])?.as_slice() == both.as_bytes());
+    Ok(())
+}
+
+// The changes in the params of a notification, each as its range and its text, behind its URI and version.
+fn changes_shown(alloc: Global, params: &str) -> Result<String, AllocError> {
+    let Ok(value) = Value::from_slice(alloc, params.as_bytes()) else {
+        return String::from_str(alloc, "no JSON");
+    };
+    let Some(changed) = DidChangeParams::from_value(alloc, value)? else {
+        return String::from_str(alloc, "none");
+    };
+    let uri = changed.document.uri.as_str();
+    let version = changed.document.version;
+    let mut shown = format!(in alloc; "{uri} {version}")?;
+    for change in &changed.changes {
+        let text = change.text.as_str();
+        let one = match change.range {
+            Some(Range { start, end }) => format!(in alloc;
+                " {}:{}-{}:{} {text}",
+                start.line, start.character, end.line, end.character
+            )?,
+            None => format!(in alloc; " all {text}")?,
+        };
+        shown.push_str(one.as_str())?;
+    }
+    Ok(shown)
+}
+
+#[test]
+fn reads_changes(rt: HostRuntime) -> Result<(), Fail> {
+    for (changes, want) in [
+        ("[]", "u 2"),
+        ("[{\"text\":\"a\"}]", "u 2 all a"),
+        (
+            "[{\"text\":\"a\"},{\"range\":{\"start\":{\"line\":1,\"character\":2},\"end\":{\"line\":3,\"character\":18446744073709551615}},\"rangeLength\":null,\"text\":\"b\"}]",
+            "u 2 all a 1:2-3:18446744073709551615 b",
+        ),
+        // One bad change spoils them all, and so does a list that is none.
+        ("[{\"text\":\"a\"},{\"range\":null,\"text\":\"b\"}]", "none"),
+        (
+            "[{\"range\":{\"start\":{\"line\":0,\"character\":0}},\"text\":\"b\"}]",
+            "none",
+        ),
+        (
+            "[{\"range\":{\"start\":{\"line\":0,\"character\":0},\"end\":{\"line\":0,\"character\":-1}},\"text\":\"b\"}]",
+            "none",
+        ),
+        (
+            "[{\"range\":{\"start\":{\"line\":0,\"character\":0},\"end\":{\"line\":0,\"character\":1.0}},\"text\":\"b\"}]",
+            "none",
+        ),
+        ("[{\"text\":1}]", "none"),
+        ("[{}]", "none"),
+        ("[[]]", "none"),
+        ("{}", "none"),
+        ("null", "none"),
+    ] {
+        let params = format!(in rt.alloc();
+            "{{\"contentChanges\":{changes},\"textDocument\":{{\"uri\":\"u\",\"version\":2}}}}"
+        )?;
+        let found = changes_shown(rt.alloc(), params.as_str())?;
+        assert!(rt; found.as_str() == want, "{changes} is read as {found}");
+    }
+    for params in [
+        "{\"contentChanges\":[]}",
+        "{\"contentChanges\":[],\"textDocument\":{\"uri\":\"u\"}}",
+        "{\"contentChanges\":[],\"textDocument\":{\"uri\":\"u\",\"version\":null}}",
+        "{\"contentChanges\":[],\"textDocument\":{\"uri\":\"u\",\"version\":9223372036854775808}}",
+        "{\"contentChanges\":[],\"textDocument\":{\"version\":1}}",
+        "{\"textDocument\":{\"uri\":\"u\",\"version\":1}}",
+        "[]",
+        "null",
+    ] {
+        assert!(rt;
+            changes_shown(rt.alloc(), params)?.as_str() == "none",
+            "{params} is read"
+        );
+    }
     Ok(())
 }
