@@ -1,0 +1,143 @@
+-- Lemmas on cutting a body into items.
+use Rattle.std.proofs.Common.{◌≡◌, ℕ, zero, suc, ◌+◌, ◌<◌, ◌-◌, Bool, true, false, ◌||◌, List, [], ◌∷◌, ◌++◌, length, get_or, take, drop, refl, sym, ap, ◌∙◌, arith, cond, ◌≤◌, subst, length-drop}
+use Rattle.std.proofs.lemmas.List.{take_more, drop_more, drop_all, take_rest}
+use Rattle.std.specs.Prelude.{◌==◌, ◌&&◌, count_by}
+use Rattle.std.proofs.lemmas.Bool.{eqb-true}
+use Rattle.std.proofs.lemmas.List.Sums.{count_by_more_yes, count_by_more_no, count_by-le-length}
+use Rattle.proto_syntax.specs.declared.lexeme.Word.TheVariants as w
+use Rattle.proto_syntax.specs.declared.lexeme.Lexeme.{Lexeme}
+use Rattle.proto_syntax.specs.declared.lexeme.Body.{Body}
+use Rattle.proto_syntax.specs.declared.lexeme.Word.{Word}
+use Rattle.proto_syntax.specs.Lexeme.{is}
+use Rattle.proto_syntax.specs.Skips.{opened, closed, IsSkip}
+use Rattle.proto_syntax.proofs.SkipLemmas.{count-add}
+use Rattle.proto_syntax.specs.Cut.{ends_in, ends, items_from, is_finished, is_stray, is_at_depth_0, is_file}
+
+-- the default of an index
+abbrev pub no_lexeme : Lexeme
+no_lexeme = record { word = w.Message; span = record { start = 0; «end» = 0 } }
+
+-- the last token decides
+pub ends_in-last : (word : Word) (ts : List Lexeme) (d : Lexeme) → 0 < length ts → ends_in word ts ≡ is word (get_or ts (length ts - 1) d)
+ends_in-last word [] d h = absurd (omega arith)
+ends_in-last word (t ∷ []) d h = refl
+ends_in-last word (t ∷ u ∷ ts) d h =
+    let e : length (t ∷ u ∷ ts) - 1 ≡ suc (length (u ∷ ts) - 1) = omega arith in
+    ends_in-last word (u ∷ ts) d (omega arith) ∙ ap (λ n. is word (get_or (t ∷ u ∷ ts) n d)) (sym e)
+
+-- where an item doesn't end, it grows by a token
+pub items_from-grown : (body : Body) (ts : List Lexeme) (i : ℕ) (d : Lexeme) → i < length ts → ends body (take (i + 1) ts) (drop (i + 1) ts) ≡ false → items_from body (take i ts) (drop i ts) ≡ items_from body (take (i + 1) ts) (drop (i + 1) ts)
+unfolding items_from
+items_from-grown body ts i d h e =
+    let more : take (i + 1) ts ≡ take i ts ++ get_or ts i d ∷ [] = take_more ts i d h in
+    rw (drop_more ts i d h) (rw (← more) (rw e refl))
+
+-- where it ends, the next one begins
+pub items_from-ended : (body : Body) (ts : List Lexeme) (i : ℕ) (d : Lexeme) → i < length ts → ends body (take (i + 1) ts) (drop (i + 1) ts) ≡ true → items_from body (take i ts) (drop i ts) ≡ take (i + 1) ts ∷ items_from body [] (drop (i + 1) ts)
+unfolding items_from
+items_from-ended body ts i d h e =
+    let more : take (i + 1) ts ≡ take i ts ++ get_or ts i d ∷ [] = take_more ts i d h in
+    rw (drop_more ts i d h) (rw (← more) (rw e refl))
+
+some_true : (a b : Bool) → (a || b || true) ≡ false → ⊥
+some_true true true e = cc
+some_true true false e = cc
+some_true false true e = cc
+some_true false false e = cc
+
+-- an item that doesn't end has tokens behind it
+pub ends-rest : (body : Body) (item rest : List Lexeme) → ends body item rest ≡ false → 0 < length rest
+ends-rest body item [] e = absurd (some_true (is_finished body item) (is_stray body item) e)
+ends-rest body item (t ∷ ts) e = omega arith
+
+-- the rest of the tokens, as `&ts[i..]` has it
+pub as_rest : (body : Body) (ts : List Lexeme) (i : ℕ) (b : Bool) → ends body (take i ts) (take (length ts - i) (drop i ts)) ≡ b → ends body (take i ts) (drop i ts) ≡ b
+as_rest body ts i b e = rw take_rest at e
+
+level_no : (a b : ℕ) → b < a → (a == b) ≡ false
+level_no a b h = tested (a == b) refl
+  where
+    tested : (c : Bool) → (a == b) ≡ c → (a == b) ≡ false
+    tested true e = absurd (omega (arith, eqb-true a b e))
+    tested false e = e
+
+-- inside braces nothing ends, as long as tokens follow
+pub ends-inside : (body : Body) (item rest : List Lexeme) → count_by (is w.CloseBrace) item < count_by (is w.OpenBrace) item → 0 < length rest → ends body item rest ≡ false
+ends-inside body item [] h m = absurd (omega arith)
+ends-inside body item (t ∷ rest) h m =
+    let level : is_at_depth_0 item ≡ false = level_no _ _ h in
+    rw level (rw (stray item h) (none (is_file body) (is w.CloseBrace t)))
+  where
+    none : (a b : Bool) → (a && b && false) ≡ false
+    none true true = refl
+    none true false = refl
+    none false true = refl
+    none false false = refl
+
+    not_close : (u : Lexeme) → count_by (is w.CloseBrace) (u ∷ []) < count_by (is w.OpenBrace) (u ∷ []) → (c : Bool) → is w.CloseBrace u ≡ c → (is_file body && c) ≡ false
+    not_close u g true e =
+        let one : count_by (is w.CloseBrace) (u ∷ []) ≡ 1 = rw e refl in
+        absurd (omega (arith, count_by-le-length (is w.OpenBrace) (u ∷ [])))
+    not_close u g false e = elim (is_file body) as (λ f. (f && false) ≡ false) [ true ↦ refl | false ↦ refl ]
+
+    stray : (ts : List Lexeme) → count_by (is w.CloseBrace) ts < count_by (is w.OpenBrace) ts → is_stray body ts ≡ false
+    stray [] g = refl
+    stray (u ∷ []) g = not_close u g (is w.CloseBrace u) refl
+    stray (u ∷ v ∷ us) g = refl
+
+-- one more token is counted
+pub count-step : (word : Word) (ts : List Lexeme) (i : ℕ) (d : Lexeme) (n m : ℕ) → i < length ts → n ≡ count_by (is word) (take i ts) → m ≡ cond (is word (get_or ts i d)) 1 0 → n + m ≡ count_by (is word) (take (i + 1) ts)
+count-step word ts i d n m h e f = tested (is word (get_or ts i d)) refl
+  where
+    tested : (b : Bool) → is word (get_or ts i d) ≡ b → n + m ≡ count_by (is word) (take (i + 1) ts)
+    tested true g = let one : m ≡ 1 = f ∙ ap (λ b. cond b 1 0) g in omega (arith, e, count_by_more_yes (is word) ts i d h g)
+    tested false g = let none : m ≡ 0 = f ∙ ap (λ b. cond b 1 0) g in omega (arith, e, count_by_more_no (is word) ts i d h g)
+
+-- Where the next n tokens stand inside braces and others follow, no item ends there.
+pub items_from-inside : (body : Body) (ts : List Lexeme) (i n : ℕ) → i + n < length ts → ((m : ℕ) → 0 < m → m ≤ n → closed (take (i + m) ts) < opened (take (i + m) ts))
+    → items_from body (take i ts) (drop i ts) ≡ items_from body (take (i + n) ts) (drop (i + n) ts)
+items_from-inside body ts i zero lt f = let e : i + 0 ≡ i = omega arith in rw e refl
+items_from-inside body ts i (suc n) lt f =
+    let e : i + n + 1 ≡ i + suc n = omega arith in
+    let here : closed (take (i + n + 1) ts) < opened (take (i + n + 1) ts) = subst (λ k. closed (take k ts) < opened (take k ts)) (sym e) (f (suc n) (omega arith) (omega arith)) in
+    let inside : ends body (take (i + n + 1) ts) (drop (i + n + 1) ts) ≡ false = ends-inside body (take (i + n + 1) ts) (drop (i + n + 1) ts) here (omega (arith, length-drop (i + n + 1) ts)) in
+    items_from-inside body ts i n (omega arith) (λ m some few. f m some (omega arith))
+    ∙ items_from-grown body ts (i + n) no_lexeme (omega arith) inside
+    ∙ ap (λ k. items_from body (take k ts) (drop k ts)) e
+
+-- the braces of one more token
+pub depth-step : (ts : List Lexeme) (i : ℕ) (d : Lexeme) (a b n m : ℕ) → i < length ts → a + closed (take i ts) ≡ b + opened (take i ts)
+    → n ≡ cond (is w.OpenBrace (get_or ts i d)) 1 0 → m ≡ cond (is w.CloseBrace (get_or ts i d)) 1 0 → a + n + closed (take (i + 1) ts) ≡ b + m + opened (take (i + 1) ts)
+depth-step ts i d a b n m h e f g =
+    let o : opened (take i ts) + n ≡ opened (take (i + 1) ts) = count-step w.OpenBrace ts i d (opened (take i ts)) n h refl f in
+    let c : closed (take i ts) + m ≡ closed (take (i + 1) ts) = count-step w.CloseBrace ts i d (closed (take i ts)) m h refl g in
+    omega (arith, e, o, c)
+
+-- inside the braces that begin at a place, behind an item so far that closes no more than it opens
+pub skipped-inside : (ts : List Lexeme) (i n a b : ℕ) → a + closed (take i ts) ≡ b + opened (take i ts) → b ≤ a → IsSkip (drop i ts) n → i < length ts
+    → (m : ℕ) → 0 < m → m ≤ n → i + m ≤ length ts → closed (take (i + m) ts) < opened (take (i + m) ts)
+skipped-inside ts i n a b e le skip lt m some few within =
+    let here : closed (take m (drop i ts)) < opened (take m (drop i ts)) = skip.inside m some few (omega (arith, length-drop i ts)) in
+    omega (arith, e, le, here, count-add w.CloseBrace i m ts, count-add w.OpenBrace i m ts)
+
+-- where a brace isn't closed, the item is all that is left
+pub items_from-open : (body : Body) (ts : List Lexeme) (i n a b : ℕ) → a + closed (take i ts) ≡ b + opened (take i ts) → b ≤ a → IsSkip (drop i ts) n → i < length ts → length ts - i ≤ n
+    → items_from body (take i ts) (drop i ts) ≡ take (length ts) ts ∷ items_from body [] (drop (length ts) ts)
+items_from-open body ts i n a b e le skip lt far =
+    let last : i + (length ts - i - 1) ≡ length ts - 1 = omega arith in
+    let whole : length ts - 1 + 1 ≡ length ts = omega arith in
+    let at_end : ends body (take (length ts - 1 + 1) ts) (drop (length ts - 1 + 1) ts) ≡ true = rw (whole, drop_all (length ts) ts (omega arith)) (either (is_finished body (take (length ts) ts)) (is_stray body (take (length ts) ts))) in
+    items_from-inside body ts i (length ts - i - 1) (omega arith) (λ m some few. skipped-inside ts i n a b e le skip lt m some (omega arith) (omega arith))
+    ∙ ap (λ k. items_from body (take k ts) (drop k ts)) last
+    ∙ items_from-ended body ts (length ts - 1) no_lexeme (omega arith) at_end
+    ∙ ap (λ k. take k ts ∷ items_from body [] (drop k ts)) whole
+  where
+    either : (a b : Bool) → (a || b || true) ≡ true
+    either true true = refl
+    either true false = refl
+    either false true = refl
+    either false false = refl
+
+-- and it isn't a whole statement or block
+pub unfinished : (body : Body) (ts : List Lexeme) → closed ts < opened ts → false ≡ is_finished body ts
+unfinished body ts h = let depth : is_at_depth_0 ts ≡ false = level_no _ _ h in rw depth refl

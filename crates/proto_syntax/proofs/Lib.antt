@@ -1,0 +1,12 @@
+pub mod GrammarLemmas
+pub mod SuffixLemmas
+pub mod SkipLemmas
+pub mod TokenLemmas
+pub mod CutLemmas
+pub mod ReadLemmas
+pub mod PartLemmas
+pub mod BracketLemmas
+pub mod FormLemmas
+pub mod ItemsLaw
+pub mod SizeLaw
+pub mod BracketsLaw

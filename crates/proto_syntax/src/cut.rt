@@ -1,0 +1,126 @@
+// Cuts the tokens of a body into items.
+
+ghost use Rattle.std.specs.Prelude.{◌≡◌, ◌<◌, ◌≤◌, ◌∷◌, length, take, drop, if◌then◌else◌};
+ghost use Rattle.proto_syntax.specs.Lexeme as lexeme;
+ghost use Rattle.proto_syntax.specs.Cut as spec;
+
+use crate::lexeme::{Body, Lexeme, Word};
+use crate::skips::Matched;
+
+pub fn ends_in(word: Word, item: &[Lexeme]) -> bool
+    ensures { result ≡ spec.ends_in word item.now }
+{
+    match item.last() {
+        Some(last) => last.is(word),
+        None => false,
+    }
+}
+
+fn begins_block(body: Body, item: &[Lexeme]) -> bool
+    ensures { result ≡ spec.begins_block body item.now }
+{
+    match item.first() {
+        Some(first) => body != Body::Enum && first.word.is_block_word(),
+        None => false,
+    }
+}
+
+// Whether the item is a whole statement or block. The flag says whether the item's braces are in pairs.
+fn is_finished(body: Body, item: &[Lexeme], is_at_depth_0: bool) -> bool
+    requires { is_at_depth_0 ≡ spec.is_at_depth_0 item.now }
+    ensures { result ≡ spec.is_finished body item.now }
+{
+    is_at_depth_0
+        && (ends_in(Word::Semicolon, item)
+            || (begins_block(body, item) && ends_in(Word::CloseBrace, item)))
+}
+
+pub fn is_stray(body: Body, item: &[Lexeme]) -> bool
+    ensures { result ≡ spec.is_stray body item.now }
+{
+    match item {
+        [only] => body == Body::File && only.is(Word::CloseBrace),
+        _ => false,
+    }
+}
+
+fn is_cut_off(body: Body, item: &[Lexeme], rest: &[Lexeme], is_at_depth_0: bool) -> bool
+    requires { is_at_depth_0 ≡ spec.is_at_depth_0 item.now }
+    ensures { result ≡ spec.is_cut_off body item.now rest.now }
+{
+    match rest.first() {
+        Some(next) => body == Body::File && next.is(Word::CloseBrace) && is_at_depth_0,
+        None => true,
+    }
+}
+
+// Whether the item ends where the rest begins.
+fn ends(
+    body: Body,
+    item: &[Lexeme],
+    rest: &[Lexeme],
+    is_at_depth_0: bool,
+    is_finished: bool,
+) -> bool
+    requires depth { is_at_depth_0 ≡ spec.is_at_depth_0 item.now }
+    requires finished { is_finished ≡ spec.is_finished body item.now }
+    ensures { result ≡ spec.ends body item.now rest.now }
+{
+    is_finished || is_stray(body, item) || is_cut_off(body, item, rest, is_at_depth_0)
+}
+
+// The first item of a body.
+#[derive(Clone, Copy, Debug, PartialEq, Eq)]
+pub struct Cut {
+    // How many tokens it has.
+    pub len: usize,
+    // Whether it is a whole statement or block.
+    pub is_finished: bool,
+}
+
+fn counted(token: Lexeme, word: Word) -> usize
+    ensures value { result ≡ (if lexeme.is word token then 1 else 0) }
+    ensures small { result ≤ 1 }
+{
+    if token.is(word) { 1 } else { 0 }
+}
+
+// The first item of the tokens. What stands between braces is skipped.
+pub fn next_item(body: Body, rest: Matched<'_>) -> Cut
+    requires { 0 < length rest.tokens.now }
+    ensures some { 0 < result.len }
+    ensures within { result.len ≤ length rest.entry.tokens.now }
+    ensures first { spec.items body rest.entry.tokens.now ≡ take result.len rest.entry.tokens.now ∷ spec.items body (drop result.len rest.entry.tokens.now) }
+    ensures finished { result.is_finished ≡ spec.is_finished body (take result.len rest.entry.tokens.now) }
+{
+    let ts = rest.tokens;
+    let mut opened = 0usize;
+    let mut closed = 0usize;
+    let mut end = 0;
+    'places: loop {
+        if closed <= opened && ts[end].is(Word::OpenBrace) {
+            // Nothing ends inside braces.
+            let inner = rest.skips[end].min(ts.len() - end);
+            if inner == ts.len() - end {
+                return Cut {
+                    len: ts.len(),
+                    is_finished: false,
+                };
+            }
+            opened += 1;
+            end += inner;
+            continue;
+        }
+        opened += counted(ts[end], Word::OpenBrace);
+        closed += counted(ts[end], Word::CloseBrace);
+        end += 1;
+        let is_at_depth_0 = opened == closed;
+        let is_finished = is_finished(body, &ts[..end], is_at_depth_0);
+        if ends(body, &ts[..end], &ts[end..], is_at_depth_0, is_finished) {
+            return Cut {
+                len: end,
+                is_finished,
+            };
+        }
+    }
+}

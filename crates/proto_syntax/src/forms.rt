@@ -1,0 +1,554 @@
+// The forms of statements. The first word of an item and the body that it stands in choose the form.
+
+ghost use Rattle.std.specs.Prelude.{◌≡◌, ◌≤◌, IfOk, option_map, length};
+ghost use Rattle.proto_syntax.specs.Forms as spec;
+ghost use Rattle.proto_syntax.specs.Parts.{Reads};
+
+use crate::cut::ends_in;
+use crate::lexeme::{Body, Lexeme, Word};
+use crate::node::{
+    Field, Header, Literal, MapField, Node, RangeEnd, ReservedList, ReservedRange, Span,
+};
+use crate::parts::{Cursor, Unread, between, is_content, last_of, span_of};
+use sqlite_items::Items;
+use std::alloc::{AllocError, Global};
+
+// ---- fields
+
+#[tactic(auto, unfolding(crate::specs::Forms::plain_field))]
+fn plain_field(
+    alloc: Global,
+    tokens: &mut Cursor<'_>,
+    span: Span,
+    labels: Items<Span>,
+) -> Result<Node, Unread>
+    ensures { Reads (spec.plain_field span labels tokens.old.rest.now) result tokens.new.rest.now }
+{
+    let type_name = tokens.type_name(alloc)?;
+    let (name, number) = tokens.numbered(alloc)?;
+    Ok(Node::Field(Field {
+        span,
+        labels,
+        type_name,
+        name,
+        number,
+    }))
+}
+
+#[tactic(auto, unfolding(crate::specs::Forms::map_field))]
+fn map_field(
+    alloc: Global,
+    tokens: &mut Cursor<'_>,
+    span: Span,
+    labels: Items<Span>,
+) -> Result<Node, Unread>
+    ensures { Reads (spec.map_field span labels tokens.old.rest.now) result tokens.new.rest.now }
+{
+    tokens.word(Word::Map)?;
+    tokens.word(Word::Less)?;
+    let key = tokens.type_name(alloc)?;
+    tokens.word(Word::Comma)?;
+    let value = tokens.type_name(alloc)?;
+    tokens.word(Word::Greater)?;
+    let (name, number) = tokens.numbered(alloc)?;
+    Ok(Node::MapField(MapField {
+        span,
+        labels,
+        key,
+        value,
+        name,
+        number,
+    }))
+}
+
+#[tactic(auto, unfolding(crate::specs::Forms::field))]
+fn field(alloc: Global, tokens: &mut Cursor<'_>, span: Span) -> Result<Node, Unread>
+    ensures { Reads (spec.field span tokens.old.rest.now) result tokens.new.rest.now }
+{
+    let labels = tokens.labels(alloc)?;
+    plain_field(alloc, tokens, span, labels)
+}
+
+fn begins_map(ts: &[Lexeme]) -> bool
+    ensures { result ≡ spec.begins_map ts.now }
+{
+    match ts {
+        [first, second, ..] => first.is(Word::Map) && second.is(Word::Less),
+        _ => false,
+    }
+}
+
+#[tactic(auto, unfolding(crate::specs::Forms::field_or_map))]
+fn field_or_map(alloc: Global, tokens: &mut Cursor<'_>, span: Span) -> Result<Node, Unread>
+    ensures { Reads (spec.field_or_map span tokens.old.rest.now) result tokens.new.rest.now }
+{
+    let labels = tokens.labels(alloc)?;
+    if begins_map(tokens.rest) {
+        map_field(alloc, tokens, span, labels)
+    } else {
+        plain_field(alloc, tokens, span, labels)
+    }
+}
+
+// ---- the other statements
+
+#[tactic(auto, unfolding(crate::specs::Forms::syntax_form))]
+fn syntax_form(alloc: Global, tokens: &mut Cursor<'_>, span: Span) -> Result<Node, Unread>
+    ensures { Reads (spec.syntax_form span tokens.old.rest.now) result tokens.new.rest.now }
+{
+    tokens.word(Word::Syntax)?;
+    tokens.word(Word::Equals)?;
+    let value = tokens.literal(alloc)?;
+    tokens.word(Word::Semicolon)?;
+    Ok(Node::Syntax { span, value })
+}
+
+#[tactic(auto, unfolding(crate::specs::Forms::import_form))]
+fn import_form(alloc: Global, tokens: &mut Cursor<'_>, span: Span) -> Result<Node, Unread>
+    ensures { Reads (spec.import_form span tokens.old.rest.now) result tokens.new.rest.now }
+{
+    tokens.word(Word::Import)?;
+    let is_public = !tokens.eat(Word::Weak) && tokens.eat(Word::Public);
+    let path = tokens.literal(alloc)?;
+    tokens.word(Word::Semicolon)?;
+    Ok(Node::Import {
+        span,
+        is_public,
+        path,
+    })
+}
+
+#[tactic(auto, unfolding(crate::specs::Forms::package_form))]
+fn package_form(alloc: Global, tokens: &mut Cursor<'_>, span: Span) -> Result<Node, Unread>
+    ensures { Reads (spec.package_form span tokens.old.rest.now) result tokens.new.rest.now }
+{
+    tokens.word(Word::Package)?;
+    let components = tokens.full(alloc)?;
+    tokens.word(Word::Semicolon)?;
+    let Some(first) = components.as_slice().first() else {
+        return Err(Unread::NoForm);
+    };
+    Ok(Node::Package {
+        span,
+        name: between(*first, last_of(*first, components.as_slice())),
+        components,
+    })
+}
+
+#[tactic(auto, unfolding(crate::specs::Forms::value_form))]
+fn value_form(alloc: Global, tokens: &mut Cursor<'_>, span: Span) -> Result<Node, Unread>
+    ensures { Reads (spec.value_form span tokens.old.rest.now) result tokens.new.rest.now }
+{
+    let name = tokens.identifier()?;
+    tokens.word(Word::Equals)?;
+    let number = tokens.number(true)?;
+    tokens.options_end(alloc)?;
+    Ok(Node::Value { span, name, number })
+}
+
+#[tactic(auto, unfolding(crate::specs::Forms::empty_form))]
+fn empty_form(tokens: &mut Cursor<'_>, span: Span) -> Result<Node, Unread>
+    ensures { Reads (spec.empty_form span tokens.old.rest.now) result tokens.new.rest.now }
+{
+    tokens.word(Word::Semicolon)?;
+    Ok(Node::Empty { span })
+}
+
+#[tactic(auto, unfolding(crate::specs::Forms::range_end))]
+fn range_end(tokens: &mut Cursor<'_>, may_be_negative: bool) -> Result<RangeEnd, Unread>
+    ensures reads { Reads (spec.range_end may_be_negative tokens.old.rest.now) result tokens.new.rest.now }
+    ensures left { length tokens.new.rest.now ≤ length tokens.old.rest.now }
+{
+    if tokens.begins(Word::Max) {
+        return Ok(RangeEnd::Max(tokens.word(Word::Max)?));
+    }
+    Ok(RangeEnd::Number(tokens.number(may_be_negative)?))
+}
+
+#[tactic(auto, unfolding(crate::specs::Forms::range))]
+fn range(tokens: &mut Cursor<'_>, may_be_negative: bool) -> Result<ReservedRange, Unread>
+    ensures reads { Reads (spec.range may_be_negative tokens.old.rest.now) result tokens.new.rest.now }
+    ensures left { length tokens.new.rest.now ≤ length tokens.old.rest.now }
+{
+    let low = tokens.number(may_be_negative)?;
+    let high = if tokens.eat(Word::To) {
+        range_end(tokens, may_be_negative)?
+    } else {
+        RangeEnd::Same
+    };
+    Ok(ReservedRange { low, high })
+}
+
+fn ranges(
+    alloc: Global,
+    tokens: &mut Cursor<'_>,
+    may_be_negative: bool,
+) -> Result<Items<ReservedRange>, Unread>
+    ensures { Reads (spec.ranges may_be_negative tokens.old.rest.now) result tokens.new.rest.now }
+{
+    let mut found = Items::new(alloc);
+    'parts: loop {
+        let item = range(tokens, may_be_negative)?;
+        found.push(item)?;
+        if !tokens.eat(Word::Comma) {
+            return Ok(found);
+        }
+    }
+}
+
+fn literals(alloc: Global, tokens: &mut Cursor<'_>) -> Result<Items<Literal>, Unread>
+    ensures { Reads (spec.literals tokens.old.rest.now) result tokens.new.rest.now }
+{
+    let mut found = Items::new(alloc);
+    'parts: loop {
+        let item = tokens.literal(alloc)?;
+        found.push(item)?;
+        if !tokens.eat(Word::Comma) {
+            return Ok(found);
+        }
+    }
+}
+
+#[tactic(auto, unfolding(crate::specs::Forms::reserved_list))]
+fn reserved_list(
+    alloc: Global,
+    tokens: &mut Cursor<'_>,
+    may_be_negative: bool,
+) -> Result<ReservedList, Unread>
+    ensures { Reads (spec.reserved_list may_be_negative tokens.old.rest.now) result tokens.new.rest.now }
+{
+    if tokens.begins(Word::PlainText) {
+        Ok(ReservedList::Names(literals(alloc, tokens)?))
+    } else {
+        Ok(ReservedList::Ranges(ranges(alloc, tokens, may_be_negative)?))
+    }
+}
+
+#[tactic(auto, unfolding(crate::specs::Forms::reserved_form))]
+fn reserved_form(
+    alloc: Global,
+    tokens: &mut Cursor<'_>,
+    span: Span,
+    may_be_negative: bool,
+) -> Result<Node, Unread>
+    ensures { Reads (spec.reserved_form may_be_negative span tokens.old.rest.now) result tokens.new.rest.now }
+{
+    tokens.word(Word::Reserved)?;
+    let list = reserved_list(alloc, tokens, may_be_negative)?;
+    tokens.word(Word::Semicolon)?;
+    Ok(Node::Reserved { span, list })
+}
+
+// An identifier, or a name in parentheses.
+#[tactic(auto, unfolding(crate::specs::Forms::option_part))]
+fn option_part(alloc: Global, tokens: &mut Cursor<'_>) -> Result<Span, Unread>
+    ensures reads { Reads (spec.option_part tokens.old.rest.now) result tokens.new.rest.now }
+    ensures left { length tokens.new.rest.now ≤ length tokens.old.rest.now }
+{
+    if !tokens.begins(Word::OpenParen) {
+        return tokens.identifier();
+    }
+    tokens.word(Word::OpenParen)?;
+    tokens.eat(Word::Dot);
+    tokens.full(alloc)?;
+    tokens.word(Word::CloseParen)
+}
+
+fn option_parts(alloc: Global, tokens: &mut Cursor<'_>) -> Result<Items<Span>, Unread>
+    ensures { Reads (spec.option_parts tokens.old.rest.now) result tokens.new.rest.now }
+{
+    let mut found = Items::new(alloc);
+    'parts: loop {
+        let item = option_part(alloc, tokens)?;
+        found.push(item)?;
+        if !tokens.eat(Word::Dot) {
+            return Ok(found);
+        }
+    }
+}
+
+// A value, up to the `;` that ends the item.
+#[tactic(auto, unfolding(crate::specs::Forms::option_value))]
+fn option_value(alloc: Global, tokens: &mut Cursor<'_>) -> Result<Span, Unread>
+    ensures { Reads (spec.option_value tokens.old.rest.now) result tokens.new.rest.now }
+{
+    if !ends_in(Word::Semicolon, tokens.rest) {
+        return Err(Unread::NoForm);
+    }
+    let value = &tokens.rest[..tokens.rest.len().saturating_sub(1)];
+    if !is_content(alloc, value)? {
+        return Err(Unread::NoForm);
+    }
+    tokens.rest = &[];
+    Ok(span_of(value))
+}
+
+#[tactic(auto, unfolding(crate::specs::Forms::option_form))]
+fn option_form(alloc: Global, tokens: &mut Cursor<'_>, span: Span) -> Result<Node, Unread>
+    ensures { Reads (spec.option_form span tokens.old.rest.now) result tokens.new.rest.now }
+{
+    tokens.word(Word::Option)?;
+    let Some(first) = tokens.rest.first() else {
+        return Err(Unread::NoForm);
+    };
+    let parts = option_parts(alloc, tokens)?;
+    tokens.word(Word::Equals)?;
+    let value = option_value(alloc, tokens)?;
+    Ok(Node::OptionDef {
+        span,
+        name: between(first.span, last_of(first.span, parts.as_slice())),
+        value,
+    })
+}
+
+// ---- what stands before the braces of a block
+
+fn block_name(tokens: &mut Cursor<'_>, word: Word) -> Result<Span, Unread>
+    ensures { Reads (spec.block_name word tokens.old.rest.now) result tokens.new.rest.now }
+{
+    tokens.word(word)?;
+    tokens.identifier()
+}
+
+#[tactic(auto, unfolding(crate::specs::Forms::extend_header))]
+fn extend_header(alloc: Global, tokens: &mut Cursor<'_>) -> Result<Header, Unread>
+    ensures { Reads (spec.extend_header tokens.old.rest.now) result tokens.new.rest.now }
+{
+    tokens.word(Word::Extend)?;
+    Ok(Header::Extend(tokens.type_name(alloc)?))
+}
+
+#[tactic(auto, unfolding(crate::specs::Forms::rpc_header))]
+fn rpc_header(alloc: Global, tokens: &mut Cursor<'_>) -> Result<Header, Unread>
+    ensures { Reads (spec.rpc_header tokens.old.rest.now) result tokens.new.rest.now }
+{
+    tokens.word(Word::Rpc)?;
+    let name = tokens.identifier()?;
+    let request = tokens.in_parentheses(alloc)?;
+    tokens.word(Word::Returns)?;
+    let response = tokens.in_parentheses(alloc)?;
+    Ok(Header::Rpc {
+        name,
+        request,
+        response,
+    })
+}
+
+fn header_form(alloc: Global, tokens: &mut Cursor<'_>, word: Word) -> Result<Header, Unread>
+    ensures { Reads (spec.header_form word tokens.old.rest.now) result tokens.new.rest.now }
+{
+    match word {
+        Word::Message => Ok(Header::Message(block_name(tokens, word)?)),
+        Word::Enum => Ok(Header::Enum(block_name(tokens, word)?)),
+        Word::Service => Ok(Header::Service(block_name(tokens, word)?)),
+        Word::Oneof => Ok(Header::Oneof(block_name(tokens, word)?)),
+        Word::Extend => extend_header(alloc, tokens),
+        Word::Rpc => rpc_header(alloc, tokens),
+        _ => Err(Unread::NoForm),
+    }
+}
+
+// A header and its `{`.
+#[tactic(auto, unfolding(crate::specs::Forms::header_and_brace))]
+fn header_and_brace(alloc: Global, tokens: &mut Cursor<'_>) -> Result<Header, Unread>
+    ensures { Reads (spec.header_and_brace tokens.old.rest.now) result tokens.new.rest.now }
+{
+    let Some(first) = tokens.rest.first() else {
+        return Err(Unread::NoForm);
+    };
+    let header = header_form(alloc, tokens, first.word)?;
+    tokens.word(Word::OpenBrace)?;
+    Ok(header)
+}
+
+// A header and the tokens behind its `{`.
+pub fn header_and_rest(
+    alloc: Global,
+    item: &[Lexeme],
+) -> Result<Option<(Header, &[Lexeme])>, AllocError>
+    ensures { IfOk result (λ found. option_map (λ p. (p.0, p.1.now)) found ≡ spec.header_and_rest item.now) }
+{
+    let mut tokens = Cursor { rest: item };
+    match header_and_brace(alloc, &mut tokens) {
+        Ok(header) => Ok(Some((header, tokens.rest))),
+        Err(Unread::NoForm) => Ok(None),
+        Err(Unread::Memory) => Err(AllocError),
+    }
+}
+
+pub fn opens(body: Body, word: Word) -> bool
+    ensures { result ≡ spec.opens body word }
+{
+    match body {
+        Body::File => matches!(
+            word,
+            Word::Message | Word::Enum | Word::Service | Word::Extend
+        ),
+        Body::Message => matches!(
+            word,
+            Word::Message | Word::Enum | Word::Extend | Word::Oneof
+        ),
+        Body::Service => matches!(word, Word::Rpc),
+        _ => false,
+    }
+}
+
+#[tactic(auto, unfolding(crate::specs::Forms::rpc_form))]
+fn rpc_form(alloc: Global, tokens: &mut Cursor<'_>, span: Span) -> Result<Node, Unread>
+    ensures { Reads (spec.rpc_form span tokens.old.rest.now) result tokens.new.rest.now }
+{
+    let header = rpc_header(alloc, tokens)?;
+    tokens.word(Word::Semicolon)?;
+    match header {
+        Header::Rpc {
+            name,
+            request,
+            response,
+        } => Ok(Node::Rpc {
+            span,
+            name,
+            request,
+            response,
+            items: Items::new(alloc),
+        }),
+        _ => Err(Unread::NoForm),
+    }
+}
+
+// ---- the forms of each body
+
+fn file_form(alloc: Global, tokens: &mut Cursor<'_>, word: Word, span: Span) -> Result<Node, Unread>
+    ensures { Reads (spec.file_form word span tokens.old.rest.now) result tokens.new.rest.now }
+{
+    match word {
+        Word::Syntax => syntax_form(alloc, tokens, span),
+        Word::Import => import_form(alloc, tokens, span),
+        Word::Package => package_form(alloc, tokens, span),
+        Word::Option => option_form(alloc, tokens, span),
+        Word::Semicolon => empty_form(tokens, span),
+        _ => Err(Unread::NoForm),
+    }
+}
+
+fn message_form(
+    alloc: Global,
+    tokens: &mut Cursor<'_>,
+    word: Word,
+    span: Span,
+) -> Result<Node, Unread>
+    ensures { Reads (spec.message_form word span tokens.old.rest.now) result tokens.new.rest.now }
+{
+    match word {
+        Word::Message | Word::Enum | Word::Extend | Word::Oneof => Err(Unread::NoForm),
+        Word::Option => option_form(alloc, tokens, span),
+        Word::Reserved => reserved_form(alloc, tokens, span, false),
+        Word::Semicolon => empty_form(tokens, span),
+        _ => field_or_map(alloc, tokens, span),
+    }
+}
+
+fn oneof_form(
+    alloc: Global,
+    tokens: &mut Cursor<'_>,
+    word: Word,
+    span: Span,
+) -> Result<Node, Unread>
+    ensures { Reads (spec.oneof_form word span tokens.old.rest.now) result tokens.new.rest.now }
+{
+    match word {
+        Word::Option => option_form(alloc, tokens, span),
+        Word::Semicolon => empty_form(tokens, span),
+        _ => field(alloc, tokens, span),
+    }
+}
+
+fn extend_form(
+    alloc: Global,
+    tokens: &mut Cursor<'_>,
+    word: Word,
+    span: Span,
+) -> Result<Node, Unread>
+    ensures { Reads (spec.extend_form word span tokens.old.rest.now) result tokens.new.rest.now }
+{
+    match word {
+        Word::Semicolon => empty_form(tokens, span),
+        _ => field(alloc, tokens, span),
+    }
+}
+
+fn enum_form(alloc: Global, tokens: &mut Cursor<'_>, word: Word, span: Span) -> Result<Node, Unread>
+    ensures { Reads (spec.enum_form word span tokens.old.rest.now) result tokens.new.rest.now }
+{
+    match word {
+        Word::Option => option_form(alloc, tokens, span),
+        Word::Reserved => reserved_form(alloc, tokens, span, true),
+        Word::Semicolon => empty_form(tokens, span),
+        _ => value_form(alloc, tokens, span),
+    }
+}
+
+fn service_form(
+    alloc: Global,
+    tokens: &mut Cursor<'_>,
+    word: Word,
+    span: Span,
+) -> Result<Node, Unread>
+    ensures { Reads (spec.service_form word span tokens.old.rest.now) result tokens.new.rest.now }
+{
+    match word {
+        Word::Option => option_form(alloc, tokens, span),
+        Word::Rpc => rpc_form(alloc, tokens, span),
+        Word::Semicolon => empty_form(tokens, span),
+        _ => Err(Unread::NoForm),
+    }
+}
+
+fn rpc_body_form(
+    alloc: Global,
+    tokens: &mut Cursor<'_>,
+    word: Word,
+    span: Span,
+) -> Result<Node, Unread>
+    ensures { Reads (spec.rpc_body_form word span tokens.old.rest.now) result tokens.new.rest.now }
+{
+    match word {
+        Word::Option => option_form(alloc, tokens, span),
+        Word::Semicolon => empty_form(tokens, span),
+        _ => Err(Unread::NoForm),
+    }
+}
+
+fn form(
+    alloc: Global,
+    tokens: &mut Cursor<'_>,
+    body: Body,
+    word: Word,
+    span: Span,
+) -> Result<Node, Unread>
+    ensures { Reads (spec.form body word span tokens.old.rest.now) result tokens.new.rest.now }
+{
+    match body {
+        Body::File => file_form(alloc, tokens, word, span),
+        Body::Message => message_form(alloc, tokens, word, span),
+        Body::Oneof => oneof_form(alloc, tokens, word, span),
+        Body::Extend => extend_form(alloc, tokens, word, span),
+        Body::Enum => enum_form(alloc, tokens, word, span),
+        Body::Service => service_form(alloc, tokens, word, span),
+        Body::Rpc => rpc_body_form(alloc, tokens, word, span),
+    }
+}
+
+#[tactic(auto, unfolding(crate::specs::Forms::statement))]
+pub fn statement(alloc: Global, body: Body, item: &[Lexeme]) -> Result<Option<Node>, AllocError>
+    ensures { IfOk result (λ found. found ≡ spec.statement body item.now) }
+{
+    let Some(first) = item.first() else {
+        return Ok(None);
+    };
+    let mut tokens = Cursor { rest: item };
+    match form(alloc, &mut tokens, body, first.word, span_of(item)) {
+        Ok(node) if tokens.rest.is_empty() => Ok(Some(node)),
+        Ok(_) | Err(Unread::NoForm) => Ok(None),
+        Err(Unread::Memory) => Err(AllocError),
+    }
+}

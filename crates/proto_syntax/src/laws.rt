@@ -1,0 +1,38 @@
+// Laws of the definitions. Each is proved for all texts, and its function does nothing.
+ghost use Rattle.std.specs.Prelude.{◌≡◌, ◌↔◌, ◌<◌, ◌≤◌, ℕ, IsTrue, List, [], length};
+ghost use Rattle.proto_syntax.specs.Cut.{items, AreItems};
+ghost use Rattle.proto_syntax.specs.Grammar.{HeadersAreSpelled, StatementsAreSpelled};
+ghost use Rattle.proto_syntax.specs.Parts.{IsBalanced, is_balanced};
+ghost use Rattle.proto_syntax.specs.Read.{empty_tree, read, value_tree};
+ghost use Rattle.proto_syntax.specs.declared.lexeme.Body.{Body};
+ghost use Rattle.proto_syntax.specs.declared.lexeme.Lexeme.{Lexeme};
+
+/// A law: the statements of a body are its tokens joined, each up to the least place at which it ends, and no other
+/// list of them is.
+pub fn items_law()
+    ensures least { (body : Body) (ts : List Lexeme) → AreItems body ts (items body ts) }
+    ensures only { (body : Body) (ts : List Lexeme) (others : List (List Lexeme)) → AreItems body ts others → others ≡ items body ts }
+{}
+
+/// A law: the test for brackets in pairs passes exactly what the grammar of brackets in pairs has.
+pub fn brackets_law()
+    ensures { (ts : List Lexeme) → IsTrue (is_balanced ts) ↔ IsBalanced ts }
+{}
+
+/// A law: what is read as the header of a block is spelled as the grammar says, and its `{` follows.
+pub fn headers_law()
+    ensures { HeadersAreSpelled }
+{}
+
+/// A law: what is read as a statement without a block is spelled as the grammar says.
+pub fn statements_law()
+    ensures { StatementsAreSpelled }
+{}
+
+/// A law: a text of over 16,777,216 bytes has the tree of the empty text, with no statements and no faults, and each
+/// other text has the tree that is read.
+pub fn size_law()
+    ensures empty { read [] ≡ empty_tree }
+    ensures over { (text : List ℕ) → 16777216 < length text → value_tree text ≡ empty_tree }
+    ensures within { (text : List ℕ) → length text ≤ 16777216 → value_tree text ≡ read text }
+{}

@@ -1,0 +1,51 @@
+// The tree of a whole text.
+ghost use Rattle.std.specs.Prelude.{◌≡◌, All, IfOk, length};
+ghost use Rattle.proto_lex.specs.Tokens as lexer;
+ghost use Rattle.proto_syntax.specs.Lexeme.{IsWithin};
+ghost use Rattle.proto_syntax.specs.Read as spec;
+
+use crate::lexeme::Body;
+use crate::node::FileTree;
+use crate::read::body_tree;
+use crate::scan::lexemes;
+use crate::skips::{Matched, skips};
+use proto_lex::{Token, ordered_tokens};
+use sqlite_items::Items;
+use std::alloc::{AllocError, Global};
+
+// How many blocks may stand one inside the other.
+const MAX_BLOCKS: usize = 64;
+
+/// The tree of a text: its statements, by the grammar of proto3 files, and what is wrong with those that aren't
+/// read.
+///
+/// Takes the text and its tokens as `proto_lex::lex` gives them. A bad statement costs itself alone: the statements
+/// around it, and those of the block that it stands in, are read all the same.
+///
+/// # Errors
+///
+/// `AllocError` where the tree can't grow. Text and tokens stay as they are, so the call may be made again.
+pub fn parse(alloc: Global, text: &str, tokens: &[Token]) -> Result<FileTree, AllocError>
+    requires { tokens.now ≡ lexer.tokens text.now }
+    ensures { IfOk result (λ tree. tree ≡ spec.read text.now) }
+{
+    ordered_tokens();
+    tree_of(alloc, text, tokens)
+}
+
+// The tree of a text and of tokens that lie in it.
+#[tactic(auto, unfolding(crate::specs::Read::tree_of))]
+fn tree_of(alloc: Global, text: &str, tokens: &[Token]) -> Result<FileTree, AllocError>
+    requires { All (IsWithin (length text.now)) tokens.now }
+    ensures { IfOk result (λ tree. tree ≡ spec.tree_of text.now tokens.now) }
+{
+    let mut faults = Items::new(alloc);
+    let lexemes = lexemes(alloc, text.as_bytes(), tokens, &mut faults)?;
+    let skips = skips(alloc, lexemes.as_slice())?;
+    let file = Matched {
+        tokens: lexemes.as_slice(),
+        skips: skips.as_slice(),
+    };
+    let nodes = body_tree(alloc, MAX_BLOCKS, Body::File, file, &mut faults)?;
+    Ok(FileTree { nodes, faults })
+}

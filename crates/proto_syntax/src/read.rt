@@ -1,0 +1,244 @@
+// Reads the items of a body, and the bodies inside them.
+
+ghost use Rattle.std.specs.Prelude.{◌≡◌, ◌<◌, ◌≤◌, ◌-◌, ◌∷◌, ◌++◌, [], length, take, drop, IfOk, OnOk, option_map, IsTrue, ◌↔◌};
+ghost use Rattle.proto_syntax.specs.Read as spec;
+ghost use Rattle.proto_syntax.specs.Cut as cut;
+ghost use Rattle.proto_syntax.specs.Forms as forms;
+
+use crate::cut::{ends_in, is_stray, next_item};
+use crate::forms::{header_and_rest, opens, statement};
+use crate::lexeme::{Body, Lexeme, Word};
+use crate::node::{Fault, Header, Node, Problem, Span};
+use crate::parts::span_of;
+use crate::skips::Matched;
+use sqlite_items::Items;
+use std::alloc::{AllocError, Global};
+
+fn bad(problem: Problem, item: &[Lexeme], faults: &mut Items<Fault>) -> Result<(), AllocError>
+    ensures { OnOk result (faults.new ≡ faults.old ++ (spec.bad problem item.now).faults) }
+{
+    faults.push(Fault {
+        problem,
+        span: span_of(item),
+    })
+}
+
+fn block_node(span: Span, header: Header, items: Items<Node>) -> Node
+    ensures { result ≡ forms.block_node span header items }
+{
+    match header {
+        Header::Message(name) => Node::Message { span, name, items },
+        Header::Enum(name) => Node::EnumDef { span, name, items },
+        Header::Service(name) => Node::Service { span, name, items },
+        Header::Oneof(name) => Node::Oneof { span, name, items },
+        Header::Extend(target) => Node::Extend {
+            span,
+            target,
+            items,
+        },
+        Header::Rpc {
+            name,
+            request,
+            response,
+        } => Node::Rpc {
+            span,
+            name,
+            request,
+            response,
+            items,
+        },
+    }
+}
+
+fn body_of(header: &Header) -> Body
+    ensures { result ≡ forms.body_of header.now }
+{
+    match header {
+        Header::Message(_) => Body::Message,
+        Header::Enum(_) => Body::Enum,
+        Header::Service(_) => Body::Service,
+        Header::Oneof(_) => Body::Oneof,
+        Header::Extend(_) => Body::Extend,
+        Header::Rpc { .. } => Body::Rpc,
+    }
+}
+
+// Reads a finished item as a statement.
+fn statement_tree(
+    alloc: Global,
+    body: Body,
+    item: &[Lexeme],
+    nodes: &mut Items<Node>,
+    faults: &mut Items<Fault>,
+) -> Result<(), AllocError>
+    ensures nodes { OnOk result (nodes.new ≡ nodes.old ++ (spec.statement_tree item.now (forms.statement body item.now)).nodes) }
+    ensures faults { OnOk result (faults.new ≡ faults.old ++ (spec.statement_tree item.now (forms.statement body item.now)).faults) }
+{
+    match statement(alloc, body, item)? {
+        Some(node) => nodes.push(node),
+        None => bad(Problem::NotUnderstood, item, faults),
+    }
+}
+
+fn nests(alloc: Global, item: &[Lexeme]) -> Result<bool, AllocError>
+    ensures { IfOk result (λ found. found ≡ spec.nests item.now) }
+{
+    match item.first() {
+        Some(first) if is_nesting_word(first.word) => Ok(header_and_rest(alloc, item)?.is_some()),
+        _ => Ok(false),
+    }
+}
+
+fn is_nesting_word(word: Word) -> bool
+    ensures { result ≡ spec.is_nesting_word word }
+{
+    matches!(
+        word,
+        Word::Message | Word::Enum | Word::Oneof | Word::Extend
+    )
+}
+
+fn may_open(body: Body, item: &[Lexeme]) -> bool
+    ensures { result ≡ spec.may_open body item.now }
+{
+    match item.first() {
+        Some(first) => opens(body, first.word),
+        None => false,
+    }
+}
+
+// Reads a finished item inside as many blocks as are allowed.
+fn deepest_tree(
+    alloc: Global,
+    body: Body,
+    item: &[Lexeme],
+    nodes: &mut Items<Node>,
+    faults: &mut Items<Fault>,
+) -> Result<(), AllocError>
+    ensures nodes { OnOk result (nodes.new ≡ nodes.old ++ (spec.deepest_tree body item.now).nodes) }
+    ensures faults { OnOk result (faults.new ≡ faults.old ++ (spec.deepest_tree body item.now).faults) }
+{
+    if nests(alloc, item)? {
+        bad(Problem::TooDeep, item, faults)
+    } else {
+        statement_tree(alloc, body, item, nodes, faults)
+    }
+}
+
+// A header, and the tokens behind its `{` with their skips.
+fn header_and_inside(
+    alloc: Global,
+    item: Matched<'_>,
+) -> Result<Option<(Header, Matched<'_>)>, AllocError>
+    ensures { IfOk result (λ found. option_map (λ p. (p.0, p.1.tokens.now)) found ≡ forms.header_and_rest item.entry.tokens.now) }
+{
+    match header_and_rest(alloc, item.tokens)? {
+        None => Ok(None),
+        Some((header, rest)) => {
+            let (_, inside) = item.split_at(item.tokens.len() - rest.len());
+            Ok(Some((header, inside)))
+        }
+    }
+}
+
+// Reads a finished item: a block, in which this many more may open, or a statement.
+#[cycle(blocks)]
+fn form_tree(
+    alloc: Global,
+    blocks: usize,
+    body: Body,
+    item: Matched<'_>,
+    nodes: &mut Items<Node>,
+    faults: &mut Items<Fault>,
+) -> Result<(), AllocError>
+    ensures nodes { OnOk result (nodes.new ≡ nodes.old ++ (spec.form_tree (spec.body_tree blocks) body item.entry.tokens.now).nodes) }
+    ensures faults { OnOk result (faults.new ≡ faults.old ++ (spec.form_tree (spec.body_tree blocks) body item.entry.tokens.now).faults) }
+{
+    if !may_open(body, item.tokens) {
+        return statement_tree(alloc, body, item.tokens, nodes, faults);
+    }
+    match header_and_inside(alloc, item)? {
+        None => statement_tree(alloc, body, item.tokens, nodes, faults),
+        Some((header, rest)) => {
+            if !ends_in(Word::CloseBrace, rest.tokens) {
+                return bad(Problem::NotUnderstood, item.tokens, faults);
+            }
+            let (inner, _) = rest.split_at(rest.tokens.len() - 1);
+            let items = body_tree(alloc, blocks, body_of(&header), inner, faults)?;
+            nodes.push(block_node(span_of(item.tokens), header, items))
+        }
+    }
+}
+
+#[cycle(blocks)]
+fn finished_tree(
+    alloc: Global,
+    blocks: usize,
+    body: Body,
+    item: Matched<'_>,
+    nodes: &mut Items<Node>,
+    faults: &mut Items<Fault>,
+) -> Result<(), AllocError>
+    ensures nodes { OnOk result (nodes.new ≡ nodes.old ++ (spec.finished_tree blocks body item.entry.tokens.now).nodes) }
+    ensures faults { OnOk result (faults.new ≡ faults.old ++ (spec.finished_tree blocks body item.entry.tokens.now).faults) }
+{
+    if blocks == 0 {
+        deepest_tree(alloc, body, item.tokens, nodes, faults)
+    } else {
+        form_tree(alloc, blocks - 1, body, item, nodes, faults)
+    }
+}
+
+#[cycle(blocks)]
+fn item_tree(
+    alloc: Global,
+    blocks: usize,
+    body: Body,
+    item: Matched<'_>,
+    is_finished: bool,
+    nodes: &mut Items<Node>,
+    faults: &mut Items<Fault>,
+) -> Result<(), AllocError>
+    requires { is_finished ≡ cut.is_finished body item.tokens.now }
+    ensures nodes { OnOk result (nodes.new ≡ nodes.old ++ (spec.item_tree (spec.finished_tree blocks body) body item.entry.tokens.now).nodes) }
+    ensures faults { OnOk result (faults.new ≡ faults.old ++ (spec.item_tree (spec.finished_tree blocks body) body item.entry.tokens.now).faults) }
+{
+    if is_stray(body, item.tokens) {
+        bad(Problem::NotUnderstood, item.tokens, faults)
+    } else if is_finished {
+        finished_tree(alloc, blocks, body, item, nodes, faults)
+    } else {
+        bad(Problem::Unfinished, item.tokens, faults)
+    }
+}
+
+// Reads a body, in which this many blocks may still open, one inside the other.
+#[cycle(blocks)]
+pub fn body_tree(
+    alloc: Global,
+    blocks: usize,
+    body: Body,
+    ts: Matched<'_>,
+    faults: &mut Items<Fault>,
+) -> Result<Items<Node>, AllocError>
+    ensures nodes { IfOk result (λ nodes. nodes ≡ (spec.body_tree blocks body ts.entry.tokens.now).nodes) }
+    ensures faults { OnOk result (faults.new ≡ faults.old ++ (spec.body_tree blocks body ts.entry.tokens.now).faults) }
+{
+    let mut nodes = Items::new(alloc);
+    let mut rest = ts;
+    'items: while !rest.tokens.is_empty() {
+        let cut = next_item(body, rest);
+        let (item, more) = rest.split_at(cut.len);
+        item_tree(
+            alloc,
+            blocks,
+            body,
+            item,
+            cut.is_finished,
+            &mut nodes,
+            faults,
+        )?;
+        rest = more;
+    }
+    Ok(nodes)
+}

@@ -1,0 +1,188 @@
+// The words of a text's tokens.
+
+ghost use Rattle.std.specs.Prelude.{◌≡◌, ◌≤◌, ◌<◌, ◌∷◌, [], ◌++◌, ◌==◌, length, All, IfOk, OnOk};
+ghost use Rattle.std.specs.List.{list_any};
+ghost use Rattle.std.specs.Str.{bytes_eq};
+ghost use Rattle.proto_syntax.specs.Lexeme as spec;
+ghost use Rattle.proto_syntax.specs.Read as tree;
+
+use crate::lexeme::{Lexeme, Word};
+use crate::node::{Fault, Problem, Span};
+use proto_lex::{Kind, Token};
+use sqlite_items::Items;
+use std::alloc::{AllocError, Global};
+
+fn is(name: &[u8], word: &str) -> bool
+    ensures { result ≡ bytes_eq name.now word.now }
+{
+    name == word.as_bytes()
+}
+
+#[tactic(auto, unfolding(crate::specs::Lexeme::keyword))]
+fn keyword(name: &[u8]) -> Word
+    ensures { result ≡ spec.keyword name.now }
+{
+    if is(name, "message") {
+        Word::Message
+    } else if is(name, "enum") {
+        Word::Enum
+    } else if is(name, "service") {
+        Word::Service
+    } else if is(name, "oneof") {
+        Word::Oneof
+    } else if is(name, "extend") {
+        Word::Extend
+    } else if is(name, "rpc") {
+        Word::Rpc
+    } else if is(name, "syntax") {
+        Word::Syntax
+    } else if is(name, "import") {
+        Word::Import
+    } else if is(name, "package") {
+        Word::Package
+    } else if is(name, "option") {
+        Word::Option
+    } else if is(name, "reserved") {
+        Word::Reserved
+    } else {
+        inner_keyword(name)
+    }
+}
+
+// A word that stands inside a statement.
+#[tactic(auto, unfolding(crate::specs::Lexeme::inner_keyword))]
+fn inner_keyword(name: &[u8]) -> Word
+    ensures { result ≡ spec.inner_keyword name.now }
+{
+    if is(name, "weak") {
+        Word::Weak
+    } else if is(name, "public") {
+        Word::Public
+    } else if is(name, "repeated") {
+        Word::Repeated
+    } else if is(name, "optional") {
+        Word::Optional
+    } else if is(name, "map") {
+        Word::Map
+    } else if is(name, "stream") {
+        Word::Stream
+    } else if is(name, "returns") {
+        Word::Returns
+    } else if is(name, "to") {
+        Word::To
+    } else if is(name, "max") {
+        Word::Max
+    } else {
+        Word::Name
+    }
+}
+
+fn symbol(byte: u8) -> Word
+    ensures { result ≡ spec.symbol byte }
+{
+    match byte {
+        b'{' => Word::OpenBrace,
+        b'}' => Word::CloseBrace,
+        b'(' => Word::OpenParen,
+        b')' => Word::CloseParen,
+        b'[' => Word::OpenBracket,
+        b']' => Word::CloseBracket,
+        b'<' => Word::Less,
+        b'>' => Word::Greater,
+        b';' => Word::Semicolon,
+        b',' => Word::Comma,
+        b'=' => Word::Equals,
+        b'.' => Word::Dot,
+        b':' => Word::Colon,
+        b'+' => Word::Plus,
+        b'-' => Word::Minus,
+        _ => Word::Slash,
+    }
+}
+
+fn has_backslash(text: &[u8]) -> bool
+    ensures { result ≡ list_any (λ b. b == 92) text.now }
+{
+    text.iter().any(|b| *b == b'\\')
+}
+
+fn string_word(text: &[u8]) -> Word
+    ensures { result ≡ spec.string_word text.now }
+{
+    if has_backslash(text) {
+        Word::EscapedText
+    } else {
+        Word::PlainText
+    }
+}
+
+fn word_of(kind: Kind, text: &[u8]) -> Word
+    ensures { result ≡ spec.word_of kind text.now }
+{
+    match kind {
+        Kind::Ident => keyword(text),
+        Kind::Int => Word::Int,
+        Kind::Float => Word::Float,
+        Kind::Str => string_word(text),
+        Kind::Symbol => symbol(text.first().copied().unwrap_or(0)),
+        Kind::Bad(_) => Word::Slash,
+    }
+}
+
+fn span_of_token(token: Token) -> Span
+    ensures { result ≡ spec.span_of_token token }
+{
+    Span {
+        start: token.start,
+        end: token.end,
+    }
+}
+
+fn lexeme_of(text: &[u8], token: Token) -> Lexeme
+    requires { spec.IsWithin (length text.now) token }
+    ensures { result ≡ spec.lexeme_of text.now token }
+{
+    Lexeme {
+        word: word_of(token.kind, &text[token.start..token.end]),
+        span: span_of_token(token),
+    }
+}
+
+fn take_token(
+    text: &[u8],
+    token: Token,
+    found: &mut Vec<Lexeme>,
+    faults: &mut Items<Fault>,
+) -> Result<(), AllocError>
+    requires { spec.IsWithin (length text.now) token }
+    ensures lexemes { OnOk result (found.new.items ≡ found.old.items ++ spec.lexemes text.now (token ∷ [])) }
+    ensures faults { OnOk result (faults.new ≡ faults.old ++ tree.bad_tokens (token ∷ [])) }
+{
+    if let Kind::Bad(reason) = token.kind {
+        faults.push(Fault {
+            problem: Problem::BadToken(reason),
+            span: span_of_token(token),
+        })?;
+    } else {
+        found.push(lexeme_of(text, token))?;
+    }
+    Ok(())
+}
+
+// The lexemes of a text. The bad tokens become faults.
+pub fn lexemes(
+    alloc: Global,
+    text: &[u8],
+    tokens: &[Token],
+    faults: &mut Items<Fault>,
+) -> Result<Vec<Lexeme>, AllocError>
+    requires { All (spec.IsWithin (length text.now)) tokens.now }
+    ensures lexemes { IfOk result (λ found. found.items ≡ spec.lexemes text.now tokens.now) }
+    ensures faults { OnOk result (faults.new ≡ faults.old ++ tree.bad_tokens tokens.now) }
+{
+    let mut found = Vec::new(alloc);
+    'tokens: for token in tokens {
+        take_token(text, *token, &mut found, faults)?;
+    }
+    Ok(found)
+}
