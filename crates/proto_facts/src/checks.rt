@@ -1,0 +1,275 @@
+// What is wrong in the body of a message, an enum or an extend block.
+
+ghost use Rattle.std.specs.Prelude.{◌≡◌, ◌++◌, ◌∷◌, [], IfOk, OnOk, filter, map, not, is_some, IsTrue, ◌↔◌};
+ghost use Rattle.std.specs.List.{list_any, flat_map, filter_map};
+ghost use Rattle.std.specs.Option.{option_to_list};
+ghost use Rattle.std.specs.Str.{bytes_eq};
+ghost use Rattle.proto_syntax.specs.declared.node.Node.{out-Node};
+ghost use Rattle.proto_facts.specs.Diags as diags;
+ghost use Rattle.proto_facts.specs.Members as body;
+ghost use Rattle.proto_facts.specs.Numbers as numbers;
+ghost use Rattle.proto_facts.specs.Checks as spec;
+ghost use Rattle.std.specs.Prelude.{List};
+ghost use Rattle.proto_facts.specs.declared.part.ReservedName.{ReservedName};
+ghost use Rattle.proto_facts.specs.Seen as spec_seen;
+
+use crate::diagnostic::Diag;
+use crate::members::ranges_in;
+use crate::message::Message;
+use crate::numbers::value_of;
+use crate::part::{Interval, Member, Numbering, ReservedName};
+use crate::seen::{note_text, note_value};
+use crate::text::text_at;
+use proto_syntax::{Items, Node, Number, RangeEnd, ReservedRange, Span};
+use std::alloc::{AllocError, Global};
+use std::collections::BTreeSet;
+
+pub fn diag(message: Message, span: Span) -> Diag
+    ensures { result ≡ diags.diag message span }
+{
+    Diag {
+        start: span.start,
+        end: span.end,
+        message,
+    }
+}
+
+pub fn diag_if(wrong: bool, message: Message, span: Span) -> Option<Diag>
+    ensures { result ≡ spec.diag_if wrong message span }
+{
+    if wrong {
+        Some(diag(message, span))
+    } else {
+        None
+    }
+}
+
+pub fn add(found: Option<Diag>, diags: &mut Items<Diag>) -> Result<(), AllocError>
+    ensures { OnOk result (diags.new ≡ diags.old ++ option_to_list found) }
+{
+    match found {
+        Some(diag) => diags.push(diag),
+        None => Ok(()),
+    }
+}
+
+fn out_of_range(numbering: Numbering) -> Message
+    ensures { result ≡ spec.out_of_range numbering }
+{
+    match numbering {
+        Numbering::Fields => Message::NumberOutOfRange,
+        Numbering::Values => Message::EnumNumberOutOfRange,
+    }
+}
+
+fn used_twice(numbering: Numbering) -> Message
+    ensures { result ≡ spec.used_twice numbering }
+{
+    match numbering {
+        Numbering::Fields => Message::NumberUsedTwice,
+        Numbering::Values => Message::EnumNumberUsedTwice,
+    }
+}
+
+fn member_out_of_range(numbering: Numbering, member: Member) -> Option<Diag>
+    ensures { result ≡ spec.member_out_of_range numbering member }
+{
+    diag_if(
+        member.value.is_none(),
+        out_of_range(numbering),
+        member.number,
+    )
+}
+
+// Adds the members whose numbers are out of range.
+pub fn add_out_of_range(
+    numbering: Numbering,
+    members: &[Member],
+    diags: &mut Items<Diag>,
+) -> Result<(), AllocError>
+    ensures { OnOk result (diags.new ≡ diags.old ++ filter_map (spec.member_out_of_range numbering) members.now) }
+{
+    'members: for member in members {
+        add(member_out_of_range(numbering, *member), diags)?;
+    }
+    Ok(())
+}
+
+fn is_kept_free(value: Option<u32>) -> bool
+    ensures { result ≡ spec.is_kept_free value }
+{
+    match value {
+        Some(value) => 19000 <= value && value <= 19999,
+        None => false,
+    }
+}
+
+fn kept_free(member: Member) -> Option<Diag>
+    ensures { result ≡ spec.kept_free member }
+{
+    diag_if(
+        is_kept_free(member.value),
+        Message::NumberKeptFree,
+        member.number,
+    )
+}
+
+// Adds the fields whose numbers are kept free.
+pub fn add_kept_free(members: &[Member], diags: &mut Items<Diag>) -> Result<(), AllocError>
+    ensures { OnOk result (diags.new ≡ diags.old ++ filter_map spec.kept_free members.now) }
+{
+    'members: for member in members {
+        add(kept_free(*member), diags)?;
+    }
+    Ok(())
+}
+
+fn bound_out_of_range(numbering: Numbering, text: &str, bound: Number) -> Option<Diag>
+    ensures { result ≡ spec.bound_out_of_range numbering text.now bound }
+{
+    diag_if(
+        value_of(numbering, text, bound).is_none(),
+        out_of_range(numbering),
+        bound.span,
+    )
+}
+
+pub fn runs_forwards(interval: Interval) -> bool
+    ensures { result ≡ spec.runs_forwards interval }
+{
+    interval.low <= interval.high
+}
+
+fn backwards(interval: Interval) -> Option<Diag>
+    ensures { result ≡ spec.backwards interval }
+{
+    diag_if(
+        !runs_forwards(interval),
+        Message::RangeBackwards,
+        interval.span,
+    )
+}
+
+// Adds the ranges that run backwards.
+pub fn add_backwards(intervals: &[Interval], diags: &mut Items<Diag>) -> Result<(), AllocError>
+    ensures { OnOk result (diags.new ≡ diags.old ++ filter_map spec.backwards intervals.now) }
+{
+    'intervals: for interval in intervals {
+        add(backwards(*interval), diags)?;
+    }
+    Ok(())
+}
+
+// Adds the labels of each plain field.
+pub fn add_labels(labels: &[Span], diags: &mut Items<Diag>) -> Result<(), AllocError>
+    ensures { OnOk result (diags.new ≡ diags.old ++ spec.label_diags labels.now) }
+{
+    'labels: for label in labels {
+        diags.push(diag(Message::LabelNotAllowed, *label))?;
+    }
+    Ok(())
+}
+
+// Adds the members whose number an earlier one has.
+pub fn add_used_twice(
+    alloc: Global,
+    numbering: Numbering,
+    members: &[Member],
+    diags: &mut Items<Diag>,
+) -> Result<(), AllocError>
+    ensures { OnOk result (diags.new ≡ diags.old ++ spec.judged (spec.number_used numbering) members.now) }
+{
+    let mut seen = BTreeSet::new(alloc);
+    'members: for member in members {
+        let again = note_value(&mut seen, member.value)?;
+        add(diag_if(again, used_twice(numbering), member.number), diags)?;
+    }
+    Ok(())
+}
+
+// Adds the reserved names that stand there before. The names met are left in the set.
+pub fn add_name_twice(
+    alloc: Global,
+    names: &[ReservedName],
+    seen: &mut BTreeSet<String>,
+    diags: &mut Items<Diag>,
+) -> Result<(), AllocError>
+    requires { spec_seen.IsNew seen.old }
+    ensures added { OnOk result (diags.new ≡ diags.old ++ spec.judged spec.name_twice names.now) }
+    ensures seen { OnOk result (spec_seen.AreNames names.now seen.new) }
+{
+    'names: for name in names {
+        let again = note_text(alloc, seen, name.text.as_str())?;
+        add(diag_if(again, Message::ReservedTwice, name.span), diags)?;
+    }
+    Ok(())
+}
+
+fn name_reserved(text: &str, reserved: &BTreeSet<String>, member: Member) -> Option<Diag>
+    ensures { (names : List ReservedName) → spec_seen.AreNames names reserved.now → result ≡ spec.name_reserved text.now names member }
+{
+    diag_if(
+        reserved.contains(text_at(text, member.name)),
+        Message::NameReserved,
+        member.name,
+    )
+}
+
+// Adds the members whose names are reserved.
+pub fn add_name_reserved(
+    text: &str,
+    reserved: &BTreeSet<String>,
+    members: &[Member],
+    diags: &mut Items<Diag>,
+) -> Result<(), AllocError>
+    ensures { OnOk result ((names : List ReservedName) → spec_seen.AreNames names reserved.now → diags.new ≡ diags.old ++ filter_map (spec.name_reserved text.now names) members.now) }
+{
+    'members: for member in members {
+        add(name_reserved(text, reserved, *member), diags)?;
+    }
+    Ok(())
+}
+
+fn add_bounds_in(
+    numbering: Numbering,
+    text: &str,
+    range: ReservedRange,
+    diags: &mut Items<Diag>,
+) -> Result<(), AllocError>
+    ensures { OnOk result (diags.new ≡ diags.old ++ filter_map (spec.bound_out_of_range numbering text.now) (body.bounds range)) }
+{
+    add(bound_out_of_range(numbering, text, range.low), diags)?;
+    match range.high {
+        RangeEnd::Number(high) => add(bound_out_of_range(numbering, text, high), diags),
+        _ => Ok(()),
+    }
+}
+
+fn add_bounds_of(
+    numbering: Numbering,
+    text: &str,
+    ranges: &[ReservedRange],
+    diags: &mut Items<Diag>,
+) -> Result<(), AllocError>
+    ensures { OnOk result (diags.new ≡ diags.old ++ filter_map (spec.bound_out_of_range numbering text.now) (flat_map body.bounds ranges.now)) }
+{
+    'each: for range in ranges {
+        add_bounds_in(numbering, text, *range, diags)?;
+    }
+    Ok(())
+}
+
+// Adds the bounds of reserved ranges that are out of range.
+pub fn add_bounds(
+    numbering: Numbering,
+    text: &str,
+    items: &[Node],
+    diags: &mut Items<Diag>,
+) -> Result<(), AllocError>
+    ensures { OnOk result (diags.new ≡ diags.old ++ spec.bound_diags numbering text.now items.now) }
+{
+    'items: for node in items {
+        add_bounds_of(numbering, text, ranges_in(node), diags)?;
+    }
+    Ok(())
+}

@@ -1,0 +1,387 @@
+// The statements of a file itself, and what is wrong with them.
+
+ghost use Rattle.std.specs.Prelude.{◌≡◌, ◌<◌, ◌^◌, ◌++◌, [], ◌∷◌, OnOk, IfOk, ℕ, List, map, nat_lt};
+ghost use Rattle.std.specs.List.{list_any, filter_map};
+ghost use Rattle.std.specs.Option.{option_to_list};
+ghost use Rattle.proto_syntax.specs.declared.node.Node.{out-Node};
+ghost use Rattle.proto_facts.specs.Diags as said;
+ghost use Rattle.proto_facts.specs.Facts as spec;
+ghost use Rattle.proto_facts.specs.Checks as checks;
+
+use crate::checks::{add, diag, diag_if};
+use crate::diagnostic::Diag;
+use crate::fact::{Decl, ImportFact, PackageFact};
+use crate::members::is;
+use crate::message::Message;
+use crate::seen::note_text;
+use crate::stated::{StatedPackage, StatedSyntax};
+use crate::text::{dotted, literal_text};
+use proto_lex::Reason;
+use proto_syntax::{Fault, Items, Literal, Node, Problem, Span};
+use std::alloc::{AllocError, Global};
+use std::collections::BTreeSet;
+
+// The longest text that is analysed.
+const MAX_TEXT: usize = 16_777_216;
+
+// ---- bad tokens and statements
+
+fn message_of(problem: Problem) -> Message
+    ensures { result ≡ said.message_of problem }
+{
+    match problem {
+        Problem::BadToken(Reason::Character) => Message::IllegalCharacter,
+        Problem::BadToken(Reason::Number) => Message::MalformedNumber,
+        Problem::BadToken(Reason::String) => Message::UnfinishedString,
+        Problem::BadToken(Reason::Comment) => Message::UnfinishedComment,
+        Problem::NotUnderstood => Message::NotUnderstood,
+        Problem::TooDeep => Message::TooDeep,
+        Problem::Unfinished => Message::Unfinished,
+    }
+}
+
+// Adds the bad tokens and statements.
+pub fn add_faults(faults: &[Fault], diags: &mut Items<Diag>) -> Result<(), AllocError>
+    ensures { OnOk result (diags.new ≡ diags.old ++ map said.diag_of faults.now) }
+{
+    'faults: for fault in faults {
+        diags.push(diag(message_of(fault.problem), fault.span))?;
+    }
+    Ok(())
+}
+
+// ---- syntax
+
+fn says_proto3(alloc: Global, text: &str, value: &Literal) -> Result<bool, AllocError>
+    ensures { IfOk result (λ b. b ≡ spec.says_proto3 text.now value.now) }
+{
+    let value = literal_text(alloc, text, value)?;
+    Ok(is(value.as_str(), "proto3"))
+}
+
+fn add_stated_of(
+    alloc: Global,
+    text: &str,
+    node: &Node,
+    found: &mut Items<StatedSyntax>,
+) -> Result<(), AllocError>
+    ensures { OnOk result (found.new ≡ found.old ++ option_to_list (spec.stated_of text.now (out-Node node.now))) }
+{
+    match node {
+        Node::Syntax { span, value } => {
+            let is_proto3 = says_proto3(alloc, text, value)?;
+            found.push(StatedSyntax {
+                span: *span,
+                is_proto3,
+            })
+        }
+        _ => Ok(()),
+    }
+}
+
+// Adds the `syntax` statements of a file.
+pub fn add_stated(
+    alloc: Global,
+    text: &str,
+    nodes: &[Node],
+    found: &mut Items<StatedSyntax>,
+) -> Result<(), AllocError>
+    ensures { OnOk result (found.new ≡ found.old ++ spec.stated text.now nodes.now) }
+{
+    'nodes: for node in nodes {
+        add_stated_of(alloc, text, node, found)?;
+    }
+    Ok(())
+}
+
+fn not_proto3(found: &[StatedSyntax]) -> Option<Diag>
+    ensures { result ≡ spec.not_proto3 found.now }
+{
+    match found {
+        [] => Some(diag(Message::NotProto3, Span { start: 0, end: 0 })),
+        [first, ..] => diag_if(!first.is_proto3, Message::NotProto3, first.span),
+    }
+}
+
+// The one diagnostic of a file that is not analysed.
+pub fn opaque(text: &str, found: &[StatedSyntax]) -> Option<Diag>
+    ensures { result ≡ spec.opaque text.now found.now }
+{
+    if text.len() <= MAX_TEXT {
+        not_proto3(found)
+    } else {
+        Some(diag(Message::TextTooLong, Span { start: 0, end: 0 }))
+    }
+}
+
+// ---- the first statement
+
+fn start_of(node: &Node) -> usize
+    ensures { result ≡ spec.start_of (out-Node node.now) }
+{
+    match node {
+        Node::Message { span, .. } => span.start,
+        Node::EnumDef { span, .. } => span.start,
+        Node::Service { span, .. } => span.start,
+        Node::Oneof { span, .. } => span.start,
+        Node::Extend { span, .. } => span.start,
+        Node::Rpc { span, .. } => span.start,
+        Node::Field(field) => field.span.start,
+        Node::MapField(field) => field.span.start,
+        Node::Value { span, .. } => span.start,
+        Node::Reserved { span, .. } => span.start,
+        Node::Import { span, .. } => span.start,
+        Node::Package { span, .. } => span.start,
+        Node::OptionDef { span, .. } => span.start,
+        Node::Syntax { span, .. } => span.start,
+        Node::Empty { span } => span.start,
+    }
+}
+
+fn bad_start(problem: Problem, span: Span) -> Option<usize>
+    ensures { result ≡ spec.bad_start problem span }
+{
+    match problem {
+        Problem::BadToken(_) => None,
+        Problem::NotUnderstood => Some(span.start),
+        Problem::TooDeep => Some(span.start),
+        Problem::Unfinished => Some(span.start),
+    }
+}
+
+fn add_start(start: Option<usize>, found: &mut Items<usize>) -> Result<(), AllocError>
+    ensures { OnOk result (found.new ≡ found.old ++ option_to_list start) }
+{
+    match start {
+        Some(start) => found.push(start),
+        None => Ok(()),
+    }
+}
+
+fn add_bad_starts(faults: &[Fault], found: &mut Items<usize>) -> Result<(), AllocError>
+    ensures { OnOk result (found.new ≡ found.old ++ filter_map (λ f. spec.bad_start f.problem f.span) faults.now) }
+{
+    'faults: for fault in faults {
+        add_start(bad_start(fault.problem, fault.span), found)?;
+    }
+    Ok(())
+}
+
+fn add_node_starts(nodes: &[Node], found: &mut Items<usize>) -> Result<(), AllocError>
+    ensures { OnOk result (found.new ≡ found.old ++ map (λ n. spec.start_of (out-Node n)) nodes.now) }
+{
+    'nodes: for node in nodes {
+        found.push(start_of(node))?;
+    }
+    Ok(())
+}
+
+// Adds where the statements of a file start.
+pub fn add_starts(
+    nodes: &[Node],
+    faults: &[Fault],
+    found: &mut Items<usize>,
+) -> Result<(), AllocError>
+    ensures { OnOk result (found.new ≡ found.old ++ (map (λ n. spec.start_of (out-Node n)) nodes.now ++ filter_map (λ f. spec.bad_start f.problem f.span) faults.now)) }
+{
+    add_node_starts(nodes, found)?;
+    add_bad_starts(faults, found)
+}
+
+// The least of the starts.
+fn earliest(starts: &[usize]) -> usize
+    ensures { (x : ℕ) → x < 2 ^ 64 → nat_lt result x ≡ list_any (λ start. nat_lt start x) starts.now }
+{
+    let mut least = usize::MAX;
+    'starts: for start in starts {
+        least = least.min(*start);
+    }
+    least
+}
+
+fn syntax_late(earliest: usize, stated: StatedSyntax) -> Option<Diag>
+    ensures { (starts : List ℕ) → ((x : ℕ) → x < 2 ^ 64 → nat_lt earliest x ≡ list_any (λ start. nat_lt start x) starts) → result ≡ spec.syntax_late starts stated }
+{
+    diag_if(
+        earliest < stated.span.start,
+        Message::SyntaxNotFirst,
+        stated.span,
+    )
+}
+
+// Adds the `syntax` statements that another statement starts before.
+pub fn add_syntax_late(
+    starts: &[usize],
+    stated: &[StatedSyntax],
+    diags: &mut Items<Diag>,
+) -> Result<(), AllocError>
+    ensures { OnOk result (diags.new ≡ diags.old ++ filter_map (spec.syntax_late starts.now) stated.now) }
+{
+    let earliest = earliest(starts);
+    'stated: for found in stated {
+        add(syntax_late(earliest, *found), diags)?;
+    }
+    Ok(())
+}
+
+// ---- packages
+
+fn add_package_of(
+    alloc: Global,
+    text: &str,
+    node: &Node,
+    found: &mut Items<StatedPackage>,
+) -> Result<(), AllocError>
+    ensures { OnOk result (found.new ≡ found.old ++ option_to_list (spec.package_of text.now (out-Node node.now))) }
+{
+    match node {
+        Node::Package {
+            name,
+            components,
+            ..
+        } => {
+            let full_name = dotted(alloc, text, components.as_slice())?;
+            let components = Items::from_slice(alloc, components.as_slice())?;
+            found.push(StatedPackage {
+                name: *name,
+                fact: PackageFact {
+                    full_name,
+                    components,
+                },
+            })
+        }
+        _ => Ok(()),
+    }
+}
+
+// Adds the `package` statements of a file.
+pub fn add_packages(
+    alloc: Global,
+    text: &str,
+    nodes: &[Node],
+    found: &mut Items<StatedPackage>,
+) -> Result<(), AllocError>
+    ensures { OnOk result (found.new ≡ found.old ++ spec.packages text.now nodes.now) }
+{
+    'nodes: for node in nodes {
+        add_package_of(alloc, text, node, found)?;
+    }
+    Ok(())
+}
+
+fn add_packages_twice(found: &[StatedPackage], diags: &mut Items<Diag>) -> Result<(), AllocError>
+    ensures { OnOk result (diags.new ≡ diags.old ++ map spec.package_twice found.now) }
+{
+    'found: for stated in found {
+        diags.push(diag(Message::PackageTwice, stated.name))?;
+    }
+    Ok(())
+}
+
+// Adds each package but the first.
+pub fn add_package_diags(found: &[StatedPackage], diags: &mut Items<Diag>) -> Result<(), AllocError>
+    ensures { OnOk result (diags.new ≡ diags.old ++ spec.package_diags found.now) }
+{
+    add_packages_twice(found.get(1..).unwrap_or(&[]), diags)
+}
+
+// The package that counts.
+pub fn first_package(mut found: Items<StatedPackage>) -> Option<PackageFact>
+    ensures { result ≡ spec.first_package found }
+{
+    if found.is_empty() {
+        None
+    } else {
+        let StatedPackage { fact, .. } = found.remove(0);
+        Some(fact)
+    }
+}
+
+// The name of a file's package; empty where it has none.
+pub fn package_name(package: &Option<PackageFact>) -> &str
+    ensures { result.now ≡ spec.package_name «package».now }
+{
+    match package {
+        Some(package) => package.full_name.as_str(),
+        None => "",
+    }
+}
+
+// ---- imports
+
+fn add_import_of(
+    alloc: Global,
+    text: &str,
+    node: &Node,
+    found: &mut Items<ImportFact>,
+) -> Result<(), AllocError>
+    ensures { OnOk result (found.new ≡ found.old ++ option_to_list (spec.import_of text.now (out-Node node.now))) }
+{
+    match node {
+        Node::Import {
+            is_public,
+            path,
+            ..
+        } => {
+            let value = literal_text(alloc, text, path)?;
+            found.push(ImportFact {
+                path: value,
+                span: path.span,
+                is_public: *is_public,
+            })
+        }
+        _ => Ok(()),
+    }
+}
+
+// Adds the imports of a file.
+pub fn add_imports(
+    alloc: Global,
+    text: &str,
+    nodes: &[Node],
+    found: &mut Items<ImportFact>,
+) -> Result<(), AllocError>
+    ensures { OnOk result (found.new ≡ found.old ++ spec.imports text.now nodes.now) }
+{
+    'nodes: for node in nodes {
+        add_import_of(alloc, text, node, found)?;
+    }
+    Ok(())
+}
+
+// Adds the imports whose path an earlier one has.
+pub fn add_imported_twice(
+    alloc: Global,
+    imports: &[ImportFact],
+    diags: &mut Items<Diag>,
+) -> Result<(), AllocError>
+    ensures { OnOk result (diags.new ≡ diags.old ++ checks.judged spec.imported_twice imports.now) }
+{
+    let mut seen = BTreeSet::new(alloc);
+    'names: for name in imports {
+        let again = note_text(alloc, &mut seen, name.path.as_str())?;
+        add(diag_if(again, Message::ImportedTwice, name.span), diags)?;
+    }
+    Ok(())
+}
+
+// ---- declarations
+
+// Adds the declarations whose full name an earlier one has.
+pub fn add_declared_twice(
+    alloc: Global,
+    decls: &[Decl],
+    diags: &mut Items<Diag>,
+) -> Result<(), AllocError>
+    ensures { OnOk result (diags.new ≡ diags.old ++ checks.judged spec.declared_twice decls.now) }
+{
+    let mut seen = BTreeSet::new(alloc);
+    'names: for name in decls {
+        let again = note_text(alloc, &mut seen, name.full_name.as_str())?;
+        add(
+            diag_if(again, Message::DeclaredTwice, name.name_span),
+            diags,
+        )?;
+    }
+    Ok(())
+}

@@ -1,0 +1,26 @@
+// Laws of diagnostics and of facts. Each is proved for all lists, texts and trees, and its function does nothing.
+ghost use Rattle.std.specs.Prelude.{◌≡◌, ℕ, List};
+ghost use Rattle.proto_syntax.specs.declared.node.FileTree.{FileTree};
+ghost use Rattle.proto_facts.specs.declared.diagnostic.Diag.{Diag};
+ghost use Rattle.proto_facts.specs.declared.fact.FileFacts.{FileFacts};
+ghost use Rattle.proto_facts.specs.declared.message.Message.{Message};
+ghost use Rattle.proto_facts.specs.Facts.{AreFacts, facts_in};
+ghost use Rattle.proto_facts.specs.Messages.{message_order, variant_order};
+ghost use Rattle.proto_facts.specs.Order.{IsListOf, in_order as ordered};
+
+/// A law: the variants of `Message` stand in the order of their numbers, and those of one number in that of their words.
+pub fn messages_in_order()
+    ensures { (a b : Message) → variant_order a b ≡ message_order a b }
+{}
+
+/// A law: `in_order` gives the one list that has each of the diagnostics once, in order, and no others.
+pub fn one_list_in_order()
+    ensures list { (all : List Diag) → IsListOf all (ordered all) }
+    ensures only { (all diags : List Diag) → IsListOf all diags → diags ≡ ordered all }
+{}
+
+/// A law: `facts` gives the one value that says of a text and a tree what its facts are.
+pub fn one_value_of_facts()
+    ensures value { (text : List ℕ) (tree : FileTree) → AreFacts text tree (facts_in text tree) }
+    ensures only { (text : List ℕ) (tree : FileTree) (f : FileFacts) → AreFacts text tree f → f ≡ facts_in text tree }
+{}

@@ -1,0 +1,36 @@
+//! What a Protocol Buffers text (proto3) says by itself: a text and its tree in, its facts out.
+//!
+//! `facts` gives a file's language, package, imports and declarations, and what is wrong in it by itself: bad tokens and
+//! statements, numbers and names that are used, reserved or declared twice, and the like. Which values these are is
+//! defined in specs/Facts.antt, with one definition in specs/Checks.antt for each kind of diagnostic. `in_order` puts
+//! diagnostics of whatever source into the order in which a file lists them.
+#![tactic(auto)]
+
+mod bodies;
+mod checks;
+mod decls;
+mod diagnostic;
+mod fact;
+mod file;
+mod laws;
+mod members;
+mod message;
+mod name;
+mod numbers;
+mod overlaps;
+mod part;
+mod reach;
+mod report;
+mod seen;
+mod stated;
+#[cfg(test)]
+mod tests;
+mod text;
+mod walk;
+
+pub use diagnostic::{Diag, in_order};
+pub use fact::{Decl, DeclKind, FileFacts, ImportFact, PackageFact, SyntaxFact};
+pub use laws::{messages_in_order, one_list_in_order, one_value_of_facts};
+pub use message::Message;
+pub use name::Name;
+pub use report::facts;

@@ -1,0 +1,100 @@
+// Reserved numbers, ready to be asked by one number after the other.
+
+ghost use Rattle.std.specs.Prelude.{◌≡◌, ◌+◌, ◌<◌, ℕ, List, IfOk, OnOk, ◌++◌, Some, length, map, take, slice_index, nat_lt, nat_le};
+ghost use Rattle.std.specs.List.{list_any, filter_map};
+ghost use Rattle.proto_facts.specs.declared.message.Message.TheVariants as m;
+ghost use Rattle.std.specs.List.Sorted.{IsNonDecreasingBy};
+ghost use Rattle.proto_facts.specs.Reach as spec;
+ghost use Rattle.proto_facts.specs.Checks as checks;
+ghost use Rattle.proto_facts.specs.declared.part.Interval.{Interval};
+
+use crate::checks::{add, diag_if};
+use crate::diagnostic::Diag;
+use crate::message::Message;
+use crate::part::{Interval, Member};
+use proto_syntax::Items;
+use std::alloc::{AllocError, Global};
+
+// The bounds of an interval.
+#[derive(Clone, Copy, Debug, PartialEq, Eq, PartialOrd, Ord)]
+pub struct Reach {
+    pub low: u32,
+    pub high: u32,
+}
+
+fn reaches(alloc: Global, good: &[Interval]) -> Result<Vec<Reach>, AllocError>
+    ensures { IfOk result (λ v. v.items ≡ map spec.reach_of good.now) }
+{
+    good.iter()
+        .map(|interval| Reach {
+            low: interval.low,
+            high: interval.high,
+        })
+        .collect(alloc)
+}
+
+// For each place, the end of what the intervals up to there reach.
+pub fn ends(alloc: Global, sorted: &[Reach]) -> Result<Vec<u64>, AllocError>
+    ensures { IfOk result (λ v. spec.AreEnds sorted.now v.items) }
+{
+    let mut found = Vec::new(alloc);
+    let mut end: u64 = 0;
+    'sorted: for reach in sorted {
+        end = end.max(u64::from(reach.high) + 1);
+        found.push(end)?;
+    }
+    Ok(found)
+}
+
+// Whether one of the intervals begins at or below `high` and ends at or above `low`.
+pub fn is_between(sorted: &[Reach], ends: &[u64], high: u32, low: u32) -> bool
+    requires order { IsNonDecreasingBy (λ r. r.low) sorted.now }
+    requires ends { spec.AreEnds sorted.now ends.now }
+    ensures { result ≡ list_any (spec.between high low) sorted.now }
+{
+    let past = sorted.partition_point(|reach| reach.low <= high);
+    past > 0 && u64::from(low) < ends[past - 1]
+}
+
+// The intervals by their lower bounds.
+pub fn sorted_reaches(alloc: Global, good: &[Interval]) -> Result<Vec<Reach>, AllocError>
+    ensures order { IfOk result (λ v. IsNonDecreasingBy (λ r. r.low) v.items) }
+    ensures same { IfOk result (λ v. (n : ℕ) → list_any (spec.holds n) v.items ≡ list_any (checks.lies_in (Some n)) good.now) }
+    ensures meets { IfOk result (λ v. (r : Interval) → list_any (spec.between r.high r.low) v.items ≡ list_any (checks.overlap r) good.now) }
+{
+    let mut found = reaches(alloc, good)?;
+    found.sort_by_key(|reach| reach.low)?;
+    Ok(found)
+}
+
+fn number_reserved(sorted: &[Reach], ends: &[u64], member: Member) -> Option<Diag>
+    requires order { IsNonDecreasingBy (λ r. r.low) sorted.now }
+    requires ends { spec.AreEnds sorted.now ends.now }
+    ensures { result ≡ checks.diag_if (spec.is_held member.value sorted.now) m.NumberReserved member.number }
+{
+    let held = match member.value {
+        Some(value) => is_between(sorted, ends, value, value),
+        None => false,
+    };
+    diag_if(held, Message::NumberReserved, member.number)
+}
+
+// Adds the members whose numbers are reserved.
+pub fn add_number_reserved(
+    alloc: Global,
+    good: &[Interval],
+    members: &[Member],
+    diags: &mut Items<Diag>,
+) -> Result<(), AllocError>
+    ensures { OnOk result (diags.new ≡ diags.old ++ filter_map (checks.number_reserved good.now) members.now) }
+{
+    let sorted = sorted_reaches(alloc, good)?;
+    let ends = ends(alloc, sorted.as_slice())?;
+    'members: for member in members {
+        add(
+            number_reserved(sorted.as_slice(), ends.as_slice(), *member),
+            diags,
+        )?;
+    }
+    Ok(())
+}

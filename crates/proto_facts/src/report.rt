@@ -1,0 +1,162 @@
+// The facts of a text and its tree.
+
+ghost use Rattle.std.specs.Prelude.{◌≡◌, ◌++◌, [], ◌∷◌, OnOk, IfOk, None, Some, List};
+ghost use Rattle.std.specs.List.{filter_map};
+ghost use Rattle.proto_facts.specs.Facts as spec;
+ghost use Rattle.proto_syntax.specs.Read.{value_tree};
+
+use crate::decls::add_decls;
+use crate::diagnostic::{Diag, in_order};
+use crate::fact::{Decl, DeclKind, FileFacts, ImportFact, SyntaxFact};
+use crate::file::{
+    add_declared_twice, add_faults, add_imported_twice, add_imports, add_package_diags,
+    add_packages, add_starts, add_stated, add_syntax_late, first_package, opaque, package_name,
+};
+use crate::stated::{StatedPackage, StatedSyntax};
+use crate::walk::add_all_diags;
+use proto_syntax::{FileTree, Items};
+use std::alloc::{AllocError, Global};
+
+// The facts of a file that is not analysed.
+fn opaque_facts(alloc: Global, diag: Diag) -> Result<FileFacts, AllocError>
+    ensures { IfOk result (λ f. f ≡ spec.opaque_facts diag) }
+{
+    let mut diags = Items::new(alloc);
+    diags.push(diag)?;
+    Ok(FileFacts::of(
+        alloc,
+        SyntaxFact::Opaque,
+        None,
+        Items::new(alloc),
+        Items::new(alloc),
+        diags,
+    ))
+}
+
+fn add_tree_diags(
+    alloc: Global,
+    text: &str,
+    tree: &FileTree,
+    diags: &mut Items<Diag>,
+) -> Result<(), AllocError>
+    ensures { OnOk result (diags.new ≡ diags.old ++ spec.tree_diags text.now tree.now) }
+{
+    add_faults(tree.faults.as_slice(), diags)?;
+    add_all_diags(alloc, text, tree.nodes.as_slice(), diags)
+}
+
+fn add_late_diags(
+    alloc: Global,
+    tree: &FileTree,
+    stated: &[StatedSyntax],
+    diags: &mut Items<Diag>,
+) -> Result<(), AllocError>
+    ensures { OnOk result (diags.new ≡ diags.old ++ filter_map (spec.syntax_late (spec.starts tree.now)) stated.now) }
+{
+    let mut starts = Items::new(alloc);
+    add_starts(tree.nodes.as_slice(), tree.faults.as_slice(), &mut starts)?;
+    add_syntax_late(starts.as_slice(), stated, diags)
+}
+
+fn add_file_diags(
+    alloc: Global,
+    packages: &[StatedPackage],
+    imports: &[ImportFact],
+    decls: &[Decl],
+    diags: &mut Items<Diag>,
+) -> Result<(), AllocError>
+    ensures { OnOk result (diags.new ≡ diags.old ++ spec.file_diags packages.now imports.now decls.now) }
+{
+    add_declared_twice(alloc, decls, diags)?;
+    add_imported_twice(alloc, imports, diags)?;
+    add_package_diags(packages, diags)
+}
+
+// All diagnostics of a file that is analysed, one kind after the other.
+fn add_analysed(
+    alloc: Global,
+    text: &str,
+    tree: &FileTree,
+    stated: &[StatedSyntax],
+    packages: &[StatedPackage],
+    imports: &[ImportFact],
+    decls: &[Decl],
+    diags: &mut Items<Diag>,
+) -> Result<(), AllocError>
+    ensures { OnOk result (diags.new ≡ diags.old ++ spec.diags_of text.now tree.now stated.now packages.now imports.now decls.now) }
+{
+    add_tree_diags(alloc, text, tree, diags)?;
+    add_late_diags(alloc, tree, stated, diags)?;
+    add_file_diags(alloc, packages, imports, decls, diags)
+}
+
+fn decls_of(
+    alloc: Global,
+    text: &str,
+    tree: &FileTree,
+    packages: &[StatedPackage],
+) -> Result<Items<Decl>, AllocError>
+    ensures { IfOk result (λ d. d ≡ spec.decls_with text.now (spec.package_name (spec.first_package packages.now)) tree.now.nodes) }
+{
+    let package = match packages {
+        [] => "",
+        [first, ..] => first.fact.full_name.as_str(),
+    };
+    let mut decls = Items::new(alloc);
+    add_decls(
+        alloc,
+        text,
+        tree.nodes.as_slice(),
+        DeclKind::Field,
+        package,
+        None,
+        &mut decls,
+    )?;
+    Ok(decls)
+}
+
+fn analysed_facts(
+    alloc: Global,
+    text: &str,
+    tree: &FileTree,
+    stated: &[StatedSyntax],
+) -> Result<FileFacts, AllocError>
+    ensures { IfOk result (λ f. f ≡ spec.analysed_facts stated.now text.now tree.now) }
+{
+    let nodes = tree.nodes.as_slice();
+    let mut packages = Items::new(alloc);
+    add_packages(alloc, text, nodes, &mut packages)?;
+    let mut imports = Items::new(alloc);
+    add_imports(alloc, text, nodes, &mut imports)?;
+    let decls = decls_of(alloc, text, tree, packages.as_slice())?;
+    let mut found = Items::new(alloc);
+    add_analysed(
+        alloc,
+        text,
+        tree,
+        stated,
+        packages.as_slice(),
+        imports.as_slice(),
+        decls.as_slice(),
+        &mut found,
+    )?;
+    let diags = in_order(alloc, found.as_slice())?;
+    let package = first_package(packages);
+    Ok(FileFacts::of(alloc, SyntaxFact::Proto3, package, imports, decls, diags))
+}
+
+/// What a text says by itself: its language, package, imports and declarations, and what is wrong in it.
+///
+/// Any text and any tree has facts. Those of the text's own tree, which is the empty text's where the text has more
+/// than 16,777,216 bytes, are the facts of the text. An `Err` comes only where memory was refused.
+pub fn facts(alloc: Global, text: &str, tree: &FileTree) -> Result<FileFacts, AllocError>
+    ensures any { IfOk result (λ f. f ≡ spec.facts_in text.now tree.now) }
+    ensures of_text { tree.now ≡ value_tree text.now → IfOk result (λ f. f ≡ spec.facts_of text.now) }
+{
+    let mut stated = Items::new(alloc);
+    add_stated(alloc, text, tree.nodes.as_slice(), &mut stated)?;
+    match opaque(text, stated.as_slice()) {
+        Some(diag) => opaque_facts(alloc, diag),
+        None => analysed_facts(alloc, text, tree, stated.as_slice()),
+    }
+}

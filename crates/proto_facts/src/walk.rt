@@ -1,0 +1,48 @@
+// Goes through all statements of a tree.
+
+ghost use Rattle.std.specs.Prelude.{◌≡◌, ◌++◌, OnOk};
+ghost use Rattle.std.specs.List.{flat_map};
+ghost use Rattle.proto_facts.specs.Checks as checks;
+ghost use Rattle.proto_facts.specs.Tree as spec;
+
+use crate::bodies::add_statement_diags;
+use crate::diagnostic::Diag;
+use proto_syntax::{Items, Node};
+use std::alloc::{AllocError, Global};
+
+// Adds what is wrong in each statement of a list, and in those inside it.
+#[cycle(statements)]
+pub fn add_all_diags(
+    alloc: Global,
+    text: &str,
+    nodes: &[Node],
+    diags: &mut Items<Diag>,
+) -> Result<(), AllocError>
+    ensures { OnOk result (diags.new ≡ diags.old ++ flat_map (checks.statement_diags text.now) (spec.all_statements nodes.now)) }
+{
+    'nodes: for node in nodes {
+        add_statement_diags(alloc, text, node, diags)?;
+        add_inner_diags(alloc, text, node, diags)?;
+    }
+    Ok(())
+}
+
+#[cycle(statements)]
+fn add_inner_diags(
+    alloc: Global,
+    text: &str,
+    node: &Node,
+    diags: &mut Items<Diag>,
+) -> Result<(), AllocError>
+    ensures { OnOk result (diags.new ≡ diags.old ++ flat_map (checks.statement_diags text.now) (spec.all_statements (spec.inside node.now))) }
+{
+    match node {
+        Node::Message { items, .. } => add_all_diags(alloc, text, items.as_slice(), diags),
+        Node::EnumDef { items, .. } => add_all_diags(alloc, text, items.as_slice(), diags),
+        Node::Service { items, .. } => add_all_diags(alloc, text, items.as_slice(), diags),
+        Node::Oneof { items, .. } => add_all_diags(alloc, text, items.as_slice(), diags),
+        Node::Extend { items, .. } => add_all_diags(alloc, text, items.as_slice(), diags),
+        Node::Rpc { items, .. } => add_all_diags(alloc, text, items.as_slice(), diags),
+        _ => Ok(()),
+    }
+}
