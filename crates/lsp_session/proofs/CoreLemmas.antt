@@ -1,13 +1,13 @@
 -- A core against the session of the messages that it was given.
-use Rattle.std.proofs.Common.{◌≡◌, ℕ, zero, suc, ◌+◌, ◌≤◌, List, [], ◌∷◌, ◌++◌, map, take, drop, length, replicate, fold, refl, sym, ap, ◌∙◌, arith, append_assoc, append-nil, length-append, length-drop, take-append-drop}
+use Rattle.std.proofs.Common.{◌≡◌, ℕ, zero, suc, ◌+◌, ◌≤◌, List, [], ◌∷◌, ◌++◌, map, length, replicate, fold, refl, sym, ap, ◌∙◌, arith, append_assoc, append-nil, length-drop, take-append-drop}
 use Rattle.std.proofs.lemmas.List.{append_cancel_left, drop_all, map-append, take_all, take-append-le}
 use Rattle.std.proofs.lemmas.List.Sums.{fold-append}
 use Rattle.serde_json.specs.Written.{compact_text}
-use Rattle.lsp_rpc.specs.Message.{MessageData, message_of}
+use Rattle.lsp_rpc.specs.Message.{message_of}
 use Rattle.lsp_session.specs.Configuration.{Configuration}
 use Rattle.lsp_session.specs.Core.{Event, Arrive, Process, messages, processed, done, waiting, CoreState, Stands, Advances}
-use Rattle.lsp_session.specs.Session.{State, Run, start, turn, next, session}
-use Rattle.lsp_session.specs.Steps.{replying, turns, Knows, replies_to}
+use Rattle.lsp_session.specs.Session.{Run, start, turn, next, session}
+use Rattle.lsp_session.specs.Steps.{turns, Knows, replies_to}
 
 -- ---- the session, message by message
 

@@ -1,5 +1,7 @@
-mod DocumentsLemmas
+mod FilesLemmas
+mod ConfigLemmas
 mod DiagnosticsLemmas
 mod CoreLemmas
 mod RunLemmas
 mod ServingLemmas
+mod WorkspaceLemmas

@@ -1,5 +1,5 @@
 -- A session over a stream: what was read, what was written, and what is left.
-use Rattle.std.proofs.Common.{◌≡◌, ℕ, zero, suc, ◌+◌, ◌<◌, ◌≤◌, true, false, Bool, List, [], ◌∷◌, ◌++◌, map, take, drop, get_or, length, fold, refl, sym, ap, subst, ◌∙◌, arith, append_assoc, append-nil, length-append, Option, None, Some, take-append-drop}
+use Rattle.std.proofs.Common.{◌≡◌, ℕ, zero, suc, ◌+◌, ◌<◌, true, false, Bool, List, [], ◌∷◌, ◌++◌, map, take, drop, get_or, length, fold, refl, sym, ap, ◌∙◌, arith, append_assoc, append-nil, length-append, Option, None, Some, take-append-drop}
 use Rattle.std.specs.Prelude.{IfSome, IfOk, IfErr, OnOk, ⊤}
 use Rattle.std.specs.Io.KnownBytes.{Appends}
 use Rattle.std.proofs.KnownBytes.{Appends-trans, Appends-nil}
@@ -8,7 +8,7 @@ use Rattle.std.proofs.lemmas.Grind.{flat_map-append}
 use Rattle.std.proofs.lemmas.List.{take-append-le, take_at, take_more, drop_more}
 use Rattle.serde_json.specs.Written.{compact_text}
 use Rattle.lsp_frame.specs.Fault.{code_of}
-use Rattle.lsp_frame.specs.Stream.{StreamEnd, InputEnd, BadFrame, Whole, first_frame, frames, with_body, no_frames}
+use Rattle.lsp_frame.specs.Stream.{StreamEnd, InputEnd, BadFrame, first_frame, frames, with_body, no_frames}
 use Rattle.lsp_frame.specs.Counts.{HasFailed}
 use Rattle.lsp_frame.specs.Reading.{TakesFrame, Shows, ShowsEnd, HasCause}
 use Rattle.lsp_frame.specs.declared.counts.Counts.{Counts}

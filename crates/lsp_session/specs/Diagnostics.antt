@@ -1,38 +1,28 @@
--- The diagnostics of a text.
-use Rattle.std.specs.Prelude.{ℕ, List, Option, Some, None, option_map, codes}
-use Rattle.std.specs.List.{filter_map}
+-- The diagnostics of a text, as the editor gets them.
+use Rattle.std.specs.Prelude.{ℕ, List, map, ◌==◌, if◌then◌else◌}
 use Rattle.doc_text.specs.Positions.{position_of}
 use Rattle.doc_text.specs.declared.encoding.Encoding.TheVariants.{Utf16}
 use Rattle.doc_text.specs.declared.position.Position.{Position}
 use Rattle.lsp_rpc.specs.Diagnostic.{DiagnosticData}
+use Rattle.lsp_rpc.specs.declared.diagnostic.Severity.{Severity}
 use Rattle.lsp_rpc.specs.declared.diagnostic.Severity.TheVariants as severity
-use Rattle.proto_lex.specs.Tokens.{tokens}
-use Rattle.proto_lex.specs.declared.token.Kind.{Kind}
-use Rattle.proto_lex.specs.declared.token.Kind.TheVariants.{Bad}
-use Rattle.proto_lex.specs.declared.token.Reason.{Reason}
-use Rattle.proto_lex.specs.declared.token.Reason.TheVariants.{Character, Number, String, Comment}
-use Rattle.proto_lex.specs.declared.token.Token.{Token}
+use Rattle.proto_facts.specs.Facts.{facts_of}
+use Rattle.proto_facts.specs.Messages as message
+use Rattle.proto_facts.specs.declared.diagnostic.Diag.{Diag}
+use Rattle.proto_facts.specs.declared.message.Message.{Message}
 
--- what is said of a bad token
-abbrev pub reason_text : Reason → List ℕ
-reason_text Character = codes "illegal character"
-reason_text Number = codes "malformed number"
-reason_text String = codes "unfinished string"
-reason_text Comment = codes "unfinished comment"
+-- the protocol's name of a severity
+abbrev pub severity_of : ℕ → Severity
+severity_of number = if number == 3 then severity.Information else severity.Error
 
--- what is wrong with a token of this kind
-abbrev pub reason_of : Kind → Option Reason
-reason_of (Bad reason) = Some reason
-reason_of _ = None
+-- a message between two positions
+abbrev pub diagnostic_between : Position → Position → Message → DiagnosticData
+diagnostic_between start end m = record { range = record { start = start; «end» = end }; severity = severity_of (message.severity m); code = message.code m; message = message.text m }
 
--- 201, an error, between two positions
-abbrev pub error_between : Position → Position → Reason → DiagnosticData
-error_between start end reason = record { range = record { start = start; «end» = end }; severity = severity.Error; code = 201; message = reason_text reason }
+-- the same at its place in a text, in lines and UTF-16 units
+abbrev pub diagnostic_at : List ℕ → Diag → DiagnosticData
+diagnostic_at text d = diagnostic_between (position_of Utf16 text d.start) (position_of Utf16 text d.end) d.message
 
--- the same at a token, in lines and UTF-16 units
-abbrev pub bad_token : List ℕ → Token → Reason → DiagnosticData
-bad_token text t reason = error_between (position_of Utf16 text t.start) (position_of Utf16 text t.end) reason
-
--- one for each bad token, in the order of the text
+-- what is wrong in a text by itself, in the order of the text
 abbrev pub diagnostics : List ℕ → List DiagnosticData
-diagnostics text = filter_map (λ t. option_map (bad_token text t) (reason_of t.kind)) (tokens text)
+diagnostics text = map (diagnostic_at text) (facts_of text).diags

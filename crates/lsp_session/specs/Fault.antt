@@ -1,5 +1,5 @@
 -- The numbers of the faults.
-use Rattle.std.specs.Prelude.{ℕ}
+use Rattle.std.specs.Prelude.{ℕ, ⊤}
 use Rattle.lsp_session.specs.declared.fault.CoreFault.{CoreFault}
 use Rattle.lsp_session.specs.declared.fault.CoreFault.TheVariants as core
 use Rattle.lsp_session.specs.declared.fault.ServeFault.{ServeFault}
@@ -12,3 +12,11 @@ abbrev pub serve_code : ServeFault → ℕ
 serve_code serve.Read = 801
 serve_code serve.Write = 802
 serve_code serve.Memory = 803
+serve_code serve.BadRoot = 806
+serve_code (serve.BadPath index) = 807
+
+-- a fault that can come while a server runs: its configuration was good
+abbrev pub ComesWhileServing : ServeFault → Type 0
+ComesWhileServing serve.BadRoot = ⊥
+ComesWhileServing (serve.BadPath index) = ⊥
+ComesWhileServing _ = ⊤

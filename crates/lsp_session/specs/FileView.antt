@@ -3,5 +3,5 @@ use Rattle.std.specs.Prelude.{string_bytes}
 use Rattle.lsp_session.specs.Configuration.{FileData}
 use Rattle.lsp_session.specs.declared.config.DiskFile.{DiskFile}
 
-abbrev pub file_view : DiskFile → FileData
-file_view f = record { root = f.root; path = string_bytes f.path; text = string_bytes f.text }
+abbrev pub disk_view : DiskFile → FileData
+disk_view f = record { root = f.root; path = string_bytes f.path; text = string_bytes f.text }

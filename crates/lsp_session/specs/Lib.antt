@@ -1,6 +1,7 @@
 pub mod Configuration
 pub mod Fault
 pub mod FileView
+pub mod Files
 pub mod Diagnostics
 pub mod Session
 pub mod Stream

@@ -1,32 +1,28 @@
 -- The sequential session (Language Server Protocol 3.17): what each message changes, and what is replied to it.
-use Rattle.std.specs.Prelude.{ℕ, List, [], ◌∷◌, ◌++◌, Bool, true, false, Option, Some, None, option_map, option_and_then, map, fold}
-use Rattle.std.specs.Ordering.{nat_cmp}
-use Rattle.std.specs.Cmp.Lexicographic.{slice_cmp}
-use Rattle.std.specs.Map.{lookup}
-use Rattle.std.specs.BTreeMap.{insert_entry, is_at}
+use Rattle.std.specs.Prelude.{ℕ, List, [], ◌∷◌, ◌++◌, Bool, true, false, Option, Some, None, option_and_then, map, fold}
 use Rattle.serde_json.specs.Data.{Data, null}
 use Rattle.serde_json.specs.Written.{compact_text}
 use Rattle.lsp_rpc.specs.Diagnostic.{report_value}
 use Rattle.lsp_rpc.specs.Initialize.{initialize_result}
 use Rattle.lsp_rpc.specs.Message.{IdData, MessageData, parse_error, invalid_request, response, request, notification, message_of}
-use Rattle.lsp_rpc.specs.Params.{OpenedDocument, opened_of, uri_of}
+use Rattle.lsp_rpc.specs.Params.{OpenedDocument, ChangedDocument, opened_of, changed_of, uri_of}
 use Rattle.lsp_rpc.specs.Reply.{result_reply, error_reply}
 use Rattle.lsp_rpc.specs.declared.error_code.ErrorCode.{ErrorCode}
 use Rattle.lsp_rpc.specs.declared.error_code.ErrorCode.TheVariants.{ParseError, InvalidRequest, MethodNotFound, InvalidParams, ServerNotInitialized}
 use Rattle.lsp_rpc.specs.declared.method.Method.{Method}
-use Rattle.lsp_rpc.specs.declared.method.Method.TheVariants.{Initialize, Shutdown, Exit, DidOpen, DocumentDiagnostic}
-use Rattle.lsp_session.specs.Configuration.{Configuration}
+use Rattle.lsp_rpc.specs.declared.method.Method.TheVariants.{Initialize, Shutdown, Exit, DidOpen, DidChange, DidSave, DidClose, DocumentDiagnostic}
+use Rattle.workspace_uri.specs.Uri.{path_of}
+use Rattle.lsp_session.specs.Configuration.{Configuration, in_root_order}
 use Rattle.lsp_session.specs.Diagnostics.{diagnostics}
+use Rattle.lsp_session.specs.Files.{Files, from_disk, opened_files, changed_files, saved_files, closed_files, text_at}
 use Rattle.lsp_session.specs.declared.phase.Phase.{Phase}
 use Rattle.lsp_session.specs.declared.phase.Phase.TheVariants.{Uninitialized, Running, Shut, Exited}
 
--- the open documents by their paths, in the order of these; a document's path is the text of its URI
-abbrev pub Documents : Type 0
-Documents = List (List ℕ × OpenedDocument)
-
+-- the texts of the roots, how far the session has come, and the files that it knows
 pub record State : Type 0 where
+  pub roots : List (List ℕ)
   pub phase : Phase
-  pub documents : Documents
+  pub files : Files
 
 -- what follows a message: the state, and the replies to it
 pub record Turn : Type 0 where
@@ -43,33 +39,49 @@ abbrev pub refuse : State → Option IdData → ErrorCode → Turn
 refuse s id code = record { state = s; replies = error_reply id code ∷ [] }
 
 abbrev pub enter : Phase → State → State
-enter phase s = record { phase = phase; documents = s.documents }
+enter phase s = record s { phase = phase }
 
 -- ---- documents
 
-abbrev pub document_at : List ℕ → Documents → Option OpenedDocument
-document_at path documents = lookup (is_at (slice_cmp nat_cmp path)) documents
+-- what becomes of the files of a state at a path; without one nothing changes
+abbrev pub at_path : (List ℕ → Files → Files) → State → Option (List ℕ) → State
+at_path become s None = s
+at_path become s (Some path) = record s { files = become path s.files }
 
--- an open of an open document replaces it
-abbrev pub with_document : List ℕ → OpenedDocument → Documents → Documents
-with_document path document documents = insert_entry (slice_cmp nat_cmp) documents path document
+-- the path of the document that the params name
+abbrev pub path_in : State → Data → Option (List ℕ)
+path_in s params = option_and_then (path_of s.roots) (uri_of params)
 
--- params that aren't those of an open change nothing
+-- bad params change nothing, and neither does a URI that is no URL
 abbrev pub opened : State → Option OpenedDocument → State
 opened s None = s
-opened s (Some o) = record { phase = s.phase; documents = with_document o.uri o s.documents }
+opened s (Some o) = at_path (opened_files o) s (path_of s.roots o.uri)
+
+abbrev pub changed : State → Option ChangedDocument → State
+changed s None = s
+changed s (Some c) = at_path (changed_files c.document.version c.changes) s (path_of s.roots c.document.uri)
+
+abbrev pub saved : State → Data → State
+saved s params = at_path saved_files s (path_in s params)
+
+abbrev pub closed : State → Data → State
+closed s params = at_path closed_files s (path_in s params)
 
 -- ---- requests
 
--- the diagnostics of a document, which has to be open
-abbrev pub diagnosed : State → IdData → Option OpenedDocument → Turn
+-- the diagnostics of a text, of a document of the workspace
+abbrev pub diagnosed : State → IdData → Option (List ℕ) → Turn
 diagnosed s id None = refuse s (Some id) InvalidParams
-diagnosed s id (Some document) = answer s id (report_value (diagnostics document.text))
+diagnosed s id (Some text) = answer s id (report_value (diagnostics text))
+
+-- the text of the document that the params name, where it is one of the workspace
+abbrev pub text_in : State → Data → Option (List ℕ)
+text_in s params = option_and_then (λ path. text_at path s.files) (path_in s params)
 
 abbrev pub running_request : State → IdData → Option Method → Data → Turn
 running_request s id (Some Initialize) params = refuse s (Some id) InvalidRequest
 running_request s id (Some Shutdown) params = answer (enter Shut s) id null
-running_request s id (Some DocumentDiagnostic) params = diagnosed s id (option_and_then (λ path. document_at path s.documents) (uri_of params))
+running_request s id (Some DocumentDiagnostic) params = diagnosed s id (text_in s params)
 running_request s id _ params = refuse s (Some id) MethodNotFound
 
 abbrev pub first_request : State → IdData → Option Method → Turn
@@ -92,6 +104,9 @@ exits after_shutdown s _ = s
 abbrev pub running_notification : State → Option Method → Data → State
 running_notification s (Some Exit) params = enter (Exited false) s
 running_notification s (Some DidOpen) params = opened s (opened_of params)
+running_notification s (Some DidChange) params = changed s (changed_of params)
+running_notification s (Some DidSave) params = saved s params
+running_notification s (Some DidClose) params = closed s params
 running_notification s _ params = s
 
 abbrev pub notified : Phase → State → Option Method → Data → State
@@ -117,9 +132,9 @@ turn_in _ s m = received s m
 abbrev pub turn : State → MessageData → Turn
 turn s m = turn_in s.phase s m
 
--- the state before the first message: no file of the configuration is looked at yet
+-- the state before the first message: no document is open, and the texts of the files on disk are kept
 abbrev pub start : Configuration → State
-start config = record { phase = Uninitialized; documents = [] }
+start config = record { roots = config.roots; phase = Uninitialized; files = from_disk (in_root_order config) }
 
 -- the state after some messages, and the bodies of the replies to them
 pub record Run : Type 0 where

@@ -1,19 +1,10 @@
 -- What the private steps of a session and its core promise each other.
-use Rattle.std.specs.Prelude.{◌≡◌, ◌≤◌, ℕ, List, [], ◌∷◌, ◌++◌, length, map, take, Option, option_map, ⊤, Result, Ok, Err}
-use Rattle.std.specs.Io.KnownBytes.{Appends}
+use Rattle.std.specs.Prelude.{◌≡◌, ℕ, ℤ, List, [], ◌∷◌, ◌++◌, length, map, Bool, false, ◌&&◌, Option, Some, None, is_some, is_none, ⊤, Result, Ok, Err}
 use Rattle.lsp_frame.specs.Counts.{HasFailed}
 use Rattle.lsp_frame.specs.Fault.{code_of}
 use Rattle.lsp_frame.specs.declared.counts.Counts.{Counts}
 use Rattle.lsp_frame.specs.declared.fault.FrameFault.{FrameFault}
 use Rattle.lsp_frame.specs.declared.fault.FrameFault.TheVariants as frame
-use Rattle.doc_text.specs.Positions.{position_of}
-use Rattle.doc_text.specs.declared.encoding.Encoding.TheVariants.{Utf16}
-use Rattle.doc_text.specs.declared.position.Position.{Position}
-use Rattle.lsp_rpc.specs.Diagnostic.{DiagnosticData}
-use Rattle.proto_lex.specs.declared.token.Reason.{Reason}
-use Rattle.proto_lex.specs.declared.token.Token.{Token}
-use Rattle.lsp_session.specs.Diagnostics.{reason_of, error_between}
-use Rattle.lsp_session.specs.declared.diagnostics.BadToken.{BadToken}
 use Rattle.lsp_session.specs.declared.ended.Ended.{Ended}
 use Rattle.lsp_session.specs.declared.ended.Ended.TheVariants as how
 use Rattle.lsp_session.specs.declared.fault.ServeFault.{ServeFault}
@@ -21,8 +12,10 @@ use Rattle.lsp_session.specs.declared.fault.ServeFault.TheVariants as fault
 use Rattle.serde_json.specs.Data.{Data}
 use Rattle.serde_json.specs.Written.{compact_text}
 use Rattle.lsp_rpc.specs.Message.{MessageData, message_of}
+use Rattle.lsp_rpc.specs.Params.{ChangeData}
 use Rattle.lsp_session.specs.Configuration.{Configuration}
 use Rattle.lsp_session.specs.Core.{Event, messages, processed, CoreState, Stands}
+use Rattle.lsp_session.specs.Files.{OpenDocument, File, Files, set_file, changed_file, saved_file}
 use Rattle.lsp_session.specs.Session.{State, Turn, turn, silent, session}
 
 -- these replies, and then what a turn replies
@@ -34,22 +27,27 @@ abbrev pub turns : State → List MessageData → Turn
 turns s [] = silent s
 turns s (m ∷ ms) = replying (turn s m).replies (turns (turn s m).state ms)
 
--- ---- diagnostics
+-- ---- files
 
-abbrev pub bad_token_of : Token → Reason → BadToken
-bad_token_of t reason = record { start = t.start; «end» = t.end; reason = reason }
+-- a file after changes of its document, if one is open
+abbrev pub changed_from : ℤ → List ChangeData → File → Option OpenDocument → File
+changed_from version changes f None = f
+changed_from version changes f (Some d) = changed_file version changes f d
 
--- the token, if it is a bad one
-abbrev pub bad_token_if : Token → Option BadToken
-bad_token_if t = option_map (bad_token_of t) (reason_of t.kind)
+-- a file after a save of its document, if one is open
+abbrev pub saved_from : File → Option OpenDocument → File
+saved_from f None = f
+saved_from f (Some d) = saved_file f d
 
--- the error at a bad token with these positions
-abbrev pub diagnostic_of : BadToken → Position → Position → DiagnosticData
-diagnostic_of t start end = error_between start end t.reason
+-- whether a document is open in a file and no text is kept
+abbrev pub leaves : Option File → Bool
+leaves None = false
+leaves (Some f) = is_some f.document && is_none f.kept
 
--- the error at a bad token of a text
-abbrev pub error_at : List ℕ → BadToken → DiagnosticData
-error_at text t = diagnostic_of t (position_of Utf16 text t.start) (position_of Utf16 text t.end)
+-- the files with no document open at a path
+abbrev pub with_none_open : List ℕ → Files → Option File → Files
+with_none_open path files None = files
+with_none_open path files (Some f) = set_file path (record f { document = None }) files
 
 -- ---- messages that are answered at once
 
@@ -69,6 +67,8 @@ abbrev pub IsWriteOrMemory : Counts → Counts → ServeFault → Type 0
 IsWriteOrMemory old new fault.Read = ⊥
 IsWriteOrMemory old new fault.Write = HasFailed old new
 IsWriteOrMemory old new fault.Memory = ⊤
+IsWriteOrMemory old new fault.BadRoot = ⊥
+IsWriteOrMemory old new (fault.BadPath index) = ⊥
 
 -- how a session ends where there is no further frame for this reason
 abbrev pub end_by : FrameFault → Result Ended ServeFault

@@ -1,5 +1,5 @@
 -- The session over a stream of frames: what the server writes, and how it ends.
-use Rattle.std.specs.Prelude.{◌≡◌, ℕ, zero, suc, ◌≤◌, List, [], ◌∷◌, ◌++◌, length, take, ⊤, Bool, true, false, if◌then◌else◌, Option, Some, None, is_some}
+use Rattle.std.specs.Prelude.{◌≡◌, ℕ, zero, suc, ◌≤◌, List, [], ◌∷◌, ◌++◌, length, take, ⊤, Bool, true, if◌then◌else◌, Option, Some, None, is_some}
 use Rattle.std.specs.List.{flat_map}
 use Rattle.std.specs.Io.KnownBytes.{Appends}
 use Rattle.lsp_frame.specs.Fault.{code_of}
@@ -9,7 +9,7 @@ use Rattle.lsp_rpc.specs.Message.{message_of}
 use Rattle.lsp_session.specs.Configuration.{Configuration}
 use Rattle.lsp_session.specs.Session.{State, start, turn, session}
 use Rattle.lsp_session.specs.declared.phase.Phase.{Phase}
-use Rattle.lsp_session.specs.declared.phase.Phase.TheVariants.{Uninitialized, Running, Shut, Exited}
+use Rattle.lsp_session.specs.declared.phase.Phase.TheVariants.{Exited}
 use Rattle.lsp_session.specs.declared.ended.Ended.{Ended}
 use Rattle.lsp_session.specs.declared.ended.Ended.TheVariants as how
 

@@ -1,90 +1,84 @@
 // The diagnostics of a text.
 ghost use Rattle.std.specs.Prelude.{◌≡◌, [], ◌∷◌, ◌++◌, IfOk, OnOk, map};
-ghost use Rattle.std.specs.List.{filter_map};
 ghost use Rattle.doc_text.specs.Positions.{position_of};
 ghost use Rattle.lsp_rpc.specs.Diagnostic.{diagnostic_view};
-ghost use Rattle.lsp_session.specs.Diagnostics.{diagnostics, reason_text, reason_of};
-ghost use Rattle.lsp_session.specs.Steps.{bad_token_if, diagnostic_of, error_at};
+ghost use Rattle.proto_facts.specs.Facts.{facts_of};
+ghost use Rattle.proto_syntax.specs.Read.{read, value_tree};
+ghost use Rattle.lsp_session.specs.Diagnostics.{diagnostics, severity_of, diagnostic_between, diagnostic_at};
 
 use doc_text::{Encoding, Position, Range, Text};
 use lsp_rpc::{Diagnostic, Severity};
-use proto_lex::{Kind, Reason, Token, lex};
+use proto_facts::{Diag, FileFacts, facts};
+use proto_lex::lex;
+use proto_syntax::{FileTree, parse};
 use std::alloc::{AllocError, Global};
 
-// What is wrong with a token of this kind.
-fn reason_of(kind: Kind) -> Option<Reason>
-    ensures { result ≡ reason_of kind }
+// How long a text may be that is analysed, in bytes.
+const MAX_ANALYSED: usize = 16_777_216;
+
+// The tree of a text, of whatever length.
+fn read(alloc: Global, text: &str) -> Result<FileTree, AllocError>
+    ensures { IfOk result (λ tree. tree ≡ read text.now) }
 {
-    match kind {
-        Kind::Bad(reason) => Some(reason),
-        _ => None,
+    let tokens = lex(alloc, text)?;
+    parse(alloc, text, tokens.as_slice())
+}
+
+// The tree of a text. A text that is too long has the tree of the empty text.
+fn tree_of(alloc: Global, text: &str) -> Result<FileTree, AllocError>
+    ensures { IfOk result (λ tree. tree ≡ value_tree text.now) }
+{
+    if MAX_ANALYSED < text.len() {
+        read(alloc, "")
+    } else {
+        read(alloc, text)
     }
 }
 
-fn reason_text(reason: Reason) -> &'static str
-    ensures { result.now ≡ reason_text reason }
+// What a text says by itself.
+fn facts_of(alloc: Global, text: &str) -> Result<FileFacts, AllocError>
+    ensures { IfOk result (λ found. found ≡ facts_of text.now) }
 {
-    match reason {
-        Reason::Character => "illegal character",
-        Reason::Number => "malformed number",
-        Reason::String => "unfinished string",
-        Reason::Comment => "unfinished comment",
+    let tree = tree_of(alloc, text)?;
+    facts(alloc, text, &tree)
+}
+
+fn severity_of(number: u32) -> Severity
+    ensures { result ≡ severity_of number }
+{
+    if number == 3 {
+        Severity::Information
+    } else {
+        Severity::Error
     }
 }
 
-// A bad token, by its byte offsets and what is wrong with it.
-#[derive(Clone, Copy, Debug)]
-pub(crate) struct BadToken {
-    pub(crate) start: usize,
-    pub(crate) end: usize,
-    pub(crate) reason: Reason,
-}
-
-// The token, if it is a bad one.
-fn bad_token(token: &Token) -> Option<BadToken>
-    ensures { result ≡ bad_token_if token.now }
+fn start_offsets(alloc: Global, diags: &[Diag]) -> Result<Vec<usize>, AllocError>
+    ensures { IfOk result (λ offsets. offsets.items ≡ map (λ d. d.start) diags.now) }
 {
-    let reason = reason_of(token.kind)?;
-    Some(BadToken {
-        start: token.start,
-        end: token.end,
-        reason,
-    })
+    diags.iter().map(|d| d.start).collect(alloc)
 }
 
-// The bad ones of some tokens.
-fn bad_tokens(alloc: Global, tokens: &[Token]) -> Result<Vec<BadToken>, AllocError>
-    ensures { IfOk result (λ found. found.items ≡ filter_map bad_token_if tokens.now) }
+fn end_offsets(alloc: Global, diags: &[Diag]) -> Result<Vec<usize>, AllocError>
+    ensures { IfOk result (λ offsets. offsets.items ≡ map (λ d. d.end) diags.now) }
 {
-    tokens.iter().filter_map(|t| bad_token(t)).collect(alloc)
+    diags.iter().map(|d| d.end).collect(alloc)
 }
 
-fn start_offsets(alloc: Global, tokens: &[BadToken]) -> Result<Vec<usize>, AllocError>
-    ensures { IfOk result (λ offsets. offsets.items ≡ map (λ t. t.start) tokens.now) }
-{
-    tokens.iter().map(|t| t.start).collect(alloc)
-}
-
-fn end_offsets(alloc: Global, tokens: &[BadToken]) -> Result<Vec<usize>, AllocError>
-    ensures { IfOk result (λ offsets. offsets.items ≡ map (λ t. t.end) tokens.now) }
-{
-    tokens.iter().map(|t| t.end).collect(alloc)
-}
-
-// Puts the error at a bad token with these positions at the end.
-fn push_error(
+// Puts a diagnostic between these positions at the end.
+fn push_diagnostic(
     found: &mut Vec<Diagnostic<'static>>,
-    token: BadToken,
+    diag: Diag,
     start: Position,
     end: Position,
 ) -> Result<(), AllocError>
-    ensures { OnOk result (map diagnostic_view found.new.items ≡ map diagnostic_view found.old.items ++ diagnostic_of token start end ∷ []) }
+    ensures { OnOk result (map diagnostic_view found.new.items ≡ map diagnostic_view found.old.items ++ diagnostic_between start end diag.message ∷ []) }
 {
     found.push(Diagnostic {
         range: Range { start, end },
-        severity: Severity::Error,
-        code: 201,
-        message: reason_text(token.reason),
+        severity: severity_of(diag.message.severity()),
+        code: diag.message.code(),
+        message: diag.message.text(),
     })?;
     Ok(())
 }
@@ -96,37 +90,42 @@ pub(crate) fn diagnostics(
 ) -> Result<Vec<Diagnostic<'static>>, AllocError>
     ensures { IfOk result (λ found. map diagnostic_view found.items ≡ diagnostics text.now) }
 {
-    let tokens = lex(alloc, text.as_str())?;
-    let bad_tokens = bad_tokens(alloc, tokens.as_slice())?;
-    let start_offsets = start_offsets(alloc, bad_tokens.as_slice())?;
-    let end_offsets = end_offsets(alloc, bad_tokens.as_slice())?;
-    let start_places = text.positions_of(alloc, start_offsets.as_slice(), Encoding::Utf16)?;
-    let end_places = text.positions_of(alloc, end_offsets.as_slice(), Encoding::Utf16)?;
-    let found = errors(
-        alloc,
-        text,
-        bad_tokens.as_slice(),
-        start_places.as_slice(),
-        end_places.as_slice(),
-    )?;
+    let facts = facts_of(alloc, text.as_str())?;
+    let found = placed(alloc, text, facts.diags.as_slice())?;
     Ok(found)
 }
 
-// The errors at some bad tokens of a text, at whose ends these positions stand.
-fn errors(
+// Some diagnostics of a text at their positions.
+fn placed(
     alloc: Global,
     text: &Text,
-    tokens: &[BadToken],
+    diags: &[Diag],
+) -> Result<Vec<Diagnostic<'static>>, AllocError>
+    ensures { IfOk result (λ found. map diagnostic_view found.items ≡ map (diagnostic_at text.now) diags.now) }
+{
+    let start_offsets = start_offsets(alloc, diags)?;
+    let end_offsets = end_offsets(alloc, diags)?;
+    let starts = text.positions_of(alloc, start_offsets.as_slice(), Encoding::Utf16)?;
+    let ends = text.positions_of(alloc, end_offsets.as_slice(), Encoding::Utf16)?;
+    let found = between(alloc, text, diags, starts.as_slice(), ends.as_slice())?;
+    Ok(found)
+}
+
+// Some diagnostics of a text, at whose ends these positions stand.
+fn between(
+    alloc: Global,
+    text: &Text,
+    diags: &[Diag],
     starts: &[Position],
     ends: &[Position],
 ) -> Result<Vec<Diagnostic<'static>>, AllocError>
-    requires starts { starts.now ≡ map (position_of Encoding.Utf16 text.now) (map (λ t. t.start) tokens.now) }
-    requires ends { ends.now ≡ map (position_of Encoding.Utf16 text.now) (map (λ t. t.end) tokens.now) }
-    ensures { IfOk result (λ found. map diagnostic_view found.items ≡ map (error_at text.now) tokens.now) }
+    requires starts { starts.now ≡ map (position_of Encoding.Utf16 text.now) (map (λ d. d.start) diags.now) }
+    requires ends { ends.now ≡ map (position_of Encoding.Utf16 text.now) (map (λ d. d.end) diags.now) }
+    ensures { IfOk result (λ found. map diagnostic_view found.items ≡ map (diagnostic_at text.now) diags.now) }
 {
-    let mut found = Vec::with_capacity(alloc, tokens.len())?;
-    for i in 0..tokens.len() {
-        push_error(&mut found, tokens[i], starts[i], ends[i])?;
+    let mut found = Vec::with_capacity(alloc, diags.len())?;
+    for i in 0..diags.len() {
+        push_diagnostic(&mut found, diags[i], starts[i], ends[i])?;
     }
     Ok(found)
 }

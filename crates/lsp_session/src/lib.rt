@@ -7,9 +7,9 @@
 
 mod config;
 mod diagnostics;
-mod documents;
 mod ended;
 mod fault;
+mod files;
 mod laws;
 mod phase;
 mod reply;
@@ -22,7 +22,7 @@ mod verdict;
 pub use config::{Config, DiskFile};
 pub use ended::Ended;
 pub use fault::{CoreFault, ServeFault};
-pub use laws::nothing_follows_an_exit;
+pub use laws::{nothing_follows_an_exit, texts_are_of_the_workspace};
 pub use reply::Reply;
 pub use run::{CoreEvent, CoreRun, run_core};
 pub use serving::serve;

@@ -18,7 +18,7 @@ use std::alloc::Global;
 pub enum CoreEvent {
     /// A message comes, with this body.
     Message(Vec<u8>),
-    /// All work is done that the core has to give. It has none yet.
+    /// All work is done that the core has to give: none, since it does its work itself.
     Work,
 }
 
@@ -27,7 +27,7 @@ pub enum CoreEvent {
 pub struct CoreRun {
     /// The replies, in order.
     pub replies: Vec<Reply>,
-    /// What became of each offer, in order. There are none yet.
+    /// What became of each offer, in order: none, since nothing is offered.
     pub verdicts: Vec<Verdict>,
     /// How many messages were processed.
     pub processed: usize,

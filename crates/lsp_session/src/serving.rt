@@ -1,9 +1,10 @@
 // A session over streams of frames.
-ghost use Rattle.std.specs.Prelude.{◌≡◌, ℕ, List, [], ◌∷◌, ◌++◌, take, Some, IfOk, IfErr, IfSome, OnOk, OnErr};
+ghost use Rattle.std.specs.Prelude.{◌≡◌, ℕ, List, [], ◌∷◌, ◌++◌, Some, IfOk, IfErr, IfSome, OnOk, OnErr};
 ghost use Rattle.std.specs.Io.KnownBytes.{Appends};
 ghost use Rattle.lsp_frame.specs.Counts.{NoneFell, HasFailed};
 ghost use Rattle.lsp_frame.specs.FrameReader.{source_of, IsOpen};
 ghost use Rattle.lsp_session.specs.Configuration.{Configuration};
+ghost use Rattle.lsp_session.specs.Fault.{ComesWhileServing};
 ghost use Rattle.lsp_session.specs.Stream.{frames_of, output, ended, behind_exit, SendsPrefix, IsExit, HasFrameCode};
 ghost use Rattle.lsp_session.specs.Steps.{Knows, replies_to, IsWriteOrMemory, end_by};
 ghost use Rattle.lsp_session.specs.View.{core_state};
@@ -94,6 +95,9 @@ pub fn serve<R: Wait, S: ByteSource, K: ByteSink>(
     // A device's fault is answered only where the device failed in the call.
     ensures read { IfErr result (λ fault. fault ≡ ServeFault.Read → HasFailed (S.counts (source_of reader.old)) (S.counts (source_of reader.new))) }
     ensures write { IfErr result (λ fault. fault ≡ ServeFault.Write → HasFailed (K.counts writer.old) (K.counts writer.new)) }
+
+    // What is wrong with a configuration was said when it was made.
+    ensures fault { IfErr result ComesWhileServing }
 {
     let mut core = match Core::new(alloc, config) {
         Ok(core) => core,

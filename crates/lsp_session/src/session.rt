@@ -1,50 +1,52 @@
 // The session: one message after the other.
-ghost use Rattle.std.specs.Prelude.{◌≡◌, Some, IfOk, OnOk, option_map, option_and_then, map};
+ghost use Rattle.std.specs.Prelude.{◌≡◌, Some, IfOk, OnOk, option_map, map, string_bytes};
 ghost use Rattle.std.specs.Option.{option_to_list};
-ghost use Rattle.serde_json.specs.Data.{Data};
 ghost use Rattle.serde_json.specs.View.{view};
 ghost use Rattle.serde_json.specs.Written.{compact_text};
 ghost use Rattle.lsp_rpc.specs.Message.{id_view, message_view};
-ghost use Rattle.lsp_rpc.specs.Params.{opened_of, uri_of};
+ghost use Rattle.lsp_rpc.specs.Params.{opened_of, changed_of};
+ghost use Rattle.lsp_session.specs.Files.{text_at};
 ghost use Rattle.lsp_rpc.specs.Reply as reply;
 ghost use Rattle.lsp_session.specs.Session as spec;
 
 use crate::config::Config;
 use crate::diagnostics::diagnostics;
-use crate::documents::{self, Document, Documents};
+use crate::files::{self, Files};
 use crate::phase::Phase;
 use crate::reply::Reply;
 use doc_text::Text;
 use lsp_rpc::{
-    DidOpenParams, ErrorCode, Id, Message, Method, document_uri, error_reply, initialize_reply,
-    null_reply, report_reply,
+    DidChangeParams, DidOpenParams, ErrorCode, Id, Message, Method, document_uri, error_reply,
+    initialize_reply, null_reply, report_reply,
 };
 use serde_json::Value;
 use std::alloc::{AllocError, Global};
-use std::collections::BTreeMap;
+use workspace_uri::Root;
 
 /// A session with an editor.
 #[derive(Drop)]
 pub(crate) struct Session {
     alloc: Global,
-    config: Config,
+    root: Root,
     phase: Phase,
-    documents: Documents,
+    files: Files,
 }
 
 impl Session {
-    ghost use Rattle.lsp_session.specs.View.{state_of, document_view};
+    ghost use Rattle.lsp_session.specs.View.{state_of};
 
     // The session before its first message.
-    pub(crate) fn new(alloc: Global, config: Config) -> Session
-        ensures { state_of result ≡ spec.start config }
+    pub(crate) fn new(alloc: Global, config: Config) -> Result<Session, AllocError>
+        ensures { IfOk result (λ s. state_of s ≡ spec.start config) }
     {
-        Session {
+        let (root, disk_files) = config.into_parts();
+        let files = files::from_disk(alloc, disk_files)?;
+        Ok(Session {
             alloc,
-            config,
+            root,
             phase: Phase::Uninitialized,
-            documents: BTreeMap::new(alloc),
-        }
+            files,
+        })
     }
 
     pub(crate) fn phase(&self) -> Phase
@@ -62,11 +64,31 @@ impl Session {
 
     // ---- documents
 
-    fn document(&self, params: &Value) -> Option<&Document>
-        ensures { option_map (λ d. document_view d.now) result
-            ≡ option_and_then (λ path. spec.document_at path (state_of self.now).documents) (uri_of (view params.now)) }
+    // The path of the document that the params name, unless its URI is no URL.
+    fn path_in(&self, params: &Value) -> Result<Option<String>, AllocError>
+        ensures { IfOk result (λ o. option_map string_bytes o ≡ spec.path_in (state_of self.now) (view params.now)) }
     {
-        documents::get(&self.documents, document_uri(params)?)
+        match document_uri(params) {
+            Some(uri) => self.root.path_of(self.alloc, uri),
+            None => Ok(None),
+        }
+    }
+
+    // The text at a path, where it is one of the workspace.
+    fn text_at(&self, path: &str) -> Option<&Text>
+        ensures { option_map (λ t. t.now) result ≡ text_at path.now (state_of self.now).files }
+    {
+        files::get(&self.files, path)?.text()
+    }
+
+    // The text of the document that the params name, where it is one of the workspace.
+    fn text_in(&self, params: &Value) -> Result<Option<&Text>, AllocError>
+        ensures { IfOk result (λ o. option_map (λ t. t.now) o ≡ spec.text_in (state_of self.now) (view params.now)) }
+    {
+        match self.path_in(params)? {
+            Some(path) => Ok(self.text_at(path.as_str())),
+            None => Ok(None),
+        }
     }
 
     fn open(&mut self, params: Value) -> Result<(), AllocError>
@@ -75,23 +97,53 @@ impl Session {
         let Some(opened) = DidOpenParams::from_value(params) else {
             return Ok(());
         };
-        let path = opened.uri.clone()?;
-        let document = Document {
-            uri: opened.uri,
-            version: opened.version,
-            text: Text::new(opened.text),
+        match self.root.path_of(self.alloc, opened.uri.as_str())? {
+            Some(path) => files::open(&mut self.files, path, opened),
+            None => Ok(()),
+        }
+    }
+
+    fn change(&mut self, params: Value) -> Result<(), AllocError>
+        ensures { OnOk result (state_of self.new ≡ spec.changed (state_of self.old) (changed_of (view params))) }
+    {
+        let Some(changed) = DidChangeParams::from_value(self.alloc, params)? else {
+            return Ok(());
         };
-        documents::put(&mut self.documents, path, document)
+        match self
+            .root
+            .path_of(self.alloc, changed.document.uri.as_str())?
+        {
+            Some(path) => files::change(&mut self.files, path.as_str(), changed),
+            None => Ok(()),
+        }
+    }
+
+    fn save(&mut self, params: &Value) -> Result<(), AllocError>
+        ensures { OnOk result (state_of self.new ≡ spec.saved (state_of self.old) (view params.now)) }
+    {
+        match self.path_in(params)? {
+            Some(path) => files::save(self.alloc, &mut self.files, path.as_str()),
+            None => Ok(()),
+        }
+    }
+
+    fn close(&mut self, params: &Value) -> Result<(), AllocError>
+        ensures { OnOk result (state_of self.new ≡ spec.closed (state_of self.old) (view params.now)) }
+    {
+        if let Some(path) = self.path_in(params)? {
+            files::close(&mut self.files, path.as_str());
+        }
+        Ok(())
     }
 
     fn diagnose(&self, id: &Id, params: &Value) -> Result<Option<Reply>, AllocError>
-        ensures { IfOk result (λ r. option_to_list r ≡ map compact_text (spec.diagnosed (state_of self.now) (id_view id.now)
-            (option_and_then (λ path. spec.document_at path (state_of self.now).documents) (uri_of (view params.now)))).replies) }
+        ensures { IfOk result (λ r. option_to_list r ≡ map compact_text
+            (spec.diagnosed (state_of self.now) (id_view id.now) (spec.text_in (state_of self.now) (view params.now))).replies) }
     {
-        let Some(document) = self.document(params) else {
+        let Some(text) = self.text_in(params)? else {
             return self.refuse(Some(id), ErrorCode::InvalidParams);
         };
-        let found = diagnostics(self.alloc, &document.text)?;
+        let found = diagnostics(self.alloc, text)?;
         Ok(Some(Reply::new(report_reply(self.alloc, id, found.as_slice())?)))
     }
 
@@ -146,6 +198,9 @@ impl Session {
                 };
             }
             (Phase::Running, Some(Method::DidOpen)) => self.open(params)?,
+            (Phase::Running, Some(Method::DidChange)) => self.change(params)?,
+            (Phase::Running, Some(Method::DidSave)) => self.save(&params)?,
+            (Phase::Running, Some(Method::DidClose)) => self.close(&params)?,
             _ => {}
         }
         Ok(())

@@ -1,5 +1,5 @@
 // The core: messages in, replies out, and nothing of streams.
-ghost use Rattle.std.specs.Prelude.{◌≡◌, ◌↔◌, ◌<◌, ℕ, List, ◌∷◌, [], ◌++◌, length, map, Some, None, IfOk, IfErr, IfSome, OnOk, IsOk, IsTrue};
+ghost use Rattle.std.specs.Prelude.{◌≡◌, ◌↔◌, ◌<◌, ℕ, List, ◌∷◌, [], ◌++◌, length, map, Some, None, IfOk, IfErr, IfSome, OnOk, IsTrue};
 ghost use Rattle.serde_json.specs.Written.{compact_text};
 ghost use Rattle.lsp_session.specs.Configuration.{Configuration};
 ghost use Rattle.lsp_session.specs.Core.{Event, Arrive, messages, processed, Stands, Advances};
@@ -31,18 +31,20 @@ pub struct Core {
 impl Core {
     ghost use Rattle.lsp_session.specs.View.{last_fault};
 
-    /// The core of a session before its first message.
+    /// The core of a session before its first message. `Memory` where memory is refused.
     pub fn new(alloc: Global, config: Config) -> Result<Core, CoreFault>
         ensures stands { IfOk result (λ core. Stands config (core_state core) []) }
         ensures open { IfOk result (λ core. last_fault core ≡ None) }
-        ensures made { IsOk result }
     {
-        Ok(Core {
-            alloc,
-            session: Session::new(alloc, config),
-            queue: VecDeque::new(alloc),
-            fault: None,
-        })
+        match Session::new(alloc, config) {
+            Ok(session) => Ok(Core {
+                alloc,
+                session,
+                queue: VecDeque::new(alloc),
+                fault: None,
+            }),
+            Err(_) => Err(CoreFault::Memory),
+        }
     }
 
     /// Queues a message by its body, to be processed by an advance. `Memory` where memory is refused.

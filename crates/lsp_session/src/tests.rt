@@ -38,8 +38,31 @@ const NOT_OPEN: &str =
 
 const SHUT: &str = "{\"id\":3,\"jsonrpc\":\"2.0\",\"result\":null}";
 
-fn config_of(alloc: Global) -> Result<Config, ServeFault> {
-    Config::make(Vec::new(alloc), Vec::new(alloc))
+const ROOT: &str = "file:///w/";
+
+fn texts_of(alloc: Global, texts: &[&str]) -> Result<Vec<String>, AllocError> {
+    let mut all = Vec::new(alloc);
+    for text in texts {
+        all.push(String::from_str(alloc, text)?)?;
+    }
+    Ok(all)
+}
+
+// Files of the first root, by path and text.
+fn files_of(alloc: Global, files: &[(&str, &str)]) -> Result<Vec<DiskFile>, AllocError> {
+    let mut all = Vec::new(alloc);
+    for (path, text) in files {
+        all.push(DiskFile {
+            root: 0,
+            path: String::from_str(alloc, path)?,
+            text: String::from_str(alloc, text)?,
+        })?;
+    }
+    Ok(all)
+}
+
+fn config_of(alloc: Global) -> Result<Config, Fail> {
+    Ok(Config::make(alloc, texts_of(alloc, &[ROOT])?, Vec::new(alloc))?)
 }
 
 fn messages_of(alloc: Global, bodies: &[&str]) -> Result<Vec<CoreEvent>, AllocError> {
@@ -241,5 +264,240 @@ fn numbers_failed_devices(rt: HostRuntime) -> Result<(), Fail> {
         assert!(rt; output.as_slice().starts_with(writer.written()));
         assert_eq!(rt; writer.written().len(), room);
     }
+    Ok(())
+}
+
+// ---- files
+
+// The replies to these messages, over these files on disk, are these.
+fn expect_replies_over<R: AllocGlobal + Abort>(
+    rt: &R,
+    files: &[(&str, &str)],
+    bodies: &[&str],
+    replies: &[&str],
+) -> Result<(), Fail> {
+    let alloc = rt.alloc();
+    let config = Config::make(alloc, texts_of(alloc, &[ROOT])?, files_of(alloc, files)?)?;
+    let run = run_core(alloc, config, messages_of(alloc, bodies)?)?;
+    assert_eq!(rt; run.replies.len(), replies.len());
+    for (reply, wanted) in run.replies.iter().zip(replies.iter()) {
+        assert_eq!(rt; reply.as_bytes(), wanted.as_bytes());
+    }
+    Ok(())
+}
+
+const BAD_TEXT: &str = "syntax = \"proto3\";\n#\n";
+
+const GOOD_TEXT: &str = "syntax = \"proto3\";\n";
+
+const OPEN_ESCAPED: &str =
+    "{\"jsonrpc\":\"2.0\",\"method\":\"textDocument/didOpen\",\"params\":{\"textDocument\":{\"uri\":\"file:///w/%61.proto\",\"version\":1,\"text\":\"syntax = \\\"proto3\\\";\\n#\\n\"}}}";
+
+const SAVE: &str =
+    "{\"jsonrpc\":\"2.0\",\"method\":\"textDocument/didSave\",\"params\":{\"textDocument\":{\"uri\":\"file:///w/a.proto\"}}}";
+
+const CLOSE: &str =
+    "{\"jsonrpc\":\"2.0\",\"method\":\"textDocument/didClose\",\"params\":{\"textDocument\":{\"uri\":\"file:///w/a.proto\"}}}";
+
+const CHANGE_TO_GOOD: &str =
+    "{\"jsonrpc\":\"2.0\",\"method\":\"textDocument/didChange\",\"params\":{\"textDocument\":{\"uri\":\"file:///w/a.proto\",\"version\":2},\"contentChanges\":[{\"text\":\"syntax = \\\"proto3\\\";\\n\"}]}}";
+
+#[test]
+fn keeps_the_saved_text(rt: HostRuntime) -> Result<(), Fail> {
+    let disk = [("a.proto", GOOD_TEXT)];
+    expect_replies_over(
+        &rt,
+        &disk,
+        &[INITIALIZE, DIAGNOSTIC],
+        &[INITIALIZED, NO_REPORT],
+    )?;
+    // An open text is over the kept one, by whichever URI of the path.
+    expect_replies_over(
+        &rt,
+        &disk,
+        &[INITIALIZE, OPEN_ESCAPED, DIAGNOSTIC],
+        &[INITIALIZED, REPORT],
+    )?;
+    // A close without a save brings the kept text back; a save makes the open text the kept one.
+    expect_replies_over(
+        &rt,
+        &disk,
+        &[INITIALIZE, OPEN_ESCAPED, CLOSE, DIAGNOSTIC],
+        &[INITIALIZED, NO_REPORT],
+    )?;
+    expect_replies_over(
+        &rt,
+        &disk,
+        &[
+            INITIALIZE,
+            OPEN_ESCAPED,
+            SAVE,
+            CLOSE,
+            DIAGNOSTIC,
+            OPEN_GOOD,
+            CLOSE,
+            DIAGNOSTIC,
+        ],
+        &[INITIALIZED, REPORT, REPORT],
+    )?;
+    Ok(())
+}
+
+#[test]
+fn keeps_what_was_found_on_disk(rt: HostRuntime) -> Result<(), Fail> {
+    // A change or a save of a document that isn't open is ignored.
+    expect_replies_over(
+        &rt,
+        &[("a.proto", BAD_TEXT)],
+        &[INITIALIZE, CHANGE_TO_GOOD, SAVE, CLOSE, DIAGNOSTIC],
+        &[INITIALIZED, REPORT],
+    )?;
+    // A document that nothing keeps leaves when it is closed.
+    expect_replies(
+        &rt,
+        &[INITIALIZE, OPEN, CLOSE, CLOSE, DIAGNOSTIC],
+        &[INITIALIZED, NOT_OPEN],
+    )?;
+    // Of two files with one path the earlier counts.
+    expect_replies_over(
+        &rt,
+        &[
+            ("a.proto", BAD_TEXT),
+            ("b.proto", GOOD_TEXT),
+            ("a.proto", GOOD_TEXT),
+        ],
+        &[INITIALIZE, DIAGNOSTIC],
+        &[INITIALIZED, REPORT],
+    )?;
+    Ok(())
+}
+
+#[test]
+fn changes_open_documents(rt: HostRuntime) -> Result<(), Fail> {
+    expect_replies(
+        &rt,
+        &[INITIALIZE, OPEN, CHANGE_TO_GOOD, DIAGNOSTIC],
+        &[INITIALIZED, NO_REPORT],
+    )?;
+    // Each change counts, in UTF-16 units, in the text that those before it leave. The second line is `/*é*/cd` after the
+    // first, `/*é*/;;` after the second and `/*é*/; #` after the third.
+    let opened =
+        "{\"jsonrpc\":\"2.0\",\"method\":\"textDocument/didOpen\",\"params\":{\"textDocument\":{\"uri\":\"file:///w/a.proto\",\"version\":1,\"text\":\"syntax = 'proto3';\\né#\\n😀cd\"}}}";
+    let changed =
+        "{\"jsonrpc\":\"2.0\",\"method\":\"textDocument/didChange\",\"params\":{\"textDocument\":{\"uri\":\"file:///w/a.proto\",\"version\":-7},\"contentChanges\":[{\"range\":{\"start\":{\"line\":1,\"character\":0},\"end\":{\"line\":2,\"character\":2}},\"text\":\"/*é*/\"},{\"range\":{\"start\":{\"line\":9,\"character\":0},\"end\":{\"line\":1,\"character\":5}},\"text\":\";;\"},{\"range\":{\"start\":{\"line\":1,\"character\":6},\"end\":{\"line\":1,\"character\":7}},\"text\":\" #\"}]}}";
+    let report =
+        "{\"id\":2,\"jsonrpc\":\"2.0\",\"result\":{\"items\":[{\"code\":201,\"message\":\"illegal character\",\"range\":{\"end\":{\"character\":8,\"line\":1},\"start\":{\"character\":7,\"line\":1}},\"severity\":1,\"source\":\"protols\"}],\"kind\":\"full\"}}";
+    expect_replies(
+        &rt,
+        &[INITIALIZE, opened, changed, DIAGNOSTIC],
+        &[INITIALIZED, report],
+    )?;
+    // No change at all leaves the text.
+    let unchanged =
+        "{\"jsonrpc\":\"2.0\",\"method\":\"textDocument/didChange\",\"params\":{\"textDocument\":{\"uri\":\"file:///w/a.proto\",\"version\":2},\"contentChanges\":[]}}";
+    expect_replies(
+        &rt,
+        &[INITIALIZE, OPEN, unchanged, DIAGNOSTIC],
+        &[INITIALIZED, REPORT],
+    )?;
+    // A change with a bad range, or a list that is none, is dropped whole.
+    for dropped in [
+        "{\"jsonrpc\":\"2.0\",\"method\":\"textDocument/didChange\",\"params\":{\"textDocument\":{\"uri\":\"file:///w/a.proto\",\"version\":2},\"contentChanges\":[{\"text\":\"\"},{\"range\":null,\"text\":\"\"}]}}",
+        "{\"jsonrpc\":\"2.0\",\"method\":\"textDocument/didChange\",\"params\":{\"textDocument\":{\"uri\":\"file:///w/a.proto\",\"version\":2},\"contentChanges\":{\"text\":\"\"}}}",
+        "{\"jsonrpc\":\"2.0\",\"method\":\"textDocument/didChange\",\"params\":{\"textDocument\":{\"uri\":\"a.proto\",\"version\":2},\"contentChanges\":[{\"text\":\"\"}]}}",
+        "{\"jsonrpc\":\"2.0\",\"method\":\"textDocument/didChange\",\"params\":{\"textDocument\":{\"uri\":\"file:///w/a.proto\"},\"contentChanges\":[{\"text\":\"\"}]}}",
+    ] {
+        expect_replies(
+            &rt,
+            &[INITIALIZE, OPEN, dropped, DIAGNOSTIC],
+            &[INITIALIZED, REPORT],
+        )?;
+    }
+    Ok(())
+}
+
+#[test]
+fn knows_documents_outside_the_root(rt: HostRuntime) -> Result<(), Fail> {
+    let opened =
+        "{\"jsonrpc\":\"2.0\",\"method\":\"textDocument/didOpen\",\"params\":{\"textDocument\":{\"uri\":\"untitled:One\",\"version\":1,\"text\":\"syntax = 'proto3';\\n#\"}}}";
+    let closed =
+        "{\"jsonrpc\":\"2.0\",\"method\":\"textDocument/didClose\",\"params\":{\"textDocument\":{\"uri\":\"UNTITLED:One\"}}}";
+    let asked =
+        "{\"jsonrpc\":\"2.0\",\"id\":2,\"method\":\"textDocument/diagnostic\",\"params\":{\"textDocument\":{\"uri\":\"untitled:One\"}}}";
+    expect_replies(&rt, &[INITIALIZE, opened, asked], &[INITIALIZED, REPORT])?;
+    expect_replies(
+        &rt,
+        &[INITIALIZE, opened, closed, asked],
+        &[INITIALIZED, NOT_OPEN],
+    )?;
+    // What was saved stays, outside the root too.
+    let saved =
+        "{\"jsonrpc\":\"2.0\",\"method\":\"textDocument/didSave\",\"params\":{\"textDocument\":{\"uri\":\"untitled:One\"}}}";
+    expect_replies(
+        &rt,
+        &[INITIALIZE, opened, saved, closed, asked],
+        &[INITIALIZED, REPORT],
+    )?;
+    // What is no URL is dropped, and a request for it has bad params.
+    let no_url =
+        "{\"jsonrpc\":\"2.0\",\"method\":\"textDocument/didOpen\",\"params\":{\"textDocument\":{\"uri\":\"not a url\",\"version\":1,\"text\":\"\"}}}";
+    let asked_for_no_url =
+        "{\"jsonrpc\":\"2.0\",\"id\":2,\"method\":\"textDocument/diagnostic\",\"params\":{\"textDocument\":{\"uri\":\"not a url\"}}}";
+    expect_replies(
+        &rt,
+        &[INITIALIZE, no_url, asked_for_no_url],
+        &[INITIALIZED, NOT_OPEN],
+    )?;
+    Ok(())
+}
+
+#[test]
+fn refuses_bad_configurations(rt: HostRuntime) -> Result<(), Fail> {
+    let alloc = rt.alloc();
+    for roots in [
+        &[][..],
+        &["http://w/"][..],
+        &["file:///w"][..],
+        &[ROOT, ROOT][..],
+    ] {
+        // A bad root comes before a bad path.
+        let made = Config::make(
+            alloc,
+            texts_of(alloc, roots)?,
+            files_of(alloc, &[("a//b", "")])?,
+        );
+        assert!(rt; made.err() == Some(ServeFault::BadRoot));
+    }
+    for path in [
+        "a//b.proto",
+        "../a.proto",
+        "",
+        "/a",
+        "a/",
+        "a/./b",
+        "a\u{0}b",
+    ] {
+        for (files, index) in [
+            (&[(path, "")][..], 0usize),
+            (
+                &[("a.proto", ""), ("é/b", ""), (path, ""), (path, "")][..],
+                2,
+            ),
+        ] {
+            let made = Config::make(alloc, texts_of(alloc, &[ROOT])?, files_of(alloc, files)?);
+            assert!(rt; made.err() == Some(ServeFault::BadPath { index }));
+        }
+    }
+    // A file of a root that isn't there.
+    let mut files = files_of(alloc, &[("a.proto", "")])?;
+    files.push(DiskFile {
+        root: 1,
+        path: String::from_str(alloc, "b.proto")?,
+        text: String::new(alloc),
+    })?;
+    let made = Config::make(alloc, texts_of(alloc, &[ROOT])?, files);
+    assert!(rt; made.err() == Some(ServeFault::BadPath { index: 1 }));
+    assert_eq!(rt; ServeFault::BadRoot.code(), 806);
+    assert_eq!(rt; ServeFault::BadPath { index: 1 }.code(), 807);
     Ok(())
 }

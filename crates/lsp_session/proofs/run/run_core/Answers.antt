@@ -1,4 +1,4 @@
-use Rattle.std.proofs.Common.{refl, sym, ap, ◌∙◌, ◌++◌, arith, take, length, [], ◌∷◌, length-append}
+use Rattle.std.proofs.Common.{refl, sym, ap, ◌∙◌, ◌++◌, arith, take, [], ◌∷◌, length-append}
 use Rattle.lsp_session.specs.Run.{bodies_of}
 use Rattle.lsp_session.specs.View.{core_state}
 use Rattle.lsp_session.proofs.CoreLemmas.{session-none, knows-none}

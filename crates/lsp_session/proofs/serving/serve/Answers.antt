@@ -1,11 +1,11 @@
-use Rattle.std.proofs.Common.{◌≡◌, ap, sym, ◌∙◌, false}
+use Rattle.std.proofs.Common.{ap, sym, ◌∙◌}
 use Rattle.std.specs.Prelude.{is_some}
 use Rattle.lsp_frame.specs.FrameReader.{source_of}
 use Rattle.lsp_frame.proofs.CountsLemmas.{NoneFell-refl, NoneFell-trans}
-use Rattle.lsp_session.specs.Stream.{is_exited, output, ended, behind_exit}
+use Rattle.lsp_session.specs.Stream.{is_exited}
 use Rattle.lsp_session.specs.View.{core_state}
 use Rattle.lsp_session.proofs.CoreLemmas.{session-none, knows-none, knows-state}
-use Rattle.lsp_session.proofs.ServingLemmas.{Serving, serving-start, serving-more, exits_at, stops, stops_within, end_shown, ends_with_stream, ends_with_input, if_some_map, exit_is, fault-ended}
+use Rattle.lsp_session.proofs.ServingLemmas.{serving-start, serving-more, exits_at, stops, stops_within, end_shown, ends_with_stream, ends_with_input, if_some_map, exit_is, fault-ended}
 use Rattle.lsp_frame.specs.Stream.{InputEnd}
 use Rattle.lsp_session.specs.declared.ended.Ended.TheVariants as Ended
 use Rattle.lsp_session.proofs.serving.serve.Goals as goal

@@ -1,4 +1,3 @@
-use Rattle.std.proofs.Common.{sym}
 use Rattle.std.proofs.KnownBytes.{Appends-trans}
 use Rattle.lsp_frame.specs.Writing.{frame_of}
 use Rattle.lsp_frame.proofs.CountsLemmas.{NoneFell-trans}

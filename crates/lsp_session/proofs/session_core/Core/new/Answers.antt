@@ -2,6 +2,6 @@ use Rattle.std.proofs.Common.{rules}
 use Rattle.lsp_session.specs.Session.{session}
 use Rattle.lsp_session.proofs.session_core.Core.new.Goals as goal
 
-pub returns-clause-stands : goal.returns-clause-stands
+pub returns-in-Ok-clause-stands : goal.returns-in-Ok-clause-stands
 unfolding session
-returns-clause-stands c = search rules
+returns-in-Ok-clause-stands c = search rules
