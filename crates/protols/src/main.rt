@@ -1,111 +1,163 @@
 //! `protols`, a language server for proto3: `protols serve` serves an editor on standard input and output.
 #![tactic(auto)]
 
+mod folder;
+mod options;
+mod root;
+mod words;
+
+use crate::folder::{FolderFault, read_folder};
+use crate::root::root_url;
 use lsp_frame::{FrameReader, FromRead, ToWrite};
 use lsp_session::{Config, Ended, ServeFault, serve};
+use std::alloc::{AllocError, AllocFailed};
 use std::env::{self, Env};
 use std::io::{self, BufReader, ErrorKind};
 use std::process::ExitCode;
+use std::rt::Files;
 use std::sync::Wait;
 
-const HELP: &str = "protols, a language server for proto3
+const NOT_UTF8: &str = "error: a word of the command line isn't UTF-8
 
-usage: protols serve
+Usage: protols serve [--root DIR] [--stdio] [--clientProcessId ID]
 
-  serve   serves an editor: reads the messages of the Language Server Protocol
-          from standard input, and writes the replies to standard output
-  --help  writes this text
+For more information, try '--help'.";
 
-An editor starts it as `protols serve`, and talks to it as the protocol's base
-protocol says.
-
-exit status: 0 the editor sent `shutdown` and `exit`; 1 it sent `exit` alone, or
-its messages ended; 2 these words were wrong; 3 the messages can't be read, or
-something failed: then standard error says `protols: fault` and its number.
-";
-
-// What the words of the command line ask for.
+// Why the program ended before its session did.
 #[derive(Clone, Copy, Debug, PartialEq, Eq)]
-enum Command {
-    Serve,
-    Help,
+enum Failure {
+    // The folder can't be read.
+    Folder,
+    // The fault with this number.
+    Fault(u32),
 }
 
-// The command that the words name, behind the program's own name.
-fn command_of(words: &[String]) -> Option<Command> {
-    let [_program, word] = words else {
-        return None;
-    };
-    match word.as_str() {
-        "serve" => Some(Command::Serve),
-        "--help" | "-h" | "help" => Some(Command::Help),
-        _ => None,
+impl From<ServeFault> for Failure {
+    fn from(fault: ServeFault) -> Failure {
+        Failure::Fault(fault.code())
     }
 }
 
-// Serves an editor on standard input and output. The input is buffered, the output is written through.
-fn serve_editor<R: Wait + Input + Print + AllocGlobal>(rt: &R) -> Result<Ended, ServeFault> {
+impl From<FolderFault> for Failure {
+    fn from(fault: FolderFault) -> Failure {
+        match fault {
+            FolderFault::Unlisted | FolderFault::LimitPassed => Failure::Folder,
+            FolderFault::Memory => Failure::from(ServeFault::Memory),
+        }
+    }
+}
+
+impl From<AllocError> for Failure {
+    fn from(_error: AllocError) -> Failure {
+        Failure::from(ServeFault::Memory)
+    }
+}
+
+impl<T: Drop> From<AllocFailed<T>> for Failure {
+    fn from(_error: AllocFailed<T>) -> Failure {
+        Failure::from(ServeFault::Memory)
+    }
+}
+
+// What the session is started with: the roots, and the files below them. With no folder the root is that of all paths,
+// and no file is read.
+fn configuration<R: Files + Eprint + AllocGlobal>(
+    rt: &R,
+    dirs: &[&str],
+) -> Result<Config, Failure> {
     let alloc = rt.alloc();
+    let mut roots = Vec::new(alloc);
+    let mut files = Vec::new(alloc);
+    for (number, dir) in dirs.iter().enumerate() {
+        roots.push(root_url(alloc, dir)?)?;
+        for file in read_folder(rt, number, dir)? {
+            files.push(file)?;
+        }
+    }
+    if dirs.is_empty() {
+        roots.push(root_url(alloc, "/")?)?;
+    }
+    Ok(Config::make(alloc, roots, files)?)
+}
+
+// Serves an editor on standard input and output, with the files of these folders. The input is buffered, the output is
+// written through.
+fn serve_editor<R: Wait + Files + Input + Print + Eprint + AllocGlobal>(
+    rt: &R,
+    dirs: &[&str],
+) -> Result<Ended, Failure> {
+    let alloc = rt.alloc();
+    let config = configuration(rt, dirs)?;
     let Ok(input) = BufReader::new(alloc, rt.reader()) else {
-        return Err(ServeFault::Memory);
+        return Err(Failure::from(ServeFault::Memory));
     };
     let mut reader = FrameReader::new(alloc, FromRead::new(input));
     let mut writer = ToWrite::new(io::writer(rt));
-    let config = Config::make(Vec::new(alloc), Vec::new(alloc))?;
-    serve(rt, alloc, &mut reader, &mut writer, config)
+    Ok(serve(rt, alloc, &mut reader, &mut writer, config)?)
 }
 
-// Says on standard error which fault it was.
+// Says on standard error which fault it was. A closed standard error changes nothing of the status.
 fn fail(rt: &impl Eprint, fault: u32) -> ExitCode {
-    // A closed standard error changes nothing of the status.
     let _told = eprintln!(rt; "protols: fault {fault}");
     ExitCode::from(3)
 }
 
-// The command that the program was started with, or the status with which it ends where there is none.
-fn read_command<R: Env + Eprint + AllocGlobal>(rt: &R) -> Result<Command, ExitCode> {
-    // Words that aren't UTF-8 are no command either.
-    let command = match env::args(rt) {
-        Ok(words) => match words.collect::<Vec<String>>(rt.alloc()) {
-            Ok(words) => command_of(words.as_slice()),
-            Err(_) => return Err(fail(rt, ServeFault::Memory.code())),
-        },
-        Err(error) if error.kind() == ErrorKind::OutOfMemory => {
-            return Err(fail(rt, ServeFault::Memory.code()));
-        }
-        Err(_) => None,
-    };
-    let Some(command) = command else {
-        let _told = eprintln!(rt;
-            "protols: the only command is `protols serve`; see `protols --help`"
-        );
-        return Err(ExitCode::from(2));
-    };
-    Ok(command)
+// Says on standard error that the folder can't be read.
+fn fail_folder(rt: &impl Eprint) -> ExitCode {
+    let _told = eprintln!(rt; "protols: folder");
+    ExitCode::from(3)
 }
 
-// Writes the help.
-fn help<R: Print + Eprint>(rt: &R) -> ExitCode {
-    match print!(rt; "{HELP}") {
-        Ok(()) => ExitCode::from(0),
-        Err(_) => fail(rt, ServeFault::Write.code()),
-    }
-}
-
-// Serves an editor, and gives the status that says how its session ended.
-fn status_of_session<R: Wait + Input + Print + Eprint + AllocGlobal>(rt: &R) -> ExitCode {
-    match serve_editor(rt) {
+// The status that says how the session ended.
+fn status_of(rt: &impl Eprint, ended: Result<Ended, Failure>) -> ExitCode {
+    match ended {
         Ok(Ended::Exit { after_shutdown }) => ExitCode::from(if after_shutdown { 0 } else { 1 }),
         Ok(Ended::InputEnd) => ExitCode::from(1),
         Ok(Ended::BadFrame(code)) => fail(rt, code),
-        Err(fault) => fail(rt, fault.code()),
+        Err(Failure::Folder) => fail_folder(rt),
+        Err(Failure::Fault(code)) => fail(rt, code),
+    }
+}
+
+// Writes what is to be said of the command line: the help, or what is wrong with it.
+fn explain<R: Print + Eprint>(rt: &R, error: &clap::Error) -> ExitCode {
+    let told = error.print(rt);
+    if error.use_stderr() {
+        ExitCode::from(2)
+    } else if told.is_err() {
+        fail(rt, ServeFault::Write.code())
+    } else {
+        ExitCode::from(0)
+    }
+}
+
+// The words that the program was started with, or the status with which it ends where they can't be read.
+fn read_words<R: Env + Eprint + AllocGlobal>(rt: &R) -> Result<Vec<String>, ExitCode> {
+    match env::args(rt) {
+        Ok(words) => match words.collect(rt.alloc()) {
+            Ok(words) => Ok(words),
+            Err(_) => Err(fail(rt, ServeFault::Memory.code())),
+        },
+        Err(error) if error.kind() == ErrorKind::OutOfMemory => {
+            Err(fail(rt, ServeFault::Memory.code()))
+        }
+        Err(_) => {
+            let _told = eprintln!(rt; "{NOT_UTF8}");
+            Err(ExitCode::from(2))
+        }
     }
 }
 
 fn main(rt: HostRuntime) -> ExitCode {
-    match read_command(&rt) {
-        Ok(Command::Serve) => status_of_session(&rt),
-        Ok(Command::Help) => help(&rt),
-        Err(status) => status,
+    let words = match read_words(&rt) {
+        Ok(words) => words,
+        Err(status) => return status,
+    };
+    match options::options(rt.alloc(), words.as_slice()) {
+        Ok(asked) => status_of(&rt, serve_editor(&rt, asked.dirs.as_slice())),
+        Err(error) => explain(&rt, &error),
     }
 }
+
+#[cfg(test)]
+mod tests;
