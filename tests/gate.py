@@ -9,6 +9,7 @@ import sys
 import unittest
 
 HERE = pathlib.Path(__file__).resolve().parent
+PROGRAM = HERE.parent / "crates/protols/out/protols"
 CLOSING = re.compile(r"(\d+) passed, (\d+) failed$")
 
 
@@ -28,7 +29,9 @@ def run_rt_ci():
 
 
 def build_program():
-    """Builds the program that the tests of this folder run, and says whether that worked."""
+    """Says whether there is a program for the tests of this folder to run: the one that `rt ci` has just built, else a new one."""
+    if PROGRAM.exists():
+        return True
     return subprocess.run(["make", "build"], cwd=HERE.parent, stdin=subprocess.DEVNULL).returncode == 0
 
 
@@ -41,6 +44,7 @@ def run_own_tests():
 
 
 def main():
+    PROGRAM.unlink(missing_ok=True)
     passed, failed = run_rt_ci()
     if not build_program():
         failed += 1

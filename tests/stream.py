@@ -1,4 +1,5 @@
 """What the tests of `protols serve` share: frames of the base protocol, whole runs of the program, and live dialogues."""
+import json
 import os
 import pathlib
 import select
@@ -30,6 +31,19 @@ def frame(body):
 def frames(bodies):
     """The bodies as frames, one behind the other."""
     return b"".join(map(frame, bodies))
+
+
+def document_bodies(text):
+    """What an editor sends that opens a text, asks for its diagnostics under the id 2, and ends the session."""
+    uri = "file:///w/a.proto"
+    messages = [
+        {"id": 1, "method": "initialize", "params": {}},
+        {"method": "textDocument/didOpen", "params": {"textDocument": {"uri": uri, "version": 1, "text": text}}},
+        {"id": 2, "method": "textDocument/diagnostic", "params": {"textDocument": {"uri": uri}}},
+        {"id": 3, "method": "shutdown"},
+        {"method": "exit"},
+    ]
+    return [json.dumps({"jsonrpc": "2.0", **message}) for message in messages]
 
 
 def split_frames(data):
