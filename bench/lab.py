@@ -95,6 +95,18 @@ def best_of_each(commands, times=5):
     return bests
 
 
+def printed(command):
+    """What a run of the command prints, and the times that it writes on standard error in nanoseconds, as milliseconds."""
+    done = subprocess.run(command, capture_output=True, text=True, check=True)
+    return done.stdout.strip(), [int(word) / 1e6 for word in done.stderr.split()]
+
+
+def fastest(commands, times=5):
+    """What each command prints, and the least of each of its times, over several runs of all in turn."""
+    runs = [[printed(command) for command in commands] for _ in range(times)]
+    return [(column[0][0], [min(one) for one in zip(*(each for _, each in column))]) for column in zip(*runs)]
+
+
 def machine():
     """The machine in one line, for a figure's heading."""
     model = "unknown processor"

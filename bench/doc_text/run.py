@@ -4,7 +4,6 @@
 Offsets and positions are compared with a C loop that gives the same answer, the positions of a million offsets
 with the one of the text's end, and a change of one character with one memcpy of the text."""
 import os
-import subprocess
 import sys
 
 HERE = os.path.dirname(os.path.abspath(__file__))
@@ -39,18 +38,6 @@ TASKS = [
 ]
 
 
-def timed(program, word, path):
-    """The checksum that a run prints, and the milliseconds of its fastest time."""
-    done = subprocess.run([program, word, path], capture_output=True, text=True, check=True)
-    return done.stdout.strip(), int(done.stderr) / 1e6
-
-
-def best(programs, path):
-    """The best of 5 runs of each program in turn."""
-    runs = [[timed(program, word, path) for program, word in programs] for _ in range(5)]
-    return [(column[0][0], min(time for _, time in column)) for column in zip(*runs)]
-
-
 def main():
     rattle = lab.rattle_program("doc_text", ["doc_text", "anyhow"])
     plain = lab.c_program(os.path.join(HERE, "plain.c"))
@@ -59,8 +46,8 @@ def main():
     for name, text in TEXTS.items():
         path = lab.text_file(f"doc_text_{name}", text)
         for task, against, limit in TASKS:
-            other = (rattle, "position") if task == "positions" else (plain, against)
-            (sum_here, here), (sum_there, there) = best([(rattle, task), other], path)
+            other = [rattle, "position"] if task == "positions" else [plain, against]
+            (sum_here, [here]), (sum_there, [there]) = lab.fastest([[rattle, task, path], [*other, path]])
             if task == against and sum_here != sum_there:
                 sys.exit(f"{name} {task}: {sum_here} here, {sum_there} in plain C")
             kept = kept and here <= limit * there

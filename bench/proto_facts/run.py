@@ -2,7 +2,6 @@
 """Times the lexer, the parser and the facts of a million bytes of ordinary proto3 in one process, best of 5 runs of 10
 each. All three together may take at most 6 times as long as the lexer alone; the status is 1 where they take longer."""
 import pathlib
-import subprocess
 import sys
 
 HERE = pathlib.Path(__file__).resolve().parent
@@ -16,20 +15,13 @@ SIZE = 1_000_000
 MOST = 6
 
 
-def timed(program, path):
-    """What a run prints: the declarations and diagnostics, and the milliseconds of lexer, parser and facts."""
-    done = subprocess.run([program, path], capture_output=True, text=True, check=True)
-    return done.stdout.strip(), [int(word) / 1e6 for word in done.stderr.split()]
-
-
 def main():
     program = lab.rattle_program("proto_facts", ["proto_facts", "proto_lex", "proto_syntax", "anyhow"])
     path = lab.text_file("facts.proto", ordinary(SIZE).encode())
-    runs = [timed(program, path) for _ in range(5)]
-    lexing, parsing, checking = (min(times) for times in zip(*(times for _, times in runs)))
+    [(found, [lexing, parsing, checking])] = lab.fastest([[program, path]])
     ratio = (lexing + parsing + checking) / lexing
     print(lab.machine())
-    print(f"{SIZE:,} bytes, declarations and diagnostics: {runs[0][0]}")
+    print(f"{SIZE:,} bytes, declarations and diagnostics: {found}")
     print(f"lexer {lexing:.2f} ms, parser {parsing:.2f} ms, facts {checking:.2f} ms; together {ratio:.2f} times the lexer")
     print("kept" if ratio <= MOST else "NOT kept")
     return 0 if ratio <= MOST else 1

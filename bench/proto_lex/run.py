@@ -6,7 +6,6 @@ The first text is ordinary proto3; each other one is a single piece again and ag
 twice as many bytes may take about twice the time. Where each byte is a token, 48 MB of tokens are more than malloc
 keeps from one run to the next, and the plain loop's time grows as much; so its growth is the measure."""
 import os
-import subprocess
 import sys
 
 HERE = os.path.dirname(os.path.abspath(__file__))
@@ -44,25 +43,13 @@ def ordinary():
     return "".join(parts)[:SIZE]
 
 
-def timed(program, path):
-    """The number of tokens that a run prints, and the milliseconds of its fastest time."""
-    done = subprocess.run([program, path], capture_output=True, text=True, check=True)
-    return done.stdout.strip(), int(done.stderr) / 1e6
-
-
-def best(program_paths):
-    """The best of 5 runs of each pair of a program and a text, in turn."""
-    runs = [[timed(program, path) for program, path in program_paths] for _ in range(5)]
-    return [(column[0][0], min(time for _, time in column)) for column in zip(*runs)]
-
-
 def main():
     rattle = lab.rattle_program("proto_lex", ["proto_lex", "anyhow"])
     plain = lab.c_program(os.path.join(HERE, "plain.c"))
     kept = True
     print(lab.machine())
     path = lab.text_file("ordinary.proto", ordinary().encode())
-    (count, ours), (same, theirs) = best([(rattle, path), (plain, path)])
+    (count, [ours]), (same, [theirs]) = lab.fastest([[rattle, path], [plain, path]])
     ratio = theirs / ours
     kept = kept and count == same and ratio >= LEAST
     print(f"ordinary text, {SIZE:,} bytes, {count} tokens (C: {same})")
@@ -70,8 +57,8 @@ def main():
     for piece in PIECES:
         texts = [(piece * (size // len(piece))).encode() for size in (SIZE, 2 * SIZE)]
         paths = [lab.text_file(f"piece{size}.proto", text) for size, text in enumerate(texts)]
-        runs = best([(program, path) for program in (rattle, plain) for path in paths])
-        (_, short), (count, long), (_, plain_short), (same, plain_long) = runs
+        runs = lab.fastest([[program, path] for program in (rattle, plain) for path in paths])
+        (_, [short]), (count, [long]), (_, [plain_short]), (same, [plain_long]) = runs
         growth, plain_growth = long / (2 * short), plain_long / (2 * plain_short)
         kept = kept and count == same and growth <= MOST * max(1, plain_growth)
         print(

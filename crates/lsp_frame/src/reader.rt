@@ -1,5 +1,5 @@
 // Reads the frames of a source, one after the other.
-ghost use Rattle.std.specs.Prelude.{◌≡◌, IfErr, IfSome, MatchResult};
+ghost use Rattle.std.specs.Prelude.{◌≡◌, ◌+◌, ◌≤◌, IfErr, IfSome, MatchResult};
 ghost use Rattle.lsp_frame.specs.Counts.{NoneFell, NoError};
 ghost use Rattle.lsp_frame.specs.FrameReader.{source_of, last_answer, IsOpen, repeated, kept};
 ghost use Rattle.lsp_frame.specs.Reading.{HasCause, NoErrorUnlessRead, Answers};
@@ -95,6 +95,9 @@ impl<S> FrameReader<S> {
         // An error of the source is answered at once, by `Read`: with a frame, the end or another fault none came.
         ensures calm { IsOpen self.old → MatchResult result (λ _. NoError (S.counts (source_of self.old)) (S.counts (source_of self.new))) (NoErrorUnlessRead (S.counts (source_of self.old)) (S.counts (source_of self.new))) }
         ensures counts { NoneFell (S.counts (source_of self.old)) (S.counts (source_of self.new)) }
+
+        // After an error of the source no other read is made: a call meets one at most.
+        ensures once { (S.counts (source_of self.new)).errors ≤ (S.counts (source_of self.old)).errors + 1 }
     {
         match self.answered {
             Some(LastAnswer::AtEnd) => Ok(Frame::End),

@@ -1,5 +1,5 @@
 // Reads one frame from a source, part by part.
-ghost use Rattle.std.specs.Prelude.{◌≡◌, ◌<◌, IfErr, IfOk, OnErr, OnOk, [], ◌∷◌, ◌++◌, IfSome, MatchResult};
+ghost use Rattle.std.specs.Prelude.{◌≡◌, ◌+◌, ◌<◌, ◌≤◌, IfErr, IfOk, OnErr, OnOk, [], ◌∷◌, ◌++◌, IfSome, MatchResult};
 ghost use Rattle.std.specs.Io.{ReadsAtMost};
 ghost use Rattle.std.specs.Io.KnownBytes.{ReadConsumes, Keeps};
 ghost use Rattle.lsp_frame.specs.Counts.{NoneFell, NoError, HasFailed};
@@ -25,6 +25,7 @@ fn read_some<S: ByteSource>(source: &mut S, buffer: &mut [u8]) -> Result<usize, 
     ensures bound { ReadsAtMost result buffer.new }
     ensures bytes { ReadConsumes (S.left source.old) (S.left source.new) result buffer.new }
     ensures counts { NoneFell (S.counts source.old) (S.counts source.new) }
+    ensures once { (S.counts source.new).errors ≤ (S.counts source.old).errors + 1 }
     ensures fault { IfErr result (λ f. f ≡ FrameFault.Read) }
     ensures cause { OnErr result (HasFailed (S.counts source.old) (S.counts source.new)) }
     ensures calm { OnOk result (NoError (S.counts source.old) (S.counts source.new)) }
@@ -43,6 +44,7 @@ fn read_some<S: ByteSource>(source: &mut S, buffer: &mut [u8]) -> Result<usize, 
 fn read_byte<S: ByteSource>(source: &mut S) -> Result<Option<u8>, FrameFault>
     ensures bytes { MatchResult result (TakesByte (S.left source.old) (S.left source.new)) (λ _. Keeps (S.left source.old) (S.left source.new)) }
     ensures counts { NoneFell (S.counts source.old) (S.counts source.new) }
+    ensures once { (S.counts source.new).errors ≤ (S.counts source.old).errors + 1 }
     ensures fault { IfErr result (λ f. f ≡ FrameFault.Read) }
     ensures cause { OnErr result (HasFailed (S.counts source.old) (S.counts source.new)) }
     ensures calm { OnOk result (NoError (S.counts source.old) (S.counts source.new)) }
@@ -75,6 +77,7 @@ fn push_byte(bytes: &mut Vec<u8>, byte: u8) -> Result<(), FrameFault>
 fn read_header<S: ByteSource>(alloc: Global, source: &mut S) -> Result<Option<Vec<u8>>, FrameFault>
     ensures bytes { IfSome (S.left source.old) (λ bytes. TakesHeader bytes (S.left source.new) result) }
     ensures counts { NoneFell (S.counts source.old) (S.counts source.new) }
+    ensures once { (S.counts source.new).errors ≤ (S.counts source.old).errors + 1 }
     ensures cause { IfErr result (HasCause (S.counts source.old) (S.counts source.new)) }
     ensures calm { MatchResult result (λ _. NoError (S.counts source.old) (S.counts source.new)) (NoErrorUnlessRead (S.counts source.old) (S.counts source.new)) }
 {
@@ -103,6 +106,7 @@ fn read_onto<S: ByteSource>(
     requires { 0 < room }
     ensures taken { IfOk result (TakesSome (S.left source.old) (S.left source.new) body.old.items body.new.items room) }
     ensures counts { NoneFell (S.counts source.old) (S.counts source.new) }
+    ensures once { (S.counts source.new).errors ≤ (S.counts source.old).errors + 1 }
     ensures fault { IfErr result IsOutside }
     ensures cause { IfErr result (HasCause (S.counts source.old) (S.counts source.new)) }
     ensures calm { MatchResult result (λ _. NoError (S.counts source.old) (S.counts source.new)) (NoErrorUnlessRead (S.counts source.old) (S.counts source.new)) }
@@ -124,6 +128,7 @@ fn read_body<S: ByteSource>(
 ) -> Result<Vec<u8>, FrameFault>
     ensures bytes { IfSome (S.left source.old) (λ bytes. TakesBody bytes length (S.left source.new) result) }
     ensures counts { NoneFell (S.counts source.old) (S.counts source.new) }
+    ensures once { (S.counts source.new).errors ≤ (S.counts source.old).errors + 1 }
     ensures cause { IfErr result (HasCause (S.counts source.old) (S.counts source.new)) }
     ensures calm { MatchResult result (λ _. NoError (S.counts source.old) (S.counts source.new)) (NoErrorUnlessRead (S.counts source.old) (S.counts source.new)) }
 {
@@ -141,6 +146,7 @@ fn read_body<S: ByteSource>(
 pub(crate) fn next_frame<S: ByteSource>(alloc: Global, source: &mut S) -> Result<Frame, FrameFault>
     ensures bytes { IfSome (S.left source.old) (λ bytes. Answers bytes (S.left source.new) result) }
     ensures counts { NoneFell (S.counts source.old) (S.counts source.new) }
+    ensures once { (S.counts source.new).errors ≤ (S.counts source.old).errors + 1 }
     ensures cause { IfErr result (HasCause (S.counts source.old) (S.counts source.new)) }
     ensures calm { MatchResult result (λ _. NoError (S.counts source.old) (S.counts source.new)) (NoErrorUnlessRead (S.counts source.old) (S.counts source.new)) }
 {

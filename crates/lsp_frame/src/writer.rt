@@ -16,6 +16,7 @@ fn write_some<K: ByteSink>(writer: &mut K, bytes: &[u8]) -> Result<usize, Fail>
     ensures some { IfOk result (λ n. (0 < n) × (n ≤ length bytes.now)) }
     ensures bytes { WriteAppends (K.written writer.old) (K.written writer.new) result bytes.now }
     ensures counts { NoneFell (K.counts writer.old) (K.counts writer.new) }
+    ensures once { (K.counts writer.new).errors ≤ (K.counts writer.old).errors + 1 }
     ensures cause { OnErr result (HasFailed (K.counts writer.old) (K.counts writer.new)) }
     ensures calm { OnOk result (NoError (K.counts writer.old) (K.counts writer.new)) }
 {
@@ -37,6 +38,7 @@ fn write_part<K: ByteSink>(writer: &mut K, part: &[u8], before: u64) -> Result<u
     ensures ok { OnOk result (Appends (K.written writer.old) (K.written writer.new) part.now) }
     ensures err { IfErr result (λ fault. SendsPrefixAfter (K.written writer.old) (K.written writer.new) part.now before fault.written) }
     ensures counts { NoneFell (K.counts writer.old) (K.counts writer.new) }
+    ensures once { (K.counts writer.new).errors ≤ (K.counts writer.old).errors + 1 }
     ensures cause { OnErr result (HasFailed (K.counts writer.old) (K.counts writer.new)) }
     ensures calm { OnOk result (NoError (K.counts writer.old) (K.counts writer.new)) }
 {
@@ -70,6 +72,9 @@ pub fn write_frame<K: ByteSink>(writer: &mut K, body: &[u8]) -> Result<(), Write
     // It ends well only where no error came in the call.
     ensures calm { OnOk result (NoError (K.counts writer.old) (K.counts writer.new)) }
     ensures counts { NoneFell (K.counts writer.old) (K.counts writer.new) }
+
+    // After an error of the writer no other write is made: a call meets one at most.
+    ensures once { (K.counts writer.new).errors ≤ (K.counts writer.old).errors + 1 }
 {
     let mut digits = Buffer::new();
     let length = digits.format(body.len() as u64).as_bytes();

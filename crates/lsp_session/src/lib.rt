@@ -28,6 +28,3 @@ pub use run::{CoreEvent, CoreRun, run_core};
 pub use serving::serve;
 pub use session_core::Core;
 pub use verdict::Verdict;
-
-#[cfg(test)]
-mod tests;

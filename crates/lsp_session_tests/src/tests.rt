@@ -1,8 +1,10 @@
 // Sessions as they run: that memory is there, and that the definitions are the protocol's, no clause says.
 ghost use Rattle.std.specs.Prelude.{◌<◌};
 
-use super::*;
 use lsp_frame::{FrameReader, MemSink, MemSource, write_frame};
+use lsp_session::{
+    Config, Core, CoreEvent, CoreFault, DiskFile, Ended, ServeFault, run_core, serve,
+};
 use std::alloc::{AllocError, Global};
 use std::process::Abort;
 use std::sync::Wait;
@@ -74,57 +76,74 @@ fn messages_of(alloc: Global, bodies: &[&str]) -> Result<Vec<CoreEvent>, AllocEr
     Ok(events)
 }
 
-// The replies to these messages are these.
-fn expect_replies<R: AllocGlobal + Abort>(
-    rt: &R,
-    bodies: &[&str],
-    replies: &[&str],
-) -> Result<(), Fail> {
+// The replies to messages, over files on disk that are given by path and text.
+struct Dialogue {
+    files: &'static [(&'static str, &'static str)],
+    messages: &'static [&'static str],
+    replies: &'static [&'static str],
+}
+
+fn expect_replies<R: AllocGlobal + Abort>(rt: &R, dialogues: &[Dialogue]) -> Result<(), Fail> {
+    for dialogue in dialogues {
+        expect_dialogue(rt, dialogue)?;
+    }
+    Ok(())
+}
+
+fn expect_dialogue<R: AllocGlobal + Abort>(rt: &R, dialogue: &Dialogue) -> Result<(), Fail> {
     let alloc = rt.alloc();
-    let run = run_core(alloc, config_of(alloc)?, messages_of(alloc, bodies)?)?;
-    assert_eq!(rt; run.processed, bodies.len());
+    let files = files_of(alloc, dialogue.files)?;
+    let config = Config::make(alloc, texts_of(alloc, &[ROOT])?, files)?;
+    let run = run_core(alloc, config, messages_of(alloc, dialogue.messages)?)?;
+    assert_eq!(rt; run.processed, dialogue.messages.len());
     assert!(rt; run.verdicts.is_empty());
-    assert_eq!(rt; run.replies.len(), replies.len());
-    for (reply, wanted) in run.replies.iter().zip(replies.iter()) {
+    assert_eq!(rt; run.replies.len(), dialogue.replies.len());
+    for (reply, wanted) in run.replies.iter().zip(dialogue.replies.iter()) {
         assert_eq!(rt; reply.as_bytes(), wanted.as_bytes());
     }
     Ok(())
 }
 
-#[test]
-fn answers_the_first_messages(rt: HostRuntime) -> Result<(), Fail> {
-    expect_replies(&rt, &[], &[])?;
-    expect_replies(
-        &rt,
-        &[INITIALIZE, OPEN, DIAGNOSTIC, SHUTDOWN, EXIT, DIAGNOSTIC],
-        &[INITIALIZED, REPORT, SHUT],
-    )?;
-    // An open of an open document replaces it; one that isn't open has no report.
-    expect_replies(
-        &rt,
-        &[INITIALIZE, DIAGNOSTIC, OPEN, OPEN_GOOD, DIAGNOSTIC],
-        &[INITIALIZED, NOT_OPEN, NO_REPORT],
-    )?;
-    Ok(())
-}
+// An open of an open document replaces it; one that isn't open has no report.
+const FIRST_MESSAGES: &[Dialogue] = &[
+    Dialogue {
+        files: &[],
+        messages: &[],
+        replies: &[],
+    },
+    Dialogue {
+        files: &[],
+        messages: &[INITIALIZE, OPEN, DIAGNOSTIC, SHUTDOWN, EXIT, DIAGNOSTIC],
+        replies: &[INITIALIZED, REPORT, SHUT],
+    },
+    Dialogue {
+        files: &[],
+        messages: &[INITIALIZE, DIAGNOSTIC, OPEN, OPEN_GOOD, DIAGNOSTIC],
+        replies: &[INITIALIZED, NOT_OPEN, NO_REPORT],
+    },
+];
 
 #[test]
-fn refuses_what_the_phase_forbids(rt: HostRuntime) -> Result<(), Fail> {
-    expect_replies(
-        &rt,
-        &[
+fn answers_the_first_messages(rt: HostRuntime) -> Result<(), Fail> {
+    expect_replies(&rt, FIRST_MESSAGES)
+}
+
+const FORBIDDEN_MESSAGES: &[Dialogue] = &[
+    Dialogue {
+        files: &[],
+        messages: &[
             "{\"jsonrpc\":\"2.0\",\"id\":\"q\",\"method\":\"workspace/symbol\",\"params\":{\"query\":\"\"}}",
             OPEN,
             EXIT,
             INITIALIZE,
         ],
-        &[
+        replies: &[
             "{\"error\":{\"code\":-32002,\"message\":\"server not initialized\"},\"id\":\"q\",\"jsonrpc\":\"2.0\"}",
         ],
-    )?;
-    expect_replies(
-        &rt,
-        &[
+    },
+    Dialogue {
+        files: &[],
+        messages: &[
             INITIALIZE,
             "[]",
             "{\"jsonrpc\":\"2.0\",\"id\":1.5,\"method\":\"shutdown\"}",
@@ -135,7 +154,7 @@ fn refuses_what_the_phase_forbids(rt: HostRuntime) -> Result<(), Fail> {
             "{\"jsonrpc\":\"2.0\",\"id\":9,\"method\":\"shutdown\"}",
             "{\"jsonrpc\":\"2.0\",\"id\":10,\"method\":\"shutdown\"}",
         ],
-        &[
+        replies: &[
             INITIALIZED,
             "{\"error\":{\"code\":-32600,\"message\":\"invalid request\"},\"id\":null,\"jsonrpc\":\"2.0\"}",
             "{\"error\":{\"code\":-32600,\"message\":\"invalid request\"},\"id\":null,\"jsonrpc\":\"2.0\"}",
@@ -145,8 +164,12 @@ fn refuses_what_the_phase_forbids(rt: HostRuntime) -> Result<(), Fail> {
             "{\"id\":9,\"jsonrpc\":\"2.0\",\"result\":null}",
             "{\"error\":{\"code\":-32600,\"message\":\"invalid request\"},\"id\":10,\"jsonrpc\":\"2.0\"}",
         ],
-    )?;
-    Ok(())
+    },
+];
+
+#[test]
+fn refuses_what_the_phase_forbids(rt: HostRuntime) -> Result<(), Fail> {
+    expect_replies(&rt, FORBIDDEN_MESSAGES)
 }
 
 #[test]
@@ -269,23 +292,6 @@ fn numbers_failed_devices(rt: HostRuntime) -> Result<(), Fail> {
 
 // ---- files
 
-// The replies to these messages, over these files on disk, are these.
-fn expect_replies_over<R: AllocGlobal + Abort>(
-    rt: &R,
-    files: &[(&str, &str)],
-    bodies: &[&str],
-    replies: &[&str],
-) -> Result<(), Fail> {
-    let alloc = rt.alloc();
-    let config = Config::make(alloc, texts_of(alloc, &[ROOT])?, files_of(alloc, files)?)?;
-    let run = run_core(alloc, config, messages_of(alloc, bodies)?)?;
-    assert_eq!(rt; run.replies.len(), replies.len());
-    for (reply, wanted) in run.replies.iter().zip(replies.iter()) {
-        assert_eq!(rt; reply.as_bytes(), wanted.as_bytes());
-    }
-    Ok(())
-}
-
 const BAD_TEXT: &str = "syntax = \"proto3\";\n#\n";
 
 const GOOD_TEXT: &str = "syntax = \"proto3\";\n";
@@ -302,33 +308,27 @@ const CLOSE: &str =
 const CHANGE_TO_GOOD: &str =
     "{\"jsonrpc\":\"2.0\",\"method\":\"textDocument/didChange\",\"params\":{\"textDocument\":{\"uri\":\"file:///w/a.proto\",\"version\":2},\"contentChanges\":[{\"text\":\"syntax = \\\"proto3\\\";\\n\"}]}}";
 
-#[test]
-fn keeps_the_saved_text(rt: HostRuntime) -> Result<(), Fail> {
-    let disk = [("a.proto", GOOD_TEXT)];
-    expect_replies_over(
-        &rt,
-        &disk,
-        &[INITIALIZE, DIAGNOSTIC],
-        &[INITIALIZED, NO_REPORT],
-    )?;
-    // An open text is over the kept one, by whichever URI of the path.
-    expect_replies_over(
-        &rt,
-        &disk,
-        &[INITIALIZE, OPEN_ESCAPED, DIAGNOSTIC],
-        &[INITIALIZED, REPORT],
-    )?;
-    // A close without a save brings the kept text back; a save makes the open text the kept one.
-    expect_replies_over(
-        &rt,
-        &disk,
-        &[INITIALIZE, OPEN_ESCAPED, CLOSE, DIAGNOSTIC],
-        &[INITIALIZED, NO_REPORT],
-    )?;
-    expect_replies_over(
-        &rt,
-        &disk,
-        &[
+// An open text is over the kept one, by whichever URI of the path. A close without a save brings the kept text back; a
+// save makes the open text the kept one.
+const SAVED_TEXTS: &[Dialogue] = &[
+    Dialogue {
+        files: &[("a.proto", GOOD_TEXT)],
+        messages: &[INITIALIZE, DIAGNOSTIC],
+        replies: &[INITIALIZED, NO_REPORT],
+    },
+    Dialogue {
+        files: &[("a.proto", GOOD_TEXT)],
+        messages: &[INITIALIZE, OPEN_ESCAPED, DIAGNOSTIC],
+        replies: &[INITIALIZED, REPORT],
+    },
+    Dialogue {
+        files: &[("a.proto", GOOD_TEXT)],
+        messages: &[INITIALIZE, OPEN_ESCAPED, CLOSE, DIAGNOSTIC],
+        replies: &[INITIALIZED, NO_REPORT],
+    },
+    Dialogue {
+        files: &[("a.proto", GOOD_TEXT)],
+        messages: &[
             INITIALIZE,
             OPEN_ESCAPED,
             SAVE,
@@ -338,117 +338,155 @@ fn keeps_the_saved_text(rt: HostRuntime) -> Result<(), Fail> {
             CLOSE,
             DIAGNOSTIC,
         ],
-        &[INITIALIZED, REPORT, REPORT],
-    )?;
-    Ok(())
-}
+        replies: &[INITIALIZED, REPORT, REPORT],
+    },
+];
 
 #[test]
-fn keeps_what_was_found_on_disk(rt: HostRuntime) -> Result<(), Fail> {
-    // A change or a save of a document that isn't open is ignored.
-    expect_replies_over(
-        &rt,
-        &[("a.proto", BAD_TEXT)],
-        &[INITIALIZE, CHANGE_TO_GOOD, SAVE, CLOSE, DIAGNOSTIC],
-        &[INITIALIZED, REPORT],
-    )?;
-    // A document that nothing keeps leaves when it is closed.
-    expect_replies(
-        &rt,
-        &[INITIALIZE, OPEN, CLOSE, CLOSE, DIAGNOSTIC],
-        &[INITIALIZED, NOT_OPEN],
-    )?;
-    // Of two files with one path the earlier counts.
-    expect_replies_over(
-        &rt,
-        &[
+fn keeps_the_saved_text(rt: HostRuntime) -> Result<(), Fail> {
+    expect_replies(&rt, SAVED_TEXTS)
+}
+
+// A change or a save of a document that isn't open is ignored; a document that nothing keeps leaves when it is closed;
+// of two files with one path the earlier counts.
+const TEXTS_ON_DISK: &[Dialogue] = &[
+    Dialogue {
+        files: &[("a.proto", BAD_TEXT)],
+        messages: &[INITIALIZE, CHANGE_TO_GOOD, SAVE, CLOSE, DIAGNOSTIC],
+        replies: &[INITIALIZED, REPORT],
+    },
+    Dialogue {
+        files: &[],
+        messages: &[INITIALIZE, OPEN, CLOSE, CLOSE, DIAGNOSTIC],
+        replies: &[INITIALIZED, NOT_OPEN],
+    },
+    Dialogue {
+        files: &[
             ("a.proto", BAD_TEXT),
             ("b.proto", GOOD_TEXT),
             ("a.proto", GOOD_TEXT),
         ],
-        &[INITIALIZE, DIAGNOSTIC],
-        &[INITIALIZED, REPORT],
-    )?;
-    Ok(())
+        messages: &[INITIALIZE, DIAGNOSTIC],
+        replies: &[INITIALIZED, REPORT],
+    },
+];
+
+#[test]
+fn keeps_what_was_found_on_disk(rt: HostRuntime) -> Result<(), Fail> {
+    expect_replies(&rt, TEXTS_ON_DISK)
 }
+
+const OPEN_WIDE: &str =
+    "{\"jsonrpc\":\"2.0\",\"method\":\"textDocument/didOpen\",\"params\":{\"textDocument\":{\"uri\":\"file:///w/a.proto\",\"version\":1,\"text\":\"syntax = 'proto3';\\né#\\n😀cd\"}}}";
+
+// Each change counts, in UTF-16 units, in the text that those before it leave. The second line is `/*é*/cd` after the
+// first, `/*é*/;;` after the second and `/*é*/; #` after the third.
+const CHANGE_THREE_TIMES: &str =
+    "{\"jsonrpc\":\"2.0\",\"method\":\"textDocument/didChange\",\"params\":{\"textDocument\":{\"uri\":\"file:///w/a.proto\",\"version\":-7},\"contentChanges\":[{\"range\":{\"start\":{\"line\":1,\"character\":0},\"end\":{\"line\":2,\"character\":2}},\"text\":\"/*é*/\"},{\"range\":{\"start\":{\"line\":9,\"character\":0},\"end\":{\"line\":1,\"character\":5}},\"text\":\";;\"},{\"range\":{\"start\":{\"line\":1,\"character\":6},\"end\":{\"line\":1,\"character\":7}},\"text\":\" #\"}]}}";
+
+const REPORT_BEHIND_THE_CHANGES: &str =
+    "{\"id\":2,\"jsonrpc\":\"2.0\",\"result\":{\"items\":[{\"code\":201,\"message\":\"illegal character\",\"range\":{\"end\":{\"character\":8,\"line\":1},\"start\":{\"character\":7,\"line\":1}},\"severity\":1,\"source\":\"protols\"}],\"kind\":\"full\"}}";
+
+const CHANGE_NOTHING: &str =
+    "{\"jsonrpc\":\"2.0\",\"method\":\"textDocument/didChange\",\"params\":{\"textDocument\":{\"uri\":\"file:///w/a.proto\",\"version\":2},\"contentChanges\":[]}}";
+
+const CHANGED_TEXTS: &[Dialogue] = &[
+    Dialogue {
+        files: &[],
+        messages: &[INITIALIZE, OPEN, CHANGE_TO_GOOD, DIAGNOSTIC],
+        replies: &[INITIALIZED, NO_REPORT],
+    },
+    Dialogue {
+        files: &[],
+        messages: &[INITIALIZE, OPEN_WIDE, CHANGE_THREE_TIMES, DIAGNOSTIC],
+        replies: &[INITIALIZED, REPORT_BEHIND_THE_CHANGES],
+    },
+    Dialogue {
+        files: &[],
+        messages: &[INITIALIZE, OPEN, CHANGE_NOTHING, DIAGNOSTIC],
+        replies: &[INITIALIZED, REPORT],
+    },
+];
 
 #[test]
 fn changes_open_documents(rt: HostRuntime) -> Result<(), Fail> {
-    expect_replies(
-        &rt,
-        &[INITIALIZE, OPEN, CHANGE_TO_GOOD, DIAGNOSTIC],
-        &[INITIALIZED, NO_REPORT],
-    )?;
-    // Each change counts, in UTF-16 units, in the text that those before it leave. The second line is `/*é*/cd` after the
-    // first, `/*é*/;;` after the second and `/*é*/; #` after the third.
-    let opened =
-        "{\"jsonrpc\":\"2.0\",\"method\":\"textDocument/didOpen\",\"params\":{\"textDocument\":{\"uri\":\"file:///w/a.proto\",\"version\":1,\"text\":\"syntax = 'proto3';\\né#\\n😀cd\"}}}";
-    let changed =
-        "{\"jsonrpc\":\"2.0\",\"method\":\"textDocument/didChange\",\"params\":{\"textDocument\":{\"uri\":\"file:///w/a.proto\",\"version\":-7},\"contentChanges\":[{\"range\":{\"start\":{\"line\":1,\"character\":0},\"end\":{\"line\":2,\"character\":2}},\"text\":\"/*é*/\"},{\"range\":{\"start\":{\"line\":9,\"character\":0},\"end\":{\"line\":1,\"character\":5}},\"text\":\";;\"},{\"range\":{\"start\":{\"line\":1,\"character\":6},\"end\":{\"line\":1,\"character\":7}},\"text\":\" #\"}]}}";
-    let report =
-        "{\"id\":2,\"jsonrpc\":\"2.0\",\"result\":{\"items\":[{\"code\":201,\"message\":\"illegal character\",\"range\":{\"end\":{\"character\":8,\"line\":1},\"start\":{\"character\":7,\"line\":1}},\"severity\":1,\"source\":\"protols\"}],\"kind\":\"full\"}}";
-    expect_replies(
-        &rt,
-        &[INITIALIZE, opened, changed, DIAGNOSTIC],
-        &[INITIALIZED, report],
-    )?;
-    // No change at all leaves the text.
-    let unchanged =
-        "{\"jsonrpc\":\"2.0\",\"method\":\"textDocument/didChange\",\"params\":{\"textDocument\":{\"uri\":\"file:///w/a.proto\",\"version\":2},\"contentChanges\":[]}}";
-    expect_replies(
-        &rt,
-        &[INITIALIZE, OPEN, unchanged, DIAGNOSTIC],
-        &[INITIALIZED, REPORT],
-    )?;
-    // A change with a bad range, or a list that is none, is dropped whole.
-    for dropped in [
-        "{\"jsonrpc\":\"2.0\",\"method\":\"textDocument/didChange\",\"params\":{\"textDocument\":{\"uri\":\"file:///w/a.proto\",\"version\":2},\"contentChanges\":[{\"text\":\"\"},{\"range\":null,\"text\":\"\"}]}}",
-        "{\"jsonrpc\":\"2.0\",\"method\":\"textDocument/didChange\",\"params\":{\"textDocument\":{\"uri\":\"file:///w/a.proto\",\"version\":2},\"contentChanges\":{\"text\":\"\"}}}",
-        "{\"jsonrpc\":\"2.0\",\"method\":\"textDocument/didChange\",\"params\":{\"textDocument\":{\"uri\":\"a.proto\",\"version\":2},\"contentChanges\":[{\"text\":\"\"}]}}",
-        "{\"jsonrpc\":\"2.0\",\"method\":\"textDocument/didChange\",\"params\":{\"textDocument\":{\"uri\":\"file:///w/a.proto\"},\"contentChanges\":[{\"text\":\"\"}]}}",
-    ] {
-        expect_replies(
-            &rt,
-            &[INITIALIZE, OPEN, dropped, DIAGNOSTIC],
-            &[INITIALIZED, REPORT],
-        )?;
-    }
-    Ok(())
+    expect_replies(&rt, CHANGED_TEXTS)
 }
+
+// A change with a bad range, or a list that is none, is dropped whole; so is one without a version or of no URL.
+const DROPPED_CHANGES: &[Dialogue] = &[Dialogue {
+    files: &[],
+    messages: &[
+        INITIALIZE,
+        OPEN,
+        "{\"jsonrpc\":\"2.0\",\"method\":\"textDocument/didChange\",\"params\":{\"textDocument\":{\"uri\":\"file:///w/a.proto\",\"version\":2},\"contentChanges\":[{\"text\":\"\"},{\"range\":null,\"text\":\"\"}]}}",
+        DIAGNOSTIC,
+        "{\"jsonrpc\":\"2.0\",\"method\":\"textDocument/didChange\",\"params\":{\"textDocument\":{\"uri\":\"file:///w/a.proto\",\"version\":2},\"contentChanges\":{\"text\":\"\"}}}",
+        DIAGNOSTIC,
+        "{\"jsonrpc\":\"2.0\",\"method\":\"textDocument/didChange\",\"params\":{\"textDocument\":{\"uri\":\"a.proto\",\"version\":2},\"contentChanges\":[{\"text\":\"\"}]}}",
+        DIAGNOSTIC,
+        "{\"jsonrpc\":\"2.0\",\"method\":\"textDocument/didChange\",\"params\":{\"textDocument\":{\"uri\":\"file:///w/a.proto\"},\"contentChanges\":[{\"text\":\"\"}]}}",
+        DIAGNOSTIC,
+    ],
+    replies: &[INITIALIZED, REPORT, REPORT, REPORT, REPORT],
+}];
+
+#[test]
+fn drops_bad_changes(rt: HostRuntime) -> Result<(), Fail> {
+    expect_replies(&rt, DROPPED_CHANGES)
+}
+
+const OPEN_OUTSIDE: &str =
+    "{\"jsonrpc\":\"2.0\",\"method\":\"textDocument/didOpen\",\"params\":{\"textDocument\":{\"uri\":\"untitled:One\",\"version\":1,\"text\":\"syntax = 'proto3';\\n#\"}}}";
+
+const SAVE_OUTSIDE: &str =
+    "{\"jsonrpc\":\"2.0\",\"method\":\"textDocument/didSave\",\"params\":{\"textDocument\":{\"uri\":\"untitled:One\"}}}";
+
+const CLOSE_OUTSIDE: &str =
+    "{\"jsonrpc\":\"2.0\",\"method\":\"textDocument/didClose\",\"params\":{\"textDocument\":{\"uri\":\"UNTITLED:One\"}}}";
+
+const DIAGNOSTIC_OUTSIDE: &str =
+    "{\"jsonrpc\":\"2.0\",\"id\":2,\"method\":\"textDocument/diagnostic\",\"params\":{\"textDocument\":{\"uri\":\"untitled:One\"}}}";
+
+const OPEN_NO_URL: &str =
+    "{\"jsonrpc\":\"2.0\",\"method\":\"textDocument/didOpen\",\"params\":{\"textDocument\":{\"uri\":\"not a url\",\"version\":1,\"text\":\"\"}}}";
+
+const DIAGNOSTIC_NO_URL: &str =
+    "{\"jsonrpc\":\"2.0\",\"id\":2,\"method\":\"textDocument/diagnostic\",\"params\":{\"textDocument\":{\"uri\":\"not a url\"}}}";
+
+// What was saved stays, outside the root too. What is no URL is dropped, and a request for it has bad params.
+const DOCUMENTS_OUTSIDE: &[Dialogue] = &[
+    Dialogue {
+        files: &[],
+        messages: &[INITIALIZE, OPEN_OUTSIDE, DIAGNOSTIC_OUTSIDE],
+        replies: &[INITIALIZED, REPORT],
+    },
+    Dialogue {
+        files: &[],
+        messages: &[INITIALIZE, OPEN_OUTSIDE, CLOSE_OUTSIDE, DIAGNOSTIC_OUTSIDE],
+        replies: &[INITIALIZED, NOT_OPEN],
+    },
+    Dialogue {
+        files: &[],
+        messages: &[
+            INITIALIZE,
+            OPEN_OUTSIDE,
+            SAVE_OUTSIDE,
+            CLOSE_OUTSIDE,
+            DIAGNOSTIC_OUTSIDE,
+        ],
+        replies: &[INITIALIZED, REPORT],
+    },
+    Dialogue {
+        files: &[],
+        messages: &[INITIALIZE, OPEN_NO_URL, DIAGNOSTIC_NO_URL],
+        replies: &[INITIALIZED, NOT_OPEN],
+    },
+];
 
 #[test]
 fn knows_documents_outside_the_root(rt: HostRuntime) -> Result<(), Fail> {
-    let opened =
-        "{\"jsonrpc\":\"2.0\",\"method\":\"textDocument/didOpen\",\"params\":{\"textDocument\":{\"uri\":\"untitled:One\",\"version\":1,\"text\":\"syntax = 'proto3';\\n#\"}}}";
-    let closed =
-        "{\"jsonrpc\":\"2.0\",\"method\":\"textDocument/didClose\",\"params\":{\"textDocument\":{\"uri\":\"UNTITLED:One\"}}}";
-    let asked =
-        "{\"jsonrpc\":\"2.0\",\"id\":2,\"method\":\"textDocument/diagnostic\",\"params\":{\"textDocument\":{\"uri\":\"untitled:One\"}}}";
-    expect_replies(&rt, &[INITIALIZE, opened, asked], &[INITIALIZED, REPORT])?;
-    expect_replies(
-        &rt,
-        &[INITIALIZE, opened, closed, asked],
-        &[INITIALIZED, NOT_OPEN],
-    )?;
-    // What was saved stays, outside the root too.
-    let saved =
-        "{\"jsonrpc\":\"2.0\",\"method\":\"textDocument/didSave\",\"params\":{\"textDocument\":{\"uri\":\"untitled:One\"}}}";
-    expect_replies(
-        &rt,
-        &[INITIALIZE, opened, saved, closed, asked],
-        &[INITIALIZED, REPORT],
-    )?;
-    // What is no URL is dropped, and a request for it has bad params.
-    let no_url =
-        "{\"jsonrpc\":\"2.0\",\"method\":\"textDocument/didOpen\",\"params\":{\"textDocument\":{\"uri\":\"not a url\",\"version\":1,\"text\":\"\"}}}";
-    let asked_for_no_url =
-        "{\"jsonrpc\":\"2.0\",\"id\":2,\"method\":\"textDocument/diagnostic\",\"params\":{\"textDocument\":{\"uri\":\"not a url\"}}}";
-    expect_replies(
-        &rt,
-        &[INITIALIZE, no_url, asked_for_no_url],
-        &[INITIALIZED, NOT_OPEN],
-    )?;
-    Ok(())
+    expect_replies(&rt, DOCUMENTS_OUTSIDE)
 }
 
 #[test]
