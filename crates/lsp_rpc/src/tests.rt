@@ -19,22 +19,85 @@ fn shown(alloc: Global, body: &[u8]) -> Result<String, AllocError> {
     }
 }
 
+// Bodies, and what they are.
+const MESSAGES: &[(&str, &str)] = &[
+    // No call.
+    ("", "parse error"),
+    ("{", "parse error"),
+    ("{}{}", "parse error"),
+    ("\"\\ud800\"", "parse error"),
+    ("[]", "invalid None"),
+    ("[{}]", "invalid None"),
+    ("null", "invalid None"),
+    ("\"a\"", "invalid None"),
+    ("{}", "invalid None"),
+    ("{\"id\":true,\"error\":{}}", "response"),
+    ("{\"jsonrpc\":\"2.0\",\"id\":8,\"result\":1}", "response"),
+    ("{\"result\":null}", "response"),
+    // A bad member.
+    (
+        "{\"jsonrpc\":\"2.0\",\"id\":1.5,\"method\":\"shutdown\"}",
+        "invalid None",
+    ),
+    (
+        "{\"id\":4,\"method\":\"shutdown\"}",
+        "invalid Some(Number(4))",
+    ),
+    (
+        "{\"jsonrpc\":2.0,\"id\":4,\"method\":\"exit\"}",
+        "invalid Some(Number(4))",
+    ),
+    ("{\"jsonrpc\":\"2\",\"method\":\"exit\"}", "invalid None"),
+    (
+        "{\"jsonrpc\":\"2.0\",\"id\":\"a\"}",
+        "invalid Some(Text(\"a\"))",
+    ),
+    (
+        "{\"jsonrpc\":\"2.0\",\"id\":4,\"method\":null}",
+        "invalid Some(Number(4))",
+    ),
+    (
+        "{\"jsonrpc\":\"2.0\",\"id\":4,\"method\":1,\"result\":1}",
+        "invalid Some(Number(4))",
+    ),
+    // Calls.
+    (
+        "{\"jsonrpc\":\"2.0\",\"id\":5,\"method\":\"$/x\"}",
+        "request Number(5) None",
+    ),
+    (
+        "{\"jsonrpc\":\"2.0\",\"id\":7,\"method\":\"initialize\"}",
+        "request Number(7) Some(Initialize)",
+    ),
+    (
+        "{\"jsonrpc\":\"2.0\",\"id\":9,\"method\":\"shutdown\"}",
+        "request Number(9) Some(Shutdown)",
+    ),
+    (
+        "{\"jsonrpc\":\"2.0\",\"id\":9,\"method\":\"Shutdown\"}",
+        "request Number(9) None",
+    ),
+    (
+        "{\"jsonrpc\":\"2.0\",\"id\":\"q\",\"method\":\"textDocument/diagnostic\"}",
+        "request Text(\"q\") Some(DocumentDiagnostic)",
+    ),
+    (
+        "{\"jsonrpc\":\"2.0\",\"method\":\"exit\",\"result\":1}",
+        "notification Some(Exit)",
+    ),
+    (
+        "{\"jsonrpc\":\"2.0\",\"method\":\"$/cancelRequest\"}",
+        "notification None",
+    ),
+    (
+        "{\"jsonrpc\":\"1.0\",\"jsonrpc\":\"2.0\",\"method\":\"textDocument/didOpen\"}",
+        "notification Some(DidOpen)",
+    ),
+];
+
 #[test]
-fn refuses_what_is_no_call(rt: HostRuntime) -> Result<(), Fail> {
-    for (body, want) in [
-        ("", "parse error"),
-        ("{", "parse error"),
-        ("{}{}", "parse error"),
-        ("\"\\ud800\"", "parse error"),
-        ("[]", "invalid None"),
-        ("[{}]", "invalid None"),
-        ("null", "invalid None"),
-        ("\"a\"", "invalid None"),
-        ("{}", "invalid None"),
-        ("{\"id\":true,\"error\":{}}", "response"),
-        ("{\"jsonrpc\":\"2.0\",\"id\":8,\"result\":1}", "response"),
-        ("{\"result\":null}", "response"),
-    ] {
+fn tells_messages_apart(rt: HostRuntime) -> Result<(), Fail> {
+    for &(body, want) in MESSAGES {
         let found = shown(rt.alloc(), body.as_bytes())?;
         assert!(rt; found.as_str() == want, "{body} is {found}");
     }
@@ -42,108 +105,34 @@ fn refuses_what_is_no_call(rt: HostRuntime) -> Result<(), Fail> {
     Ok(())
 }
 
-#[test]
-fn refuses_bad_members(rt: HostRuntime) -> Result<(), Fail> {
-    for (body, want) in [
-        (
-            "{\"jsonrpc\":\"2.0\",\"id\":1.5,\"method\":\"shutdown\"}",
-            "invalid None",
-        ),
-        (
-            "{\"id\":4,\"method\":\"shutdown\"}",
-            "invalid Some(Number(4))",
-        ),
-        (
-            "{\"jsonrpc\":2.0,\"id\":4,\"method\":\"exit\"}",
-            "invalid Some(Number(4))",
-        ),
-        ("{\"jsonrpc\":\"2\",\"method\":\"exit\"}", "invalid None"),
-        (
-            "{\"jsonrpc\":\"2.0\",\"id\":\"a\"}",
-            "invalid Some(Text(\"a\"))",
-        ),
-        (
-            "{\"jsonrpc\":\"2.0\",\"id\":4,\"method\":null}",
-            "invalid Some(Number(4))",
-        ),
-        (
-            "{\"jsonrpc\":\"2.0\",\"id\":4,\"method\":1,\"result\":1}",
-            "invalid Some(Number(4))",
-        ),
-    ] {
-        let found = shown(rt.alloc(), body.as_bytes())?;
-        assert!(rt; found.as_str() == want, "{body} is {found}");
-    }
-    Ok(())
-}
-
-#[test]
-fn tells_calls_apart(rt: HostRuntime) -> Result<(), Fail> {
-    for (body, want) in [
-        (
-            "{\"jsonrpc\":\"2.0\",\"id\":5,\"method\":\"$/x\"}",
-            "request Number(5) None",
-        ),
-        (
-            "{\"jsonrpc\":\"2.0\",\"id\":7,\"method\":\"initialize\"}",
-            "request Number(7) Some(Initialize)",
-        ),
-        (
-            "{\"jsonrpc\":\"2.0\",\"id\":9,\"method\":\"shutdown\"}",
-            "request Number(9) Some(Shutdown)",
-        ),
-        (
-            "{\"jsonrpc\":\"2.0\",\"id\":9,\"method\":\"Shutdown\"}",
-            "request Number(9) None",
-        ),
-        (
-            "{\"jsonrpc\":\"2.0\",\"id\":\"q\",\"method\":\"textDocument/diagnostic\"}",
-            "request Text(\"q\") Some(DocumentDiagnostic)",
-        ),
-        (
-            "{\"jsonrpc\":\"2.0\",\"method\":\"exit\",\"result\":1}",
-            "notification Some(Exit)",
-        ),
-        (
-            "{\"jsonrpc\":\"2.0\",\"method\":\"$/cancelRequest\"}",
-            "notification None",
-        ),
-        (
-            "{\"jsonrpc\":\"1.0\",\"jsonrpc\":\"2.0\",\"method\":\"textDocument/didOpen\"}",
-            "notification Some(DidOpen)",
-        ),
-    ] {
-        let found = shown(rt.alloc(), body.as_bytes())?;
-        assert!(rt; found.as_str() == want, "{body} is {found}");
-    }
-    Ok(())
-}
+// Ids of an `exit`, and what it then is.
+const IDS: &[(&str, &str)] = &[
+    (
+        "9223372036854775807",
+        "request Number(9223372036854775807) Some(Exit)",
+    ),
+    ("9223372036854775808", "invalid None"),
+    (
+        "-9223372036854775808",
+        "request Number(-9223372036854775808) Some(Exit)",
+    ),
+    ("-9223372036854775809", "invalid None"),
+    ("0", "request Number(0) Some(Exit)"),
+    ("-0", "invalid None"),
+    ("1.0", "invalid None"),
+    ("1e2", "invalid None"),
+    ("null", "invalid None"),
+    ("true", "invalid None"),
+    ("[1]", "invalid None"),
+    ("{}", "invalid None"),
+    ("\"\"", "request Text(\"\") Some(Exit)"),
+    ("1,\"id\":2", "request Number(2) Some(Exit)"),
+];
 
 #[test]
 fn reads_ids(rt: HostRuntime) -> Result<(), Fail> {
     let alloc = rt.alloc();
-    for (id, want) in [
-        (
-            "9223372036854775807",
-            "request Number(9223372036854775807) Some(Exit)",
-        ),
-        ("9223372036854775808", "invalid None"),
-        (
-            "-9223372036854775808",
-            "request Number(-9223372036854775808) Some(Exit)",
-        ),
-        ("-9223372036854775809", "invalid None"),
-        ("0", "request Number(0) Some(Exit)"),
-        ("-0", "invalid None"),
-        ("1.0", "invalid None"),
-        ("1e2", "invalid None"),
-        ("null", "invalid None"),
-        ("true", "invalid None"),
-        ("[1]", "invalid None"),
-        ("{}", "invalid None"),
-        ("\"\"", "request Text(\"\") Some(Exit)"),
-        ("1,\"id\":2", "request Number(2) Some(Exit)"),
-    ] {
+    for &(id, want) in IDS {
         let body = format!(in alloc; "{{\"id\":{id},\"jsonrpc\":\"2.0\",\"method\":\"exit\"}}")?;
         let found = shown(alloc, body.as_bytes())?;
         assert!(rt; found.as_str() == want, "{id} is {found}");
@@ -189,34 +178,37 @@ fn reads_opened_documents(rt: HostRuntime) -> Result<(), Fail> {
     Ok(())
 }
 
+// Documents of an open, and the versions that are read.
+const VERSIONS: &[(&str, Option<i64>)] = &[
+    ("{\"uri\":\"a\",\"version\":-1,\"text\":\"\"}", Some(-1)),
+    (
+        "{\"uri\":\"a\",\"version\":-9223372036854775808,\"text\":\"\"}",
+        Some(i64::MIN),
+    ),
+    (
+        "{\"uri\":\"a\",\"version\":9223372036854775807,\"text\":\"\"}",
+        Some(i64::MAX),
+    ),
+    (
+        "{\"uri\":\"a\",\"version\":9223372036854775808,\"text\":\"\"}",
+        None,
+    ),
+    ("{\"uri\":\"a\",\"version\":1.0,\"text\":\"\"}", None),
+    ("{\"uri\":\"a\",\"version\":\"1\",\"text\":\"\"}", None),
+    ("{\"uri\":\"a\",\"version\":null,\"text\":\"\"}", None),
+    ("{\"uri\":\"a\",\"text\":\"\"}", None),
+    ("{\"uri\":1,\"version\":1,\"text\":\"\"}", None),
+    ("{\"version\":1,\"text\":\"\"}", None),
+    ("{\"uri\":\"a\",\"version\":1}", None),
+    ("{\"uri\":\"a\",\"version\":1,\"text\":[]}", None),
+    ("[]", None),
+    ("null", None),
+];
+
 #[test]
 fn reads_versions(rt: HostRuntime) -> Result<(), Fail> {
     let alloc = rt.alloc();
-    for (document, version) in [
-        ("{\"uri\":\"a\",\"version\":-1,\"text\":\"\"}", Some(-1)),
-        (
-            "{\"uri\":\"a\",\"version\":-9223372036854775808,\"text\":\"\"}",
-            Some(i64::MIN),
-        ),
-        (
-            "{\"uri\":\"a\",\"version\":9223372036854775807,\"text\":\"\"}",
-            Some(i64::MAX),
-        ),
-        (
-            "{\"uri\":\"a\",\"version\":9223372036854775808,\"text\":\"\"}",
-            None,
-        ),
-        ("{\"uri\":\"a\",\"version\":1.0,\"text\":\"\"}", None),
-        ("{\"uri\":\"a\",\"version\":\"1\",\"text\":\"\"}", None),
-        ("{\"uri\":\"a\",\"version\":null,\"text\":\"\"}", None),
-        ("{\"uri\":\"a\",\"text\":\"\"}", None),
-        ("{\"uri\":1,\"version\":1,\"text\":\"\"}", None),
-        ("{\"version\":1,\"text\":\"\"}", None),
-        ("{\"uri\":\"a\",\"version\":1}", None),
-        ("{\"uri\":\"a\",\"version\":1,\"text\":[]}", None),
-        ("[]", None),
-        ("null", None),
-    ] {
+    for &(document, version) in VERSIONS {
         let text = format!(in alloc; "{{\"textDocument\":{document}}}")?;
         let opened = DidOpenParams::from_value(Value::from_str(alloc, text.as_str())?);
         assert!(rt;
@@ -229,35 +221,37 @@ fn reads_versions(rt: HostRuntime) -> Result<(), Fail> {
     Ok(())
 }
 
+// Errors of an id, and the part of the reply that names them.
+const ERRORS: &[(ErrorCode, &str)] = &[
+    (
+        ErrorCode::InvalidRequest,
+        "-32600,\"message\":\"invalid request\"",
+    ),
+    (
+        ErrorCode::MethodNotFound,
+        "-32601,\"message\":\"method not found\"",
+    ),
+    (
+        ErrorCode::InvalidParams,
+        "-32602,\"message\":\"invalid params\"",
+    ),
+];
+
+const PARSE_ERROR: &str =
+    "{\"error\":{\"code\":-32700,\"message\":\"parse error\"},\"id\":null,\"jsonrpc\":\"2.0\"}";
+
+const TOO_EARLY: &str =
+    "{\"error\":{\"code\":-32002,\"message\":\"server not initialized\"},\"id\":\"q\",\"jsonrpc\":\"2.0\"}";
+
 #[test]
 fn writes_errors(rt: HostRuntime) -> Result<(), Fail> {
     let alloc = rt.alloc();
-    let parse =
-        "{\"error\":{\"code\":-32700,\"message\":\"parse error\"},\"id\":null,\"jsonrpc\":\"2.0\"}";
-    assert!(rt; parse.len() == 75);
-    assert!(rt; error_reply(alloc, None, ErrorCode::ParseError)?.as_slice() == parse.as_bytes());
-    let early =
-        "{\"error\":{\"code\":-32002,\"message\":\"server not initialized\"},\"id\":\"q\",\"jsonrpc\":\"2.0\"}";
-    assert!(rt; early.len() == 85);
+    let reply = error_reply(alloc, None, ErrorCode::ParseError)?;
+    assert!(rt; reply.len() == 75 && reply.as_slice() == PARSE_ERROR.as_bytes());
     let q = Id::Text(String::from_str(alloc, "q")?);
-    assert!(rt;
-        error_reply(alloc, Some(&q), ErrorCode::ServerNotInitialized)?.as_slice()
-            == early.as_bytes()
-    );
-    for (code, want) in [
-        (
-            ErrorCode::InvalidRequest,
-            "-32600,\"message\":\"invalid request\"",
-        ),
-        (
-            ErrorCode::MethodNotFound,
-            "-32601,\"message\":\"method not found\"",
-        ),
-        (
-            ErrorCode::InvalidParams,
-            "-32602,\"message\":\"invalid params\"",
-        ),
-    ] {
+    let reply = error_reply(alloc, Some(&q), ErrorCode::ServerNotInitialized)?;
+    assert!(rt; reply.len() == 85 && reply.as_slice() == TOO_EARLY.as_bytes());
+    for &(code, want) in ERRORS {
         let want = format!(in alloc;
             "{{\"error\":{{\"code\":{want}}},\"id\":-4,\"jsonrpc\":\"2.0\"}}"
         )?;
@@ -345,55 +339,58 @@ fn changes_shown(alloc: Global, params: &str) -> Result<String, AllocError> {
     Ok(shown)
 }
 
+// Lists of changes, and how they are read. One bad change spoils them all, and so does a list that is none.
+const CHANGES: &[(&str, &str)] = &[
+    ("[]", "u 2"),
+    ("[{\"text\":\"a\"}]", "u 2 all a"),
+    (
+        "[{\"text\":\"a\"},{\"range\":{\"start\":{\"line\":1,\"character\":2},\"end\":{\"line\":3,\"character\":18446744073709551615}},\"rangeLength\":null,\"text\":\"b\"}]",
+        "u 2 all a 1:2-3:18446744073709551615 b",
+    ),
+    ("[{\"text\":\"a\"},{\"range\":null,\"text\":\"b\"}]", "none"),
+    (
+        "[{\"range\":{\"start\":{\"line\":0,\"character\":0}},\"text\":\"b\"}]",
+        "none",
+    ),
+    (
+        "[{\"range\":{\"start\":{\"line\":0,\"character\":0},\"end\":{\"line\":0,\"character\":-1}},\"text\":\"b\"}]",
+        "none",
+    ),
+    (
+        "[{\"range\":{\"start\":{\"line\":0,\"character\":0},\"end\":{\"line\":0,\"character\":1.0}},\"text\":\"b\"}]",
+        "none",
+    ),
+    ("[{\"text\":1}]", "none"),
+    ("[{}]", "none"),
+    ("[[]]", "none"),
+    ("{}", "none"),
+    ("null", "none"),
+];
+
+// Params without a list of changes, a version or a URI.
+const BAD_CHANGE_PARAMS: &[&str] = &[
+    "{\"contentChanges\":[]}",
+    "{\"contentChanges\":[],\"textDocument\":{\"uri\":\"u\"}}",
+    "{\"contentChanges\":[],\"textDocument\":{\"uri\":\"u\",\"version\":null}}",
+    "{\"contentChanges\":[],\"textDocument\":{\"uri\":\"u\",\"version\":9223372036854775808}}",
+    "{\"contentChanges\":[],\"textDocument\":{\"version\":1}}",
+    "{\"textDocument\":{\"uri\":\"u\",\"version\":1}}",
+    "[]",
+    "null",
+];
+
 #[test]
 fn reads_changes(rt: HostRuntime) -> Result<(), Fail> {
-    for (changes, want) in [
-        ("[]", "u 2"),
-        ("[{\"text\":\"a\"}]", "u 2 all a"),
-        (
-            "[{\"text\":\"a\"},{\"range\":{\"start\":{\"line\":1,\"character\":2},\"end\":{\"line\":3,\"character\":18446744073709551615}},\"rangeLength\":null,\"text\":\"b\"}]",
-            "u 2 all a 1:2-3:18446744073709551615 b",
-        ),
-        // One bad change spoils them all, and so does a list that is none.
-        ("[{\"text\":\"a\"},{\"range\":null,\"text\":\"b\"}]", "none"),
-        (
-            "[{\"range\":{\"start\":{\"line\":0,\"character\":0}},\"text\":\"b\"}]",
-            "none",
-        ),
-        (
-            "[{\"range\":{\"start\":{\"line\":0,\"character\":0},\"end\":{\"line\":0,\"character\":-1}},\"text\":\"b\"}]",
-            "none",
-        ),
-        (
-            "[{\"range\":{\"start\":{\"line\":0,\"character\":0},\"end\":{\"line\":0,\"character\":1.0}},\"text\":\"b\"}]",
-            "none",
-        ),
-        ("[{\"text\":1}]", "none"),
-        ("[{}]", "none"),
-        ("[[]]", "none"),
-        ("{}", "none"),
-        ("null", "none"),
-    ] {
+    for &(changes, want) in CHANGES {
         let params = format!(in rt.alloc();
             "{{\"contentChanges\":{changes},\"textDocument\":{{\"uri\":\"u\",\"version\":2}}}}"
         )?;
         let found = changes_shown(rt.alloc(), params.as_str())?;
         assert!(rt; found.as_str() == want, "{changes} is read as {found}");
     }
-    for params in [
-        "{\"contentChanges\":[]}",
-        "{\"contentChanges\":[],\"textDocument\":{\"uri\":\"u\"}}",
-        "{\"contentChanges\":[],\"textDocument\":{\"uri\":\"u\",\"version\":null}}",
-        "{\"contentChanges\":[],\"textDocument\":{\"uri\":\"u\",\"version\":9223372036854775808}}",
-        "{\"contentChanges\":[],\"textDocument\":{\"version\":1}}",
-        "{\"textDocument\":{\"uri\":\"u\",\"version\":1}}",
-        "[]",
-        "null",
-    ] {
-        assert!(rt;
-            changes_shown(rt.alloc(), params)?.as_str() == "none",
-            "{params} is read"
-        );
+    for params in BAD_CHANGE_PARAMS {
+        let found = changes_shown(rt.alloc(), params)?;
+        assert!(rt; found.as_str() == "none", "{params} is read");
     }
     Ok(())
 }
