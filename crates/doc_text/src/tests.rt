@@ -153,18 +153,6 @@ fn text_of(rt: &impl AllocGlobal, text: &str) -> Result<Text, Fail> {
     Ok(Text::new(String::from_str(rt.alloc(), text)?))
 }
 
-fn change(
-    rt: &impl AllocGlobal,
-    start: Position,
-    end: Position,
-    text: &str,
-) -> Result<Change, Fail> {
-    Ok(Change {
-        range: Some(Range { start, end }),
-        text: String::from_str(rt.alloc(), text)?,
-    })
-}
-
 // Compares the offsets of positions, given as line, character and offset.
 fn expect_offsets<R: AllocGlobal + Abort>(
     rt: &R,
@@ -250,46 +238,57 @@ fn long_texts_have_positions(rt: HostRuntime) -> Result<(), Fail> {
     Ok(())
 }
 
+// Changes in turn: the line and character of the range's start and of its end, or none for the whole text; the new text;
+// and all of the text after the change.
+const CHANGES: &[(Option<[u64; 4]>, &str, &str)] = &[
+    (None, "ab\ncd", "ab\ncd"),
+    (Some([0, 1, 1, 1]), "X", "aXd"),
+    // A range turned round.
+    (Some([9, 0, 0, 2]), "\n", "aX\n"),
+    (None, "a\r\nb", "a\r\nb"),
+    // From behind the line's last character to the next line: the line end goes.
+    (Some([0, 9, 1, 0]), "", "ab"),
+    (Some([u64::MAX, u64::MAX, u64::MAX, u64::MAX]), "!", "ab!"),
+    (Some([u64::MAX, u64::MAX, 0, 0]), "", ""),
+    (Some([3, 1, 0, 0]), "é", "é"),
+];
+
 #[test]
 fn changes_follow_one_another(rt: HostRuntime) -> Result<(), Fail> {
-    let mut text = text_of(&rt, "ab\ncd")?;
-    text.apply(change(&rt, place(0, 1), place(1, 1), "X")?, Encoding::Utf16)?;
-    assert_eq!(rt; text.as_str(), "aXd");
-    // A range turned round.
-    text.apply(
-        change(&rt, place(9, 0), place(0, 2), "\n")?,
-        Encoding::Utf16,
-    )?;
-    assert_eq!(rt; text.as_str(), "aX\n");
-    let whole = Change {
-        range: None,
-        text: String::from_str(rt.alloc(), "a\r\nb")?,
-    };
-    text.apply(whole, Encoding::Utf16)?;
-    assert_eq!(rt; text.as_str(), "a\r\nb");
-    // From behind the line's last character to the next line: the line end goes.
-    text.apply(change(&rt, place(0, 9), place(1, 0), "")?, Encoding::Utf16)?;
-    assert_eq!(rt; text.as_str(), "ab");
-    let end = place(u64::MAX, u64::MAX);
-    text.apply(change(&rt, end, end, "!")?, Encoding::Utf16)?;
-    assert_eq!(rt; text.as_str(), "ab!");
-    text.apply(change(&rt, end, place(0, 0), "")?, Encoding::Utf16)?;
-    assert_eq!(rt; text.as_str(), "");
-    text.apply(change(&rt, place(3, 1), place(0, 0), "é")?, Encoding::Utf16)?;
-    assert_eq!(rt; text.as_str(), "é");
+    let mut text = text_of(&rt, "")?;
+    for &(range, new, expected) in CHANGES {
+        let change = Change {
+            range: range.map(|[line, character, end_line, end_character]| Range {
+                start: place(line, character),
+                end: place(end_line, end_character),
+            }),
+            text: String::from_str(rt.alloc(), new)?,
+        };
+        text.apply(change, Encoding::Utf16)?;
+        assert_eq!(rt; text.as_str(), expected);
+    }
     Ok(())
 }
 
+// The text of `COMMENT` after a change of one unit, by the encoding.
+const CHANGED_COMMENTS: &[(Encoding, &str)] = &[
+    (Encoding::Utf16, "// éyx\n"),
+    (Encoding::Utf8, "// éy😀x\n"),
+    (Encoding::Utf32, "// é😀y\n"),
+];
+
 #[test]
 fn encodings_differ(rt: HostRuntime) -> Result<(), Fail> {
-    let changed = [
-        (Encoding::Utf16, "// éyx\n"),
-        (Encoding::Utf8, "// éy😀x\n"),
-        (Encoding::Utf32, "// é😀y\n"),
-    ];
-    for (encoding, expected) in changed {
+    for &(encoding, expected) in CHANGED_COMMENTS {
         let mut text = text_of(&rt, COMMENT)?;
-        text.apply(change(&rt, place(0, 5), place(0, 6), "y")?, encoding)?;
+        let change = Change {
+            range: Some(Range {
+                start: place(0, 5),
+                end: place(0, 6),
+            }),
+            text: String::from_str(rt.alloc(), "y")?,
+        };
+        text.apply(change, encoding)?;
         assert_eq!(rt; text.as_str(), expected);
     }
     Ok(())
