@@ -141,31 +141,34 @@ fn reads_a_long_body(rt: HostRuntime) -> Result<(), Fail> {
     Ok(())
 }
 
+// Bytes that begin with no frame, and the number of the fault.
+const BAD_FRAMES: &[(&[u8], u32)] = &[
+    (b"Content-Length 2\r\n\r\n{}", 101),
+    (b": 2\r\nContent-Length: x\r\n\r\n", 101),
+    (b"Content-Length: x\r\nnone\r\n\r\n", 103),
+    (b"\r\n", 102),
+    (b"X: y\r\n\r\n", 102),
+    (b"Content-Length : 5\r\n\r\nabcde", 102),
+    (b"Content-Length: \r\n\r\n", 103),
+    (b"Content-Length: +1\r\n\r\nx", 103),
+    (b"Content-Length: 1 1\r\n\r\nx", 103),
+    (b"Content-Length:\t1\r\n\r\nx", 103),
+    (b"Content-Length: x\r\nContent-Length: 1\r\n\r\nx", 103),
+    (b"Content-Length: 00000000001\r\n\r\nx", 103),
+    (b"Content-Length: 67108865\r\n\r\nx", 104),
+    (b"Content-Length: 67108864\r\n\r\nx", 106),
+    (
+        b"Content-Length: 67108865\r\nContent-Length: 2\r\n\r\nx",
+        106,
+    ),
+    (b"Content-Length: 1\n\nx", 106),
+    (b"Content-Length: 1\r\n", 106),
+    (b"C", 106),
+];
+
 #[test]
 fn numbers_bad_frames(rt: HostRuntime) -> Result<(), Fail> {
-    for (bytes, code) in [
-        (b"Content-Length 2\r\n\r\n{}".as_slice(), 101),
-        (b": 2\r\nContent-Length: x\r\n\r\n", 101),
-        (b"Content-Length: x\r\nnone\r\n\r\n", 103),
-        (b"\r\n", 102),
-        (b"X: y\r\n\r\n", 102),
-        (b"Content-Length : 5\r\n\r\nabcde", 102),
-        (b"Content-Length: \r\n\r\n", 103),
-        (b"Content-Length: +1\r\n\r\nx", 103),
-        (b"Content-Length: 1 1\r\n\r\nx", 103),
-        (b"Content-Length:\t1\r\n\r\nx", 103),
-        (b"Content-Length: x\r\nContent-Length: 1\r\n\r\nx", 103),
-        (b"Content-Length: 00000000001\r\n\r\nx", 103),
-        (b"Content-Length: 67108865\r\n\r\nx", 104),
-        (b"Content-Length: 67108864\r\n\r\nx", 106),
-        (
-            b"Content-Length: 67108865\r\nContent-Length: 2\r\n\r\nx",
-            106,
-        ),
-        (b"Content-Length: 1\n\nx", 106),
-        (b"Content-Length: 1\r\n", 106),
-        (b"C", 106),
-    ] {
+    for &(bytes, code) in BAD_FRAMES {
         expect_frames(&rt, rt.alloc(), bytes, &[], code)?;
     }
     Ok(())

@@ -6,19 +6,27 @@ use crate::{
 use std::io::{self, ErrorKind, Read, Write};
 use std::test;
 
+// How much room a read has, and what it answers, of a source that holds five bytes.
+const READS: &[(usize, Result<usize, Fail>)] = &[
+    (8, Err(Fail::Interrupted)),
+    (8, Err(Fail::Interrupted)),
+    (8, Ok(3)),
+    (0, Ok(0)),
+    (8, Ok(2)),
+];
+
 #[test]
 fn sources_do_as_they_are_told(rt: HostRuntime) -> Result<(), test::Fail> {
     for fails in [false, true] {
         let bytes = Vec::from_slice(rt.alloc(), b"abcde")?;
         let mut source = MemSource::new(bytes, 3, 2, fails);
+        let mut all = Vec::new(rt.alloc());
         let mut buffer = [0u8; 8];
-        assert_eq!(rt; source.read(&mut buffer), Err(Fail::Interrupted));
-        assert_eq!(rt; source.read(&mut buffer), Err(Fail::Interrupted));
-        assert_eq!(rt; source.read(&mut buffer), Ok(3));
-        assert_eq!(rt; &buffer[..3], b"abc".as_slice());
-        assert_eq!(rt; source.read(&mut []), Ok(0));
-        assert_eq!(rt; source.read(&mut buffer), Ok(2));
-        assert_eq!(rt; &buffer[..2], b"de".as_slice());
+        for &(room, answer) in READS {
+            assert_eq!(rt; source.read(&mut buffer[..room.min(8)]), answer);
+            all.extend_from_slice(&buffer[..answer.unwrap_or(0).min(8)])?;
+        }
+        assert_eq!(rt; all.as_slice(), b"abcde".as_slice());
         let end = if fails { Err(Fail::Error) } else { Ok(0) };
         assert_eq!(rt; source.read(&mut buffer), end);
         assert_eq!(rt; source.read(&mut buffer), end);
@@ -26,15 +34,22 @@ fn sources_do_as_they_are_told(rt: HostRuntime) -> Result<(), test::Fail> {
     Ok(())
 }
 
+// What is written, and the answer, of a sink that has room for five bytes.
+const WRITES: &[(&[u8], Result<usize, Fail>)] = &[
+    (b"abcdefgh", Err(Fail::Interrupted)),
+    (b"abcdefgh", Err(Fail::Interrupted)),
+    (b"abcdefgh", Ok(3)),
+    (b"", Ok(0)),
+    (b"defgh", Ok(2)),
+];
+
 #[test]
 fn sinks_do_as_they_are_told(rt: HostRuntime) -> Result<(), test::Fail> {
     for zero in [false, true] {
         let mut sink = MemSink::new(rt.alloc(), 5, 3, 2, zero)?;
-        assert_eq!(rt; sink.write(b"abcdefgh"), Err(Fail::Interrupted));
-        assert_eq!(rt; sink.write(b"abcdefgh"), Err(Fail::Interrupted));
-        assert_eq!(rt; sink.write(b"abcdefgh"), Ok(3));
-        assert_eq!(rt; sink.write(b""), Ok(0));
-        assert_eq!(rt; sink.write(b"defgh"), Ok(2));
+        for &(bytes, answer) in WRITES {
+            assert_eq!(rt; sink.write(bytes), answer);
+        }
         let full = if zero { Ok(0) } else { Err(Fail::Error) };
         assert_eq!(rt; sink.write(b"f"), full);
         assert_eq!(rt; sink.write(b"f"), full);
