@@ -1,17 +1,19 @@
 -- Lemmas on cutting a body into items.
 use Rattle.std.proofs.Common.{◌≡◌, ℕ, zero, suc, ◌+◌, ◌<◌, ◌-◌, Bool, true, false, ◌||◌, List, [], ◌∷◌, ◌++◌, length, get_or, take, drop, refl, sym, ap, ◌∙◌, arith, cond, ◌≤◌, subst, length-drop}
-use Rattle.std.proofs.lemmas.List.{take_more, drop_more, drop_all, take_rest}
-use Rattle.std.specs.Prelude.{◌==◌, ◌&&◌, count_by}
-use Rattle.std.proofs.lemmas.Bool.{eqb-true}
+use Rattle.std.proofs.lemmas.List.{take_more, drop_more, drop_all, drop-drop, take_rest}
+use Rattle.std.specs.Prelude.{◌==◌, ◌&&◌, not, IsTrue, count_by}
+use Rattle.std.proofs.lemmas.Bool.{eqb-true, false≢true}
+use denote.Enum.Bare.{same_true}
+use Rattle.proto_syntax.specs.contracts.lexeme.Word.{the_type}
 use Rattle.std.proofs.lemmas.List.Sums.{count_by_more_yes, count_by_more_no, count_by-le-length}
 use Rattle.proto_syntax.specs.declared.lexeme.Word.TheVariants as w
 use Rattle.proto_syntax.specs.declared.lexeme.Lexeme.{Lexeme}
 use Rattle.proto_syntax.specs.declared.lexeme.Body.{Body}
 use Rattle.proto_syntax.specs.declared.lexeme.Word.{Word}
-use Rattle.proto_syntax.specs.Lexeme.{is}
+use Rattle.proto_syntax.specs.Lexeme.{is, is_plain}
 use Rattle.proto_syntax.specs.Skips.{opened, closed, IsSkip}
 use Rattle.proto_syntax.proofs.SkipLemmas.{count-add}
-use Rattle.proto_syntax.specs.Cut.{ends_in, ends, items_from, is_finished, is_stray, is_at_depth_0, is_file}
+use Rattle.proto_syntax.specs.Cut.{ends_in, ends, items_from, is_finished, is_stray, is_at_depth_0, is_file, is_quiet}
 
 -- the default of an index
 abbrev pub no_lexeme : Lexeme
@@ -141,3 +143,96 @@ items_from-open body ts i n a b e le skip lt far =
 -- and it isn't a whole statement or block
 pub unfinished : (body : Body) (ts : List Lexeme) → closed ts < opened ts → false ≡ is_finished body ts
 unfinished body ts h = let depth : is_at_depth_0 ts ≡ false = level_no _ _ h in rw depth refl
+
+-- ---- tokens that end nothing
+
+-- a plain token isn't a word that isn't plain
+plain_no : (word : Word) (t : Lexeme) → is_plain word ≡ false → is_plain t.word ≡ true → is word t ≡ false
+plain_no word t p q = tested (is word t) refl
+  where
+    tested : (b : Bool) → is word t ≡ b → is word t ≡ false
+    tested true e = let same : t.word ≡ word = same_true the_type (search refl) t.word word e in absurd (false≢true (sym p ∙ ap is_plain (sym same) ∙ q))
+    tested false e = e
+
+ends_in-push : (word : Word) (item : List Lexeme) (t : Lexeme) → ends_in word (item ++ t ∷ []) ≡ is word t
+ends_in-push word [] t = refl
+ends_in-push word (u ∷ []) t = refl
+ends_in-push word (u ∷ v ∷ us) t = ends_in-push word (v ∷ us) t
+
+-- where a quiet place follows, the item doesn't end there
+ends-quiet : (body : Body) (item : List Lexeme) (t u : Lexeme) (rest : List Lexeme) → is_plain t.word ≡ true → is w.CloseBrace u ≡ false → ends body (item ++ t ∷ []) (u ∷ rest) ≡ false
+ends-quiet body item t u rest p q =
+    let no_end : is w.Semicolon t ≡ false = plain_no w.Semicolon t refl p in
+    let no_close : is w.CloseBrace t ≡ false = plain_no w.CloseBrace t refl p in
+    let first : ends_in w.Semicolon (item ++ t ∷ []) ≡ false = ends_in-push w.Semicolon item t ∙ no_end in
+    let second : ends_in w.CloseBrace (item ++ t ∷ []) ≡ false = ends_in-push w.CloseBrace item t ∙ no_close in
+    rw (first, second, stray item no_close, q) (none _ _ (is_file body) _)
+  where
+    stray : (ts : List Lexeme) → is w.CloseBrace t ≡ false → is_stray body (ts ++ t ∷ []) ≡ false
+    stray [] e = rw e (elim (is_file body) as (λ f. (f && false) ≡ false) [ true ↦ refl | false ↦ refl ])
+    stray (x ∷ []) e = refl
+    stray (x ∷ y ∷ xs) e = refl
+
+    none : (a b c d : Bool) → (a && (b && false) || false || c && false && d) ≡ false
+    none true true true d = refl
+    none true true false d = refl
+    none true false true d = refl
+    none true false false d = refl
+    none false b true d = refl
+    none false b false d = refl
+
+-- a quiet place: the token there is plain, and one that closes nothing follows
+record IsQuiet (body : Body) (ts : List Lexeme) (i : ℕ) : Type 0 where
+  within : i + 1 < length ts
+  goes_on : ends body (take (i + 1) ts) (drop (i + 1) ts) ≡ false
+  opens_none : opened (take (i + 1) ts) ≡ opened (take i ts)
+  closes_none : closed (take (i + 1) ts) ≡ closed (take i ts)
+
+both : (a b : Bool) → IsTrue (a && b) → (a ≡ true) × (b ≡ true)
+both true true h = (refl, refl)
+both true false h = absurd (false≢true h)
+both false b h = absurd (false≢true h)
+
+not_true : (a : Bool) → not a ≡ true → a ≡ false
+not_true true h = cc
+not_true false h = refl
+
+quiet-at : (body : Body) (ts : List Lexeme) (i : ℕ) → IsTrue (is_quiet (drop i ts)) → IsQuiet body ts i
+quiet-at body ts i h = by_rest (drop i ts) refl h
+  where
+    by_rest : (rest : List Lexeme) → drop i ts ≡ rest → IsTrue (is_quiet rest) → IsQuiet body ts i
+    by_rest [] e q = absurd (false≢true q)
+    by_rest (t ∷ []) e q = absurd (false≢true q)
+    by_rest (t ∷ u ∷ us) e q =
+        let two = both (is_plain t.word) (not (is w.CloseBrace u)) q in
+        let len : length (drop i ts) ≡ length ts - i = length-drop i ts in
+        let long : length (t ∷ u ∷ us) ≡ length ts - i = ap length (sym e) ∙ len in
+        let lt : i < length ts = omega arith in
+        let both_at : get_or ts i t ∷ drop (i + 1) ts ≡ t ∷ u ∷ us = sym (drop_more ts i t lt) ∙ e in
+        let here : get_or ts i t ≡ t = cc in
+        let behind : drop (i + 1) ts ≡ u ∷ us = cc in
+        let front : take (i + 1) ts ≡ take i ts ++ t ∷ [] = take_more ts i t lt ∙ ap (λ x. take i ts ++ x ∷ []) here in
+        record {
+          within = omega arith;
+          goes_on = rw (front, behind) (ends-quiet body (take i ts) t u us two.0 (not_true _ two.1));
+          opens_none = count_by_more_no (is w.OpenBrace) ts i t lt (rw here (plain_no w.OpenBrace t refl two.0));
+          closes_none = count_by_more_no (is w.CloseBrace) ts i t lt (rw here (plain_no w.CloseBrace t refl two.0));
+        }
+
+-- Over the next n tokens nothing ends, and the braces stay as they are.
+pub record IsQuietRun (body : Body) (ts : List Lexeme) (i n : ℕ) : Type 0 where
+  pub so_far : items_from body (take i ts) (drop i ts) ≡ items_from body (take (i + n) ts) (drop (i + n) ts)
+  pub opens_none : opened (take (i + n) ts) ≡ opened (take i ts)
+  pub closes_none : closed (take (i + n) ts) ≡ closed (take i ts)
+
+pub quiet_run : (body : Body) (ts : List Lexeme) (i n : ℕ) → ((k : ℕ) → k < n → IsTrue (is_quiet (drop k (drop i ts)))) → IsQuietRun body ts i n
+quiet_run body ts i zero f = let e : i + 0 ≡ i = omega arith in record { so_far = rw e refl; opens_none = rw e refl; closes_none = rw e refl }
+quiet_run body ts i (suc n) f =
+    let e : i + suc n ≡ i + n + 1 = omega arith in
+    let before : IsQuietRun body ts i n = quiet_run body ts i n (λ k lt. f k (omega arith)) in
+    let here : IsQuiet body ts (i + n) = quiet-at body ts (i + n) (subst (λ l. IsTrue (is_quiet l)) (drop-drop n i ts) (f n (omega arith))) in
+    record {
+      so_far = rw e (before.so_far ∙ items_from-grown body ts (i + n) no_lexeme (omega (arith, here.within)) here.goes_on);
+      opens_none = rw e (here.opens_none ∙ before.opens_none);
+      closes_none = rw e (here.closes_none ∙ before.closes_none);
+    }

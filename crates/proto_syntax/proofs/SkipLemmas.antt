@@ -1,11 +1,11 @@
 -- Lemmas on the braces of a text and what they let the reader skip.
-use Rattle.std.proofs.Common.{◌≡◌, ◌⊎◌, inl, inr, subst, ℕ, zero, suc, ◌+◌, ◌<◌, ◌≤◌, ◌-◌, true, false, List, [], ◌∷◌, ◌++◌, length, get_or, get_or-drop, take, drop, refl, sym, ap, ◌∙◌, arith, cond, length-drop, length-take}
-use Rattle.std.specs.Prelude.{IsTrue, count_by}
+use Rattle.std.proofs.Common.{◌≡◌, ◌⊎◌, inl, inr, subst, ℕ, zero, suc, ◌+◌, ◌<◌, ◌≤◌, ◌-◌, true, false, List, [], ◌∷◌, ◌++◌, length, get_or, take, drop, refl, sym, ap, ◌∙◌, arith, cond, length-drop, length-take}
+use Rattle.std.specs.Prelude.{IsTrue, count_by, min}
 use denote.Enum.Bare.{same_true}
 use Rattle.proto_syntax.specs.contracts.lexeme.Word.{the_type}
 use Rattle.std.proofs.lemmas.Bool.{false≢true}
 use Rattle.proto_syntax.specs.Cut.{begins}
-use Rattle.std.proofs.lemmas.List.{drop-drop, take-take, drop_more}
+use Rattle.std.proofs.lemmas.List.{drop-drop, take-take, drop_more, drop_all, take_all}
 use Rattle.std.proofs.lemmas.List.Sums.{sum_by-append}
 use Rattle.proto_syntax.specs.declared.lexeme.Word.TheVariants as w
 use Rattle.proto_syntax.specs.declared.lexeme.Lexeme.{Lexeme}
@@ -31,41 +31,31 @@ count-add word i m ts = ap (count_by (is word)) (take-add i m ts) ∙ sum_by-app
 
 -- the same token by token
 abbrev pub AreSkips : List Lexeme → List ℕ → Type 0
-AreSkips [] [] = Unit {0}
+AreSkips ts [] = Unit {0}
 AreSkips [] (n ∷ ns) = ⊥
-AreSkips (t ∷ ts) [] = ⊥
 AreSkips (t ∷ ts) (n ∷ ns) = (IsTrue (is w.OpenBrace t) → IsSkip (t ∷ ts) n) × AreSkips ts ns
 
 pub each : (ts : List Lexeme) (ns : List ℕ) → spec.AreSkips ts ns → AreSkips ts ns
-each [] [] h = tt
+each ts [] h = tt
 each [] (n ∷ ns) h = absurd (omega (arith, h.0))
-each (t ∷ ts) [] h = absurd (omega (arith, h.0))
 each (t ∷ ts) (n ∷ ns) h = (h.1 0 (omega arith), each ts ns (omega (arith, h.0), λ k lt o. h.1 (suc k) (omega arith) o))
 
 pub all : (ts : List Lexeme) (ns : List ℕ) → AreSkips ts ns → spec.AreSkips ts ns
-all [] [] h = (refl, λ k lt o. absurd (omega arith))
+all ts [] h = (omega arith, λ k lt o. absurd (omega arith))
 all [] (n ∷ ns) h = absurd h
-all (t ∷ ts) [] h = absurd h
 all (t ∷ ts) (n ∷ ns) h =
     let more = all ts ns h.1 in
     (omega (arith, more.0), place more.1)
   where
-    place : ((k : ℕ) → k < length ts → IsTrue (begins w.OpenBrace (drop k ts)) → IsSkip (drop k ts) (get_or ns k 0))
-        → (k : ℕ) → k < length (t ∷ ts) → IsTrue (begins w.OpenBrace (drop k (t ∷ ts))) → IsSkip (drop k (t ∷ ts)) (get_or (n ∷ ns) k 0)
+    place : ((k : ℕ) → k < length ns → IsTrue (begins w.OpenBrace (drop k ts)) → IsSkip (drop k ts) (get_or ns k 0))
+        → (k : ℕ) → k < length (n ∷ ns) → IsTrue (begins w.OpenBrace (drop k (t ∷ ts))) → IsSkip (drop k (t ∷ ts)) (get_or (n ∷ ns) k 0)
     place more zero lt o = h.0 o
     place more (suc k) lt o = more k (omega arith) o
 
-pub skips-length : (ts : List Lexeme) (ns : List ℕ) → AreSkips ts ns → length ns ≡ length ts
-skips-length [] [] h = refl
-skips-length [] (n ∷ ns) h = absurd h
-skips-length (t ∷ ts) [] h = absurd h
-skips-length (t ∷ ts) (n ∷ ns) h = let same : length ns ≡ length ts = skips-length ts ns h.1 in omega arith
-
 pub skips-drop : (k : ℕ) (ts : List Lexeme) (ns : List ℕ) → AreSkips ts ns → AreSkips (drop k ts) (drop k ns)
 skips-drop zero ts ns h = h
-skips-drop (suc k) [] [] h = tt
+skips-drop (suc k) ts [] h = tt
 skips-drop (suc k) [] (n ∷ ns) h = absurd h
-skips-drop (suc k) (t ∷ ts) [] h = absurd h
 skips-drop (suc k) (t ∷ ts) (n ∷ ns) h = skips-drop k ts ns h.1
 
 skip-take : (k : ℕ) (ts : List Lexeme) (n : ℕ) → IsSkip ts n → IsSkip (take k ts) n
@@ -82,25 +72,27 @@ skip-take k ts n h = record {
 
 pub skips-take : (k : ℕ) (ts : List Lexeme) (ns : List ℕ) → AreSkips ts ns → AreSkips (take k ts) (take k ns)
 skips-take zero ts ns h = tt
-skips-take (suc k) [] [] h = tt
+skips-take (suc k) ts [] h = tt
 skips-take (suc k) [] (n ∷ ns) h = absurd h
-skips-take (suc k) (t ∷ ts) [] h = absurd h
 skips-take (suc k) (t ∷ ts) (n ∷ ns) h = (λ e. skip-take (suc k) (t ∷ ts) n (h.0 e), skips-take k ts ns h.1)
 
--- the skip of the brace at a place
-pub skip-at : (ts : List Lexeme) (ns : List ℕ) (i : ℕ) (d : Lexeme) (e : ℕ) → AreSkips ts ns → i < length ts → is w.OpenBrace (get_or ts i d) ≡ true → IsSkip (drop i ts) (get_or ns i e)
-skip-at [] ns i d e h lt o = absurd (omega arith)
-skip-at (t ∷ ts) [] i d e h lt o = absurd h
-skip-at (t ∷ ts) (n ∷ ns) zero d e h lt o = h.0 o
-skip-at (t ∷ ts) (n ∷ ns) (suc i) d e h lt o = skip-at ts ns i d e h.1 (omega arith) o
+below : (a b : ℕ) → (a ≤ b) ⊎ (b < a)
+below zero b = inl (omega arith)
+below (suc a) zero = inr (omega arith)
+below (suc a) (suc b) = elim (below a b) [ inl h ↦ inl (omega arith) | inr h ↦ inr (omega arith) ]
 
--- the same where the skips are those of all tokens but the first
-pub skip-behind : (ts : List Lexeme) (ns : List ℕ) (i : ℕ) (d : Lexeme) (e : ℕ) → AreSkips (drop 1 ts) ns → 0 < i → i < length ts → is w.OpenBrace (get_or ts i d) ≡ true → IsSkip (drop i ts) (get_or ns (i - 1) e)
-skip-behind ts ns i d e h some lt o =
-    let back : 1 + (i - 1) ≡ i = omega arith in
-    let len : length (drop 1 ts) ≡ length ts - 1 = length-drop 1 ts in
-    let there : get_or (drop 1 ts) (i - 1) d ≡ get_or ts i d = get_or-drop 1 ts (i - 1) d ∙ ap (λ k. get_or ts k d) back in
-    subst (λ l. IsSkip l (get_or ns (i - 1) e)) (drop-drop (i - 1) 1 ts ∙ ap (λ k. drop k ts) back) (skip-at (drop 1 ts) ns (i - 1) d e h (omega arith) (rw there o))
+-- a cut behind all that is known is one behind the last of it
+pub take-known : (k m : ℕ) (ns : List ℕ) → m ≡ min k (length ns) → take m ns ≡ take k ns
+take-known k m ns e = elim (below k (length ns)) [
+  | inl le ↦ let same : m ≡ k = omega arith in rw same refl
+  | inr lt ↦ let same : m ≡ length ns = omega arith in rw same (take_all (length ns) ns (omega arith) ∙ sym (take_all k ns (omega arith)))
+]
+
+pub drop-known : (k m : ℕ) (ns : List ℕ) → m ≡ min k (length ns) → drop m ns ≡ drop k ns
+drop-known k m ns e = elim (below k (length ns)) [
+  | inl le ↦ let same : m ≡ k = omega arith in rw same refl
+  | inr lt ↦ let same : m ≡ length ns = omega arith in rw same (drop_all (length ns) ns (omega arith) ∙ sym (drop_all k ns (omega arith)))
+]
 
 -- a token that is no opening brace takes any number
 pub skips-plain : (ts : List Lexeme) (ns : List ℕ) (at : ℕ) (d : Lexeme) → 0 < at → at ≤ length ts → length ns ≡ length ts → is w.OpenBrace (get_or ts (at - 1) d) ≡ false → AreSkips (drop at ts) (drop at ns)
@@ -123,11 +115,6 @@ pub record IsInside (ts : List Lexeme) (n depth : ℕ) : Type 0 where
   pub shallow : depth ≤ n
   pub counts : opened (take n ts) ≡ closed (take n ts) + depth
   pub inside : (m : ℕ) → 0 < m → m ≤ n → closed (take m ts) < opened (take m ts)
-
-below : (a b : ℕ) → (a ≤ b) ⊎ (b < a)
-below zero b = inl (omega arith)
-below (suc a) zero = inr (omega arith)
-below (suc a) (suc b) = elim (below a b) [ inl h ↦ inl (omega arith) | inr h ↦ inr (omega arith) ]
 
 -- what follows stays inside as long as it closes no more than it opens and the depth has
 pub on : (ts : List Lexeme) (n depth k : ℕ) → IsInside ts n depth → ((j : ℕ) → 0 < j → j ≤ k → closed (take j (drop n ts)) < opened (take j (drop n ts)) + depth) → (m : ℕ) → 0 < m → m ≤ n + k → closed (take m ts) < opened (take m ts)
@@ -209,3 +196,26 @@ inside-end ts n depth h one = record {
   inside = λ m some few within. h.inside m some few;
   one_deep = λ lt. h.counts ∙ ap (λ k. closed (take n ts) + k) (one lt);
 }
+
+-- ---- the skip of the brace at a place
+
+-- an opening brace may itself be skipped
+pub skip-one : (ts : List Lexeme) → IsTrue (begins w.OpenBrace ts) → IsSkip ts 1
+skip-one ts h = inside-end ts 1 1 (inside-start ts h) (λ lt. refl)
+
+pub begins-at : (ts : List Lexeme) (i : ℕ) (d : Lexeme) → i < length ts → is w.OpenBrace (get_or ts i d) ≡ true → IsTrue (begins w.OpenBrace (drop i ts))
+begins-at ts i d lt o = rw (drop_more ts i d lt) o
+
+-- what is known there, or else the brace alone
+pub skip-known : (ts : List Lexeme) (ns : List ℕ) (i : ℕ) → AreSkips ts ns → IsTrue (begins w.OpenBrace (drop i ts)) → IsSkip (drop i ts) (get_or ns i 1)
+skip-known ts [] i h o = skip-one (drop i ts) o
+skip-known [] (n ∷ ns) i h o = absurd h
+skip-known (t ∷ ts) (n ∷ ns) zero h o = h.0 o
+skip-known (t ∷ ts) (n ∷ ns) (suc i) h o = skip-known ts ns i h.1 o
+
+-- the same where the skips are those of all tokens but the first
+pub skip-behind : (ts : List Lexeme) (ns : List ℕ) (i : ℕ) (d : Lexeme) → AreSkips (drop 1 ts) ns → 0 < i → i < length ts → is w.OpenBrace (get_or ts i d) ≡ true → IsSkip (drop i ts) (get_or ns (i - 1) 1)
+skip-behind ts ns i d h some lt o =
+    let back : 1 + (i - 1) ≡ i = omega arith in
+    let same : drop (i - 1) (drop 1 ts) ≡ drop i ts = drop-drop (i - 1) 1 ts ∙ ap (λ k. drop k ts) back in
+    subst (λ l. IsSkip l (get_or ns (i - 1) 1)) same (skip-known (drop 1 ts) ns (i - 1) h (subst (λ l. IsTrue (begins w.OpenBrace l)) (sym same) (begins-at ts i d lt o)))

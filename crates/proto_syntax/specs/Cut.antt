@@ -1,11 +1,11 @@
 -- How a list of tokens is cut into items.
-use Rattle.std.specs.Prelude.{◌≡◌, Bool, true, false, ◌||◌, ◌&&◌, ◌==◌, IsTrue, List, [], ◌∷◌, ◌++◌, count_by, if◌then◌else◌}
+use Rattle.std.specs.Prelude.{◌≡◌, Bool, true, false, not, ◌||◌, ◌&&◌, ◌==◌, IsTrue, List, [], ◌∷◌, ◌++◌, count_by, if◌then◌else◌}
 use Rattle.proto_syntax.specs.declared.lexeme.Lexeme.{Lexeme}
 use Rattle.proto_syntax.specs.declared.lexeme.Body.{Body}
 use Rattle.proto_syntax.specs.declared.lexeme.Body.TheVariants as b
 use Rattle.proto_syntax.specs.declared.lexeme.Word.{Word}
 use Rattle.proto_syntax.specs.declared.lexeme.Word.TheVariants as w
-use Rattle.proto_syntax.specs.Lexeme.{is, is_block_word}
+use Rattle.proto_syntax.specs.Lexeme.{is, is_block_word, is_plain}
 
 -- The braces of an item so far are in pairs. Equal counts mean depth 0 here, since no item holds a `}` that closes
 -- nothing: in the file such a brace ends the item before it and is an item of its own, and between the braces of a
@@ -55,6 +55,12 @@ is_cut_off body item (t ∷ rest) = is_file body && is w.CloseBrace t && is_at_d
 -- whether an item that has come so far ends here, with the rest of the body behind it
 abbrev pub ends : Body → List Lexeme → List Lexeme → Bool
 ends body item rest = is_finished body item || is_stray body item || is_cut_off body item rest
+
+-- The first token is neither a `;` nor a brace, and one follows that is no closing brace: whatever came before, no item
+-- ends between the two.
+abbrev pub is_quiet : List Lexeme → Bool
+is_quiet (t ∷ u ∷ ts) = is_plain t.word && not (is w.CloseBrace u)
+is_quiet _ = false
 
 -- The items of a body: each grows token by token up to the first place at which it ends.
 unfoldable pub items_from : Body → List Lexeme → List Lexeme → List (List Lexeme)

@@ -52,6 +52,13 @@ is_block_word w.Extend = true
 is_block_word w.Rpc = true
 is_block_word _ = false
 
+-- neither a `;` nor a brace
+abbrev pub is_plain : Word → Bool
+is_plain w.Semicolon = false
+is_plain w.OpenBrace = false
+is_plain w.CloseBrace = false
+is_plain _ = true
+
 -- ---- from the tokens of a text
 
 -- a word that stands inside a statement

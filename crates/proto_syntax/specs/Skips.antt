@@ -20,6 +20,6 @@ pub record IsSkip (ts : List Lexeme) (n : ℕ) : Type 0 where
   pub inside : (m : ℕ) → 0 < m → m ≤ n → m ≤ length ts → closed (take m ts) < opened (take m ts)
   pub one_deep : n < length ts → opened (take n ts) ≡ closed (take n ts) + 1
 
--- a number for each token, and at an opening brace how many tokens may be skipped from there on
+-- what is known of the first tokens: at an opening brace, how many tokens may be skipped from there on
 abbrev pub AreSkips : List Lexeme → List ℕ → Type 0
-AreSkips ts ns = (length ns ≡ length ts) × ((k : ℕ) → k < length ts → IsTrue (begins w.OpenBrace (drop k ts)) → IsSkip (drop k ts) (slice_index ns k))
+AreSkips ts ns = (length ns ≤ length ts) × ((k : ℕ) → k < length ns → IsTrue (begins w.OpenBrace (drop k ts)) → IsSkip (drop k ts) (slice_index ns k))

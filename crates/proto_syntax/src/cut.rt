@@ -1,6 +1,6 @@
 // Cuts the tokens of a body into items.
 
-ghost use Rattle.std.specs.Prelude.{◌≡◌, ◌<◌, ◌≤◌, ◌∷◌, length, take, drop, if◌then◌else◌};
+ghost use Rattle.std.specs.Prelude.{◌≡◌, ℕ, IsTrue, ◌<◌, ◌≤◌, ◌∷◌, length, take, drop, if◌then◌else◌};
 ghost use Rattle.proto_syntax.specs.Lexeme as lexeme;
 ghost use Rattle.proto_syntax.specs.Cut as spec;
 
@@ -85,6 +85,28 @@ fn counted(token: Lexeme, word: Word) -> usize
     if token.is(word) { 1 } else { 0 }
 }
 
+fn is_quiet(ts: &[Lexeme]) -> bool
+    ensures { result ≡ spec.is_quiet ts.now }
+{
+    match ts {
+        [first, second, ..] => first.word.is_plain() && !second.is(Word::CloseBrace),
+        _ => false,
+    }
+}
+
+// How many of the first tokens end nothing and open nothing, whatever came before.
+fn quiet_run(ts: &[Lexeme]) -> usize
+    requires { 0 < length ts.now }
+    ensures within { result < length ts.now }
+    ensures quiet { (k : ℕ) → k < result → IsTrue (spec.is_quiet (drop k ts.now)) }
+{
+    let mut run = 0;
+    'tokens: while is_quiet(&ts[run..]) {
+        run += 1;
+    }
+    run
+}
+
 // The first item of the tokens. What stands between braces is skipped.
 pub fn next_item(body: Body, rest: Matched<'_>) -> Cut
     requires { 0 < length rest.tokens.now }
@@ -98,9 +120,14 @@ pub fn next_item(body: Body, rest: Matched<'_>) -> Cut
     let mut closed = 0usize;
     let mut end = 0;
     'places: loop {
+        let run = quiet_run(&ts[end..]);
+        if 0 < run {
+            end += run;
+            continue;
+        }
         if closed <= opened && ts[end].is(Word::OpenBrace) {
             // Nothing ends inside braces.
-            let inner = rest.skips[end].min(ts.len() - end);
+            let inner = rest.skip_at(end).min(ts.len() - end);
             if inner == ts.len() - end {
                 return Cut {
                     len: ts.len(),

@@ -1,4 +1,5 @@
-// The forms of statements. The first word of an item and the body that it stands in choose the form.
+// The forms of statements. The first word of an item and the body that it stands in choose the form. The rarer forms
+// aren't inlined: what they keep would make each statement dearer.
 
 ghost use Rattle.std.specs.Prelude.{◌≡◌, ◌≤◌, IfOk, option_map, length};
 ghost use Rattle.proto_syntax.specs.Forms as spec;
@@ -9,7 +10,7 @@ use crate::lexeme::{Body, Lexeme, Word};
 use crate::node::{
     Field, Header, Literal, MapField, Node, RangeEnd, ReservedList, ReservedRange, Span,
 };
-use crate::parts::{Cursor, Unread, between, is_content, last_of, span_of};
+use crate::parts::{Cursor, Unread, between, is_content, last_of, room_for_one, span_of};
 use sqlite_items::Items;
 use std::alloc::{AllocError, Global};
 
@@ -35,6 +36,7 @@ fn plain_field(
     }))
 }
 
+#[inline(never)]
 #[tactic(auto, unfolding(crate::specs::Forms::map_field))]
 fn map_field(
     alloc: Global,
@@ -92,6 +94,7 @@ fn field_or_map(alloc: Global, tokens: &mut Cursor<'_>, span: Span) -> Result<No
 
 // ---- the other statements
 
+#[inline(never)]
 #[tactic(auto, unfolding(crate::specs::Forms::syntax_form))]
 fn syntax_form(alloc: Global, tokens: &mut Cursor<'_>, span: Span) -> Result<Node, Unread>
     ensures { Reads (spec.syntax_form span tokens.old.rest.now) result tokens.new.rest.now }
@@ -103,6 +106,7 @@ fn syntax_form(alloc: Global, tokens: &mut Cursor<'_>, span: Span) -> Result<Nod
     Ok(Node::Syntax { span, value })
 }
 
+#[inline(never)]
 #[tactic(auto, unfolding(crate::specs::Forms::import_form))]
 fn import_form(alloc: Global, tokens: &mut Cursor<'_>, span: Span) -> Result<Node, Unread>
     ensures { Reads (spec.import_form span tokens.old.rest.now) result tokens.new.rest.now }
@@ -118,6 +122,7 @@ fn import_form(alloc: Global, tokens: &mut Cursor<'_>, span: Span) -> Result<Nod
     })
 }
 
+#[inline(never)]
 #[tactic(auto, unfolding(crate::specs::Forms::package_form))]
 fn package_form(alloc: Global, tokens: &mut Cursor<'_>, span: Span) -> Result<Node, Unread>
     ensures { Reads (spec.package_form span tokens.old.rest.now) result tokens.new.rest.now }
@@ -257,7 +262,7 @@ fn option_part(alloc: Global, tokens: &mut Cursor<'_>) -> Result<Span, Unread>
 fn option_parts(alloc: Global, tokens: &mut Cursor<'_>) -> Result<Items<Span>, Unread>
     ensures { Reads (spec.option_parts tokens.old.rest.now) result tokens.new.rest.now }
 {
-    let mut found = Items::new(alloc);
+    let mut found = room_for_one(alloc)?;
     'parts: loop {
         let item = option_part(alloc, tokens)?;
         found.push(item)?;
@@ -393,6 +398,7 @@ pub fn opens(body: Body, word: Word) -> bool
     }
 }
 
+#[inline(never)]
 #[tactic(auto, unfolding(crate::specs::Forms::rpc_form))]
 fn rpc_form(alloc: Global, tokens: &mut Cursor<'_>, span: Span) -> Result<Node, Unread>
     ensures { Reads (spec.rpc_form span tokens.old.rest.now) result tokens.new.rest.now }

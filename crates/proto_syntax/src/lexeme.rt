@@ -80,6 +80,16 @@ impl Word {
         )
     }
 
+    // Neither a `;` nor a brace.
+    pub fn is_plain(self) -> bool
+        ensures { result ≡ spec.is_plain self }
+    {
+        match self {
+            Word::Semicolon | Word::OpenBrace | Word::CloseBrace => false,
+            _ => true,
+        }
+    }
+
     pub fn is_identifier(self) -> bool
         ensures { result ≡ spec.is_identifier self }
     {

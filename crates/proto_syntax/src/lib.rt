@@ -22,8 +22,6 @@ mod parts;
 mod read;
 mod scan;
 mod skips;
-#[cfg(test)]
-mod tests;
 
 pub use laws::{brackets_law, headers_law, items_law, size_law, statements_law};
 pub use node::{

@@ -8,7 +8,7 @@ use crate::lexeme::Body;
 use crate::node::FileTree;
 use crate::read::body_tree;
 use crate::scan::lexemes;
-use crate::skips::{Matched, skips};
+use crate::skips::Matched;
 use proto_lex::{Token, ordered_tokens};
 use sqlite_items::Items;
 use std::alloc::{AllocError, Global};
@@ -41,10 +41,9 @@ fn tree_of(alloc: Global, text: &str, tokens: &[Token]) -> Result<FileTree, Allo
 {
     let mut faults = Items::new(alloc);
     let lexemes = lexemes(alloc, text.as_bytes(), tokens, &mut faults)?;
-    let skips = skips(alloc, lexemes.as_slice())?;
     let file = Matched {
         tokens: lexemes.as_slice(),
-        skips: skips.as_slice(),
+        skips: &[],
     };
     let nodes = body_tree(alloc, MAX_BLOCKS, Body::File, file, &mut faults)?;
     Ok(FileTree { nodes, faults })

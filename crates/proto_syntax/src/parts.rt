@@ -1,6 +1,6 @@
 // Takes the parts of a statement from the front of its tokens.
 
-ghost use Rattle.std.specs.Prelude.{◌≡◌, ◌≤◌, length, reverse, IfOk};
+ghost use Rattle.std.specs.Prelude.{◌≡◌, ◌≤◌, [], length, reverse, IfOk};
 ghost use Rattle.proto_syntax.specs.Brackets.{TakesBracket};
 ghost use Rattle.proto_syntax.specs.Parts as spec;
 ghost use Rattle.proto_syntax.specs.Forms as forms;
@@ -123,7 +123,7 @@ impl<'a> Cursor<'a> {
         ensures reads { Reads (spec.full self.old.rest.now) result self.new.rest.now }
         ensures left { length self.new.rest.now ≤ length self.old.rest.now }
     {
-        let mut found = Items::new(alloc);
+        let mut found = room_for_one(alloc)?;
         'parts: loop {
             let name = self.identifier()?;
             found.push(name)?;
@@ -156,7 +156,7 @@ impl<'a> Cursor<'a> {
         ensures reads { IfOk result (λ found. spec.texts self.old.rest.now ≡ (found, self.new.rest.now)) }
         ensures left { length self.new.rest.now ≤ length self.old.rest.now }
     {
-        let mut found = Items::new(alloc);
+        let mut found = room_for_one(alloc)?;
         'texts: while let [first, rest @ ..] = self.rest {
             if first.word != Word::PlainText {
                 return Ok(found);
@@ -221,10 +221,10 @@ impl<'a> Cursor<'a> {
     pub fn labels(&mut self, alloc: Global) -> Result<Items<Span>, Unread>
         ensures { Reads (forms.labels self.old.rest.now) result self.new.rest.now }
     {
-        let mut found = Items::new(alloc);
         let Some(first) = self.label() else {
-            return Ok(found);
+            return Ok(Items::new(alloc));
         };
+        let mut found = room_for_one(alloc)?;
         found.push(first)?;
         if let Some(second) = self.label() {
             found.push(second)?;
@@ -242,6 +242,14 @@ impl<'a> Cursor<'a> {
         self.word(Word::CloseParen)?;
         Ok(type_name)
     }
+}
+
+// An empty list with room for one item, which most lists of a statement have.
+pub fn room_for_one(alloc: Global) -> Result<Items<Span>, AllocError>
+    ensures { IfOk result (λ list. list ≡ []) }
+{
+    let items = Vec::with_capacity(alloc, 1)?;
+    Ok(Items::from_vec(items))
 }
 
 fn opener(word: Word) -> Option<Word>

@@ -10,9 +10,22 @@ use crate::forms::{header_and_rest, opens, statement};
 use crate::lexeme::{Body, Lexeme, Word};
 use crate::node::{Fault, Header, Node, Problem, Span};
 use crate::parts::span_of;
-use crate::skips::Matched;
+use crate::skips::{Matched, skips};
 use sqlite_items::Items;
 use std::alloc::{AllocError, Global};
+
+// How many tokens a statement and a block may be expected to have.
+const TOKENS_OF_A_STATEMENT: usize = 7;
+
+const TOKENS_OF_A_BLOCK: usize = 32;
+
+// For how many statements, and for how many blocks, a list may have room before they are read.
+const MOST_STATEMENTS: usize = 16;
+
+const MOST_BLOCKS: usize = 4096;
+
+// How many blocks may still open in a body whose braces are matched before it is read: it stands inside three blocks.
+const BLOCKS_IN_A_MATCHED_BODY: usize = 61;
 
 fn bad(problem: Problem, item: &[Lexeme], faults: &mut Items<Fault>) -> Result<(), AllocError>
     ensures { OnOk result (faults.new ≡ faults.old ++ (spec.bad problem item.now).faults) }
@@ -212,7 +225,20 @@ fn item_tree(
     }
 }
 
-// Reads a body, in which this many blocks may still open, one inside the other.
+// An empty list with room for the items of a body of this many tokens: for statements where it is short, and for blocks
+// where it is long. The list grows as it needs.
+fn room_for_items(alloc: Global, tokens: usize) -> Result<Items<Node>, AllocError>
+    ensures { IfOk result (λ list. list ≡ []) }
+{
+    let statements = (tokens / TOKENS_OF_A_STATEMENT + 1).min(MOST_STATEMENTS);
+    let blocks = (tokens / TOKENS_OF_A_BLOCK).min(MOST_BLOCKS);
+    let room = statements.max(blocks).min(tokens);
+    let items = Vec::with_capacity(alloc, room)?;
+    Ok(Items::from_vec(items))
+}
+
+// Reads a body, in which this many blocks may still open, one inside the other. Where it stands deep, its braces are
+// matched first: what stands further inside is then not looked through again for each block around it.
 #[cycle(blocks)]
 pub fn body_tree(
     alloc: Global,
@@ -224,7 +250,30 @@ pub fn body_tree(
     ensures nodes { IfOk result (λ nodes. nodes ≡ (spec.body_tree blocks body ts.entry.tokens.now).nodes) }
     ensures faults { OnOk result (faults.new ≡ faults.old ++ (spec.body_tree blocks body ts.entry.tokens.now).faults) }
 {
-    let mut nodes = Items::new(alloc);
+    if blocks != BLOCKS_IN_A_MATCHED_BODY {
+        return items_tree(alloc, blocks, body, ts, faults);
+    }
+    let skips = skips(alloc, ts.tokens)?;
+    let matched = Matched {
+        tokens: ts.tokens,
+        skips: skips.as_slice(),
+    };
+    items_tree(alloc, blocks, body, matched, faults)
+}
+
+// Reads the items of a body in turn.
+#[cycle(blocks)]
+fn items_tree(
+    alloc: Global,
+    blocks: usize,
+    body: Body,
+    ts: Matched<'_>,
+    faults: &mut Items<Fault>,
+) -> Result<Items<Node>, AllocError>
+    ensures nodes { IfOk result (λ nodes. nodes ≡ (spec.body_tree blocks body ts.entry.tokens.now).nodes) }
+    ensures faults { OnOk result (faults.new ≡ faults.old ++ (spec.body_tree blocks body ts.entry.tokens.now).faults) }
+{
+    let mut nodes = room_for_items(alloc, ts.tokens.len())?;
     let mut rest = ts;
     'items: while !rest.tokens.is_empty() {
         let cut = next_item(body, rest);

@@ -180,7 +180,7 @@ pub fn lexemes(
     ensures lexemes { IfOk result (λ found. found.items ≡ spec.lexemes text.now tokens.now) }
     ensures faults { OnOk result (faults.new ≡ faults.old ++ tree.bad_tokens tokens.now) }
 {
-    let mut found = Vec::new(alloc);
+    let mut found = Vec::with_capacity(alloc, tokens.len())?;
     'tokens: for token in tokens {
         take_token(text, *token, &mut found, faults)?;
     }

@@ -1,5 +1,5 @@
 // Matches the braces of a text, so that what stands between them can be skipped.
-ghost use Rattle.std.specs.Prelude.{◌≡◌, ◌<◌, ◌≤◌, ◌-◌, IsTrue, IfOk, length, take, drop};
+ghost use Rattle.std.specs.Prelude.{◌≡◌, ◌<◌, ◌≤◌, ◌-◌, IsTrue, IfOk, length, take, drop, slice_index_or};
 ghost use Rattle.proto_syntax.specs.Cut as cut;
 ghost use Rattle.std.proofs.Props.{props};
 ghost use Rattle.proto_syntax.specs.Skips as spec;
@@ -8,7 +8,8 @@ ghost use Rattle.proto_syntax.specs.declared.lexeme.Word.TheVariants as w;
 use crate::lexeme::{Lexeme, Word};
 use std::alloc::{AllocError, Global};
 
-// Tokens, and for each of them how many may be skipped from there on if it is an opening brace.
+// Tokens, and for each of the first of them how many may be skipped from there on if it is an opening brace. With no
+// such numbers the tokens are looked through.
 #[derive(Clone, Copy)]
 pub struct Matched<'a> {
     pub tokens: &'a [Lexeme],
@@ -18,6 +19,20 @@ pub struct Matched<'a> {
 
 impl<'a> Matched<'a> {
     ghost use Rattle.proto_syntax.specs.Skips as spec;
+    ghost use Rattle.proto_syntax.specs.Cut as cut;
+    ghost use Rattle.proto_syntax.specs.declared.lexeme.Word.TheVariants as w;
+
+    // How many tokens may be skipped from the opening brace at the place on.
+    pub fn skip_at(self, at: usize) -> usize
+        requires within { at < length self.tokens.now }
+        requires opens { IsTrue (cut.begins w.OpenBrace (drop at self.tokens.now)) }
+        ensures { spec.IsSkip (drop at self.entry.tokens.now) result }
+    {
+        match self.skips.get(at) {
+            Some(known) => *known,
+            None => skip(&self.tokens[at..], &[]),
+        }
+    }
 
     // The first tokens, so many of them, and the others.
     pub fn split_at(self, len: usize) -> (Matched<'a>, Matched<'a>)
@@ -26,7 +41,7 @@ impl<'a> Matched<'a> {
         ensures others { result.1.tokens.now ≡ drop len self.entry.tokens.now }
     {
         let (tokens, other_tokens) = self.tokens.split_at(len);
-        let (skips, other_skips) = self.skips.split_at(len);
+        let (skips, other_skips) = self.skips.split_at(len.min(self.skips.len()));
         (
             Matched { tokens, skips },
             Matched {
@@ -37,8 +52,18 @@ impl<'a> Matched<'a> {
     }
 }
 
+// What is known of a place, or else that an opening brace may itself be skipped.
+fn known_skip(skips: &[usize], at: usize) -> usize
+    ensures { result ≡ slice_index_or skips.now at 1 }
+{
+    match skips.get(at) {
+        Some(known) => *known,
+        None => 1,
+    }
+}
+
 // How many tokens stand inside the brace that begins them, itself included: up to its closing one, or all. The skips
-// are those of the tokens behind it.
+// are those of the tokens behind it, as far as they are known.
 fn skip(ts: &[Lexeme], skips: &[usize]) -> usize
     requires some { 0 < length ts.now }
     requires opens { IsTrue (cut.begins w.OpenBrace ts.now) }
@@ -50,7 +75,7 @@ fn skip(ts: &[Lexeme], skips: &[usize]) -> usize
     let mut end = 1usize;
     'places: while end < ts.len() {
         if ts[end].is(Word::OpenBrace) {
-            let inner = skips[end - 1].min(ts.len() - end);
+            let inner = known_skip(skips, end - 1).min(ts.len() - end);
             if inner == ts.len() - end {
                 return ts.len();
             }
@@ -70,7 +95,8 @@ fn skip(ts: &[Lexeme], skips: &[usize]) -> usize
 
 // For each token, how many tokens may be skipped from there on if it is an opening brace.
 pub fn skips(alloc: Global, ts: &[Lexeme]) -> Result<Vec<usize>, AllocError>
-    ensures { IfOk result (λ found. spec.AreSkips ts.now found.items) }
+    ensures skips { IfOk result (λ found. spec.AreSkips ts.now found.items) }
+    ensures all { IfOk result (λ found. length found.items ≡ length ts.now) }
 {
     let mut found = vec![in alloc; 1usize; ts.len()]?;
     let mut at = ts.len();

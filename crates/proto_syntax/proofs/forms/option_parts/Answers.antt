@@ -6,7 +6,7 @@ use Rattle.proto_syntax.proofs.FormLemmas.{option_part-nil}
 use Rattle.proto_syntax.proofs.forms.option_parts.Goals as goal
 
 pub parts-init : goal.parts-init
-parts-init c = rw c.new-found.ensures (record { turns = omega arith; so_far = separated-is w.Dot option_part c.args.tokens.now.rest.now })
+parts-init c = rw c.in_ok-found.ensures (record { turns = omega arith; so_far = separated-is w.Dot option_part c.args.tokens.now.rest.now })
 
 pub returns-then-not-eat : goal.returns-then-not-eat
 returns-then-not-eat c =

@@ -10,8 +10,8 @@ skip-requires-clause-skips c =
     let behind : drop 1 (drop (c.places.at - 1) c.args.ts.now) ≡ drop c.places.at c.args.ts.now = drop-drop 1 (c.places.at - 1) c.args.ts.now ∙ ap (λ k. drop k c.args.ts.now) back in
     rw (take_rest, take_rest, back, behind, c.as_slice.ensures.value) (all (drop c.places.at c.args.ts.now) (drop c.places.at c.places.found.items) c.places.invariant.skips)
 
-pub returns : goal.returns
-returns c =
+pub returns-clause-skips : goal.returns-clause-skips
+returns-clause-skips c =
     let start : c.places.at ≡ 0 = omega (arith, c.places-test.false) in
     all c.args.ts.now c.places.found.items (subst (λ k. AreSkips (drop k c.args.ts.now) (drop k c.places.found.items)) start c.places.invariant.skips)
 

@@ -5,7 +5,7 @@ use Rattle.proto_syntax.proofs.PartLemmas.{separated_by-more, separated_by-end, 
 use Rattle.proto_syntax.proofs.parts.Cursor.full.Goals as goal
 
 pub parts-init : goal.parts-init
-parts-init c = rw c.new-found.ensures (record { turns = omega arith; so_far = full-is c.args.self.now.rest.now })
+parts-init c = rw c.in_ok-found.ensures (record { turns = omega arith; so_far = full-is c.args.self.now.rest.now })
 
 pub returns-then-not-eat-clause-reads : goal.returns-then-not-eat-clause-reads
 returns-then-not-eat-clause-reads c =

@@ -1,7 +1,10 @@
 // What `parse` reads in small texts, and what it says of bad ones. In a text `|` stands for a line feed, and `S|` at
 // its front for a line with the syntax statement. Faults are written as a line, two columns and a number.
-use super::*;
 use proto_lex::lex;
+use proto_syntax::{
+    FileTree, Items, Literal, Node, Number, Problem, RangeEnd, ReservedList, ReservedRange, Span,
+    TypeName, parse,
+};
 use std::test::Fail;
 
 const SYNTAX: &str = "syntax = \"proto3\";\n";
@@ -283,135 +286,141 @@ fn depth(rt: &HostRuntime, text: &str) -> Result<usize, Fail> {
     Ok(blocks)
 }
 
+// Texts, and their statements in words.
+const FORMS: &[(&str, &str)] = &[
+    (
+        "syntax = 'pro' \"to3\";",
+        "syntax 'pro' \"to3\"+'pro'+\"to3\"; ",
+    ),
+    (
+        "import 'a';import public 'b';import weak 'c' 'd';",
+        "import false 'a'+'a'; import true 'b'+'b'; import false 'c' 'd'+'c'+'d'; ",
+    ),
+    (
+        "package a . b.c;package d;",
+        "package a . b.c/a/b/c; package d/d; ",
+    ),
+    (
+        "option a.(.b.c).d = { x: [1] };option e = 1 2;",
+        " option a.(.b.c).d option { x: [1] };  option e option 1 2; ",
+    ),
+    (
+        "message M{;}enum E{}service S{;}message message{}",
+        "message M 1; empty; enum E 0; service S 1; empty; message message 0; ",
+    ),
+    (
+        "extend .a.B{int32 c=1;}",
+        "extend .a.B 1 type .a.B from the root/a/B; field c type int32/int32 = 1; ",
+    ),
+    (
+        "message M{oneof o{}a.b c=1;repeated optional .d e=0x2[f=[3]];map m=4;optional map<.k,v.w> n=5[g];}",
+        "message M 5; oneof o 0; field c type a.b/a/b = 1; field e repeated optional type .d from the root/d = 0x2; field m type map/map = 4; map n optional type .k from the root/k type v.w/v/w = 5; ",
+    ),
+    (
+        "enum E{A=0;option=1;B=-2[c];reserved -5 to -3,1 to max,7;reserved'a','b''c';}",
+        "enum E 4; value A 0 0 false; value B -2 2 true; reserved -5 5 true to -3 3 true 1 1 false to max 7 7 false; reserved 'a'+'a' 'b''c'+'b'+'c'; ",
+    ),
+    (
+        "service S{rpc a(b)returns(.c);rpc rpc(stream stream)returns(stream.d){;option e=1;}}",
+        "service S 2; rpc a 0 type b/b type .c from the root/c; rpc rpc 2 type stream/stream type .d from the root/d; ",
+    ),
+    (
+        "message M{rpc x=1;service y=2;}",
+        "message M 2; field x type rpc/rpc = 1; field y type service/service = 2; ",
+    ),
+    ("", ""),
+];
+
 #[test]
 fn each_form_is_read(rt: HostRuntime) -> Result<(), Fail> {
-    for (row, nodes) in [
-        (
-            "syntax = 'pro' \"to3\";",
-            "syntax 'pro' \"to3\"+'pro'+\"to3\"; ",
-        ),
-        (
-            "import 'a';import public 'b';import weak 'c' 'd';",
-            "import false 'a'+'a'; import true 'b'+'b'; import false 'c' 'd'+'c'+'d'; ",
-        ),
-        (
-            "package a . b.c;package d;",
-            "package a . b.c/a/b/c; package d/d; ",
-        ),
-        (
-            "option a.(.b.c).d = { x: [1] };option e = 1 2;",
-            " option a.(.b.c).d option { x: [1] };  option e option 1 2; ",
-        ),
-        (
-            "message M{;}enum E{}service S{;}message message{}",
-            "message M 1; empty; enum E 0; service S 1; empty; message message 0; ",
-        ),
-        (
-            "extend .a.B{int32 c=1;}",
-            "extend .a.B 1 type .a.B from the root/a/B; field c type int32/int32 = 1; ",
-        ),
-        (
-            "message M{oneof o{}a.b c=1;repeated optional .d e=0x2[f=[3]];map m=4;optional map<.k,v.w> n=5[g];}",
-            "message M 5; oneof o 0; field c type a.b/a/b = 1; field e repeated optional type .d from the root/d = 0x2; field m type map/map = 4; map n optional type .k from the root/k type v.w/v/w = 5; ",
-        ),
-        (
-            "enum E{A=0;option=1;B=-2[c];reserved -5 to -3,1 to max,7;reserved'a','b''c';}",
-            "enum E 4; value A 0 0 false; value B -2 2 true; reserved -5 5 true to -3 3 true 1 1 false to max 7 7 false; reserved 'a'+'a' 'b''c'+'b'+'c'; ",
-        ),
-        (
-            "service S{rpc a(b)returns(.c);rpc rpc(stream stream)returns(stream.d){;option e=1;}}",
-            "service S 2; rpc a 0 type b/b type .c from the root/c; rpc rpc 2 type stream/stream type .d from the root/d; ",
-        ),
-        (
-            "message M{rpc x=1;service y=2;}",
-            "message M 2; field x type rpc/rpc = 1; field y type service/service = 2; ",
-        ),
-        ("", ""),
-    ] {
+    for &(row, nodes) in FORMS {
         let text = written(&rt, row)?;
         assert_eq!(rt; listed(&rt, text.as_str())?.as_str(), nodes, "in {row:?}");
     }
     Ok(())
 }
 
+// Texts, and their faults.
+const BAD_STATEMENTS: &[(&str, &str)] = &[
+    (BAD_FIELDS, "3:2-12 202, 6:2-9 204"),
+    (
+        "S|}|foo } message B { }|",
+        "1:0-1 202, 2:0-3 204, 2:4-5 202",
+    ),
+    ("S|message A { int32 a = 1;|", "1:0-24 204"),
+    ("S|message A { };|", ""),
+    ("S|foo { bar } message A { }|", "1:0-25 204"),
+    ("S|enum E { A = 0; message B { }; }|", "1:16-30 202"),
+    (
+        "S|message M { oneof o { message m = 1 [(x) = { a: 1 }]; } }|",
+        "1:22-51 202, 1:51-53 202",
+    ),
+    ("S|message M { oneof o { message m = 1; } }|", ""),
+    (
+        "S|message rpc { } message M { rpc x = 1; service y = 2; }|message service { }|",
+        "",
+    ),
+    (
+        "S|message M { option x = 1; }|extend M { option x = 1; }|message option { }|",
+        "",
+    ),
+    ("S|message M { message x = 1; }|", "1:12-26 202"),
+    ("S|message M { oneof x = 1; }|", "1:12-24 202"),
+    (
+        "S|message B { }|service S { rpc A (stream) returns (B); rpc C (stream.B) returns (stream B) { option a = 1; ; } }|",
+        "2:12-39 202",
+    ),
+    (
+        "S|message B { }|service S { rpc A (B) returns (B) { int32 a = 1; } }|",
+        "2:36-48 202",
+    ),
+    (
+        "S|message M { optional x = 1; repeated optional optional y = 2; }|message optional { }|",
+        "1:12-27 202",
+    ),
+    (
+        "S|message M { map x = 1; map<int32, map> y = 2; map<int32, map<int32, int32>> z = 3; }|message map { }|",
+        "1:46-82 202",
+    ),
+    (
+        "S|message M { oneof o { map<int32, int32> y = 2; } }|",
+        "1:22-46 202",
+    ),
+    (
+        "S|message M { int32 a = 1 []; int32 b = 2 [a] [b]; int32 c = 3 [a = { x: [1] }, b]; int32 d = 4 [ ( ]; }|",
+        "1:12-27 202, 1:28-48 202, 1:82-100 202",
+    ),
+    (
+        "S|option a.(b.c).d = -1.5;|option (.a) = x;|option a = ;|option (a = 1;|option a.5 = 1;|option a = ( [ ) ];|",
+        "3:0-12 202, 4:0-14 202, 5:0-15 202, 6:0-19 202",
+    ),
+    ("syntax = 'pro' # \"to3\";|message M { }|", "0:15-16 201"),
+    (
+        "S|import 'a\\x';|import;|import public weak 'b';|",
+        "1:0-13 202, 2:0-7 202, 3:0-23 202",
+    ),
+    (
+        "S|message M { reserved 'a\\n'; reserved 1, 'a'; reserved -1; reserved max; reserved 1 to 2 to 3; reserved; }|",
+        "1:12-27 202, 1:28-44 202, 1:45-57 202, 1:58-71 202, 1:72-93 202, 1:94-103 202",
+    ),
+    (
+        "syntax = proto3;package;package a.;enum 1{}service S{a}extend a.{}",
+        "0:0-16 202, 0:16-24 202, 0:24-35 202, 0:35-43 202, 0:53-54 204, 0:55-66 202",
+    ),
+    (
+        "a .5e3 0x1G 'q|/* z",
+        "0:7-11 201, 0:12-14 201, 1:0-4 201, 0:0-6 204",
+    ),
+    (
+        "S|enum E{A=B;A=-1[];}message M{oneof a.b{}reserved a;a=1;}",
+        "1:7-11 202, 1:11-18 202, 1:29-40 202, 1:40-51 202, 1:51-55 202",
+    ),
+    ("", ""),
+];
+
 #[test]
 fn a_bad_statement_costs_itself_alone(rt: HostRuntime) -> Result<(), Fail> {
-    for (row, found) in [
-        (BAD_FIELDS, "3:2-12 202, 6:2-9 204"),
-        (
-            "S|}|foo } message B { }|",
-            "1:0-1 202, 2:0-3 204, 2:4-5 202",
-        ),
-        ("S|message A { int32 a = 1;|", "1:0-24 204"),
-        ("S|message A { };|", ""),
-        ("S|foo { bar } message A { }|", "1:0-25 204"),
-        ("S|enum E { A = 0; message B { }; }|", "1:16-30 202"),
-        (
-            "S|message M { oneof o { message m = 1 [(x) = { a: 1 }]; } }|",
-            "1:22-51 202, 1:51-53 202",
-        ),
-        ("S|message M { oneof o { message m = 1; } }|", ""),
-        (
-            "S|message rpc { } message M { rpc x = 1; service y = 2; }|message service { }|",
-            "",
-        ),
-        (
-            "S|message M { option x = 1; }|extend M { option x = 1; }|message option { }|",
-            "",
-        ),
-        ("S|message M { message x = 1; }|", "1:12-26 202"),
-        ("S|message M { oneof x = 1; }|", "1:12-24 202"),
-        (
-            "S|message B { }|service S { rpc A (stream) returns (B); rpc C (stream.B) returns (stream B) { option a = 1; ; } }|",
-            "2:12-39 202",
-        ),
-        (
-            "S|message B { }|service S { rpc A (B) returns (B) { int32 a = 1; } }|",
-            "2:36-48 202",
-        ),
-        (
-            "S|message M { optional x = 1; repeated optional optional y = 2; }|message optional { }|",
-            "1:12-27 202",
-        ),
-        (
-            "S|message M { map x = 1; map<int32, map> y = 2; map<int32, map<int32, int32>> z = 3; }|message map { }|",
-            "1:46-82 202",
-        ),
-        (
-            "S|message M { oneof o { map<int32, int32> y = 2; } }|",
-            "1:22-46 202",
-        ),
-        (
-            "S|message M { int32 a = 1 []; int32 b = 2 [a] [b]; int32 c = 3 [a = { x: [1] }, b]; int32 d = 4 [ ( ]; }|",
-            "1:12-27 202, 1:28-48 202, 1:82-100 202",
-        ),
-        (
-            "S|option a.(b.c).d = -1.5;|option (.a) = x;|option a = ;|option (a = 1;|option a.5 = 1;|option a = ( [ ) ];|",
-            "3:0-12 202, 4:0-14 202, 5:0-15 202, 6:0-19 202",
-        ),
-        ("syntax = 'pro' # \"to3\";|message M { }|", "0:15-16 201"),
-        (
-            "S|import 'a\\x';|import;|import public weak 'b';|",
-            "1:0-13 202, 2:0-7 202, 3:0-23 202",
-        ),
-        (
-            "S|message M { reserved 'a\\n'; reserved 1, 'a'; reserved -1; reserved max; reserved 1 to 2 to 3; reserved; }|",
-            "1:12-27 202, 1:28-44 202, 1:45-57 202, 1:58-71 202, 1:72-93 202, 1:94-103 202",
-        ),
-        (
-            "syntax = proto3;package;package a.;enum 1{}service S{a}extend a.{}",
-            "0:0-16 202, 0:16-24 202, 0:24-35 202, 0:35-43 202, 0:53-54 204, 0:55-66 202",
-        ),
-        (
-            "a .5e3 0x1G 'q|/* z",
-            "0:7-11 201, 0:12-14 201, 1:0-4 201, 0:0-6 204",
-        ),
-        (
-            "S|enum E{A=B;A=-1[];}message M{oneof a.b{}reserved a;a=1;}",
-            "1:7-11 202, 1:11-18 202, 1:29-40 202, 1:40-51 202, 1:51-55 202",
-        ),
-        ("", ""),
-    ] {
+    for &(row, found) in BAD_STATEMENTS {
         let text = written(&rt, row)?;
         assert_eq!(rt; faults(&rt, text.as_str())?.as_str(), found, "in {row:?}");
     }
