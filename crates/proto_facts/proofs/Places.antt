@@ -12,7 +12,7 @@ use Rattle.proto_facts.specs.declared.diagnostic.Diag.{Diag}
 use Rattle.proto_facts.specs.declared.part.Member.{Member}
 use Rattle.proto_syntax.specs.declared.node.Span.{Span}
 use Rattle.proto_facts.specs.Seen.{has}
-use Rattle.proto_facts.specs.Checks.{judged, judged_at, is_value, has_value}
+use Rattle.proto_facts.specs.Checks.{judged, judged_at, is_value, has_value, name_diags}
 
 cons : {Y : Type 0} (o : Option Y) (ys : List Y) → cons_option o ys ≡ option_to_list o ++ ys
 cons None ys = refl
@@ -78,3 +78,8 @@ no_span = record { start = 0; end = 0 }
 
 abbrev pub no_member : Member
 no_member = record { name = no_span; number = no_span; value = None }
+
+-- where no name is reserved, nothing is wrong with names
+pub no_names : (text : List ℕ) (members : List Member) → name_diags text members [] ≡ []
+no_names text [] = refl
+no_names text (m ∷ members) = no_names text members

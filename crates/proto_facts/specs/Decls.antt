@@ -47,3 +47,11 @@ module _ (text : List ℕ) where
 
   abbrev pub decls_in : List Node → Placed
   decls_in nodes = in_turn (map decls_of nodes)
+
+  -- a message or a service of that name, and what is declared in it: the two are scopes of what they hold
+  abbrev pub scope_decls : DeclKind → Span → List Node → List ℕ → Option ℕ → ℕ → List Decl
+  scope_decls k name items scope parent next = declared k name scope parent ∷ decls_in items kind.Field (joined scope (text_at text name)) (Some next) (next + 1)
+
+  -- an enum or a oneof of that name, and what is declared in it
+  abbrev pub block_decls : DeclKind → Span → List Node → List ℕ → Option ℕ → ℕ → List Decl
+  block_decls k name items scope parent next = declared k name scope parent ∷ decls_in items kind.Field scope (Some next) (next + 1)

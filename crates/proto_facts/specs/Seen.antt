@@ -1,11 +1,15 @@
--- Sets of the numbers met so far.
-use Rattle.std.specs.Prelude.{◌≡◌, ℕ, Bool, false, String, List, Option, Some, None}
+-- Numbers and names met so far, as sets, and numbers that ascend.
+use Rattle.std.specs.Prelude.{◌≡◌, ℕ, ◌≤◌, Bool, false, String, List, Option, Some, None}
 use Rattle.std.specs.List.{list_any}
 use Rattle.std.specs.Str.{bytes_eq}
 use Rattle.std.specs.BTreeSet.{BTreeSet, contains, contains_text}
+use Rattle.std.specs.HashSet.{HashSet, contains_by}
 use Rattle.std.specs.Ordering.{nat_cmp}
 use Rattle.std.specs.declared.alloc.Global.{Global}
+use Rattle.proto_facts.specs.declared.part.Member.{Member}
 use Rattle.proto_facts.specs.declared.part.ReservedName.{ReservedName}
+use Rattle.proto_facts.specs.Checks.{is_value, has_value}
+use denote.Ref.{Bor}
 
 abbrev pub has : BTreeSet ℕ → Option ℕ → Bool
 has s None = false
@@ -18,3 +22,17 @@ IsNew s = (q : List ℕ) → contains_text s q ≡ false
 -- the set has these names
 abbrev pub AreNames : List ReservedName → BTreeSet (String Global) → Type 0
 AreNames names s = (q : List ℕ) → contains_text s q ≡ list_any (λ e. bytes_eq e.text q) names
+
+-- the set has a name of these bytes
+abbrev pub has_name : {S : Type 0} → HashSet (Bor (List ℕ)) S → List ℕ → Bool
+has_name s name = contains_by (λ k. bytes_eq name k.now) s
+
+-- none of these fields or values has a number from here on
+abbrev pub AreBelow : List Member → ℕ → Type 0
+AreBelow members least = (q : ℕ) → least ≤ q → list_any (λ e. is_value q e.value) members ≡ false
+
+-- a number, if it is one, that is new among all numbers below the first bound and is itself below the second
+pub record Rises (least : ℕ) (value : Option ℕ) (next : ℕ) : Type 0 where
+  pub is_new : (before : List Member) → AreBelow before least → has_value value before ≡ false
+  pub is_below : (q : ℕ) → next ≤ q → is_value q value ≡ false
+  pub no_less : least ≤ next

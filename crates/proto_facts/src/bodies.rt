@@ -61,6 +61,9 @@ fn add_name_diags(
 {
     let mut names = Items::new(alloc);
     add_names(alloc, text, items, &mut names)?;
+    if names.is_empty() {
+        return Ok(());
+    }
     let mut seen = BTreeSet::new(alloc);
     add_name_twice(alloc, names.as_slice(), &mut seen, diags)?;
     add_name_reserved(text, &seen, members, diags)
@@ -103,6 +106,13 @@ fn add_all_labels(items: &[Node], diags: &mut Items<Diag>) -> Result<(), AllocEr
     Ok(())
 }
 
+// An empty list, with room for a member for each statement.
+fn room_for(alloc: Global, items: &[Node]) -> Result<Items<Member>, AllocError>
+    ensures { IfOk result (λ members. members ≡ []) }
+{
+    Ok(Items::from_vec(Vec::with_capacity(alloc, items.len())?))
+}
+
 fn add_message_diags(
     alloc: Global,
     text: &str,
@@ -111,7 +121,7 @@ fn add_message_diags(
 ) -> Result<(), AllocError>
     ensures { OnOk result (diags.new ≡ diags.old ++ spec.message_diags text.now items.now) }
 {
-    let mut members = Items::new(alloc);
+    let mut members = room_for(alloc, items)?;
     add_fields(text, items, &mut members)?;
     add_out_of_range(Numbering::Fields, members.as_slice(), diags)?;
     add_kept_free(members.as_slice(), diags)?;
@@ -135,7 +145,7 @@ fn add_extend_diags(
 ) -> Result<(), AllocError>
     ensures { OnOk result (diags.new ≡ diags.old ++ spec.extend_diags text.now items.now) }
 {
-    let mut members = Items::new(alloc);
+    let mut members = room_for(alloc, items)?;
     add_plain_fields(text, items, &mut members)?;
     add_out_of_range(Numbering::Fields, members.as_slice(), diags)?;
     add_kept_free(members.as_slice(), diags)?;
@@ -190,7 +200,7 @@ fn add_enum_diags(
 ) -> Result<(), AllocError>
     ensures { OnOk result (diags.new ≡ diags.old ++ spec.enum_diags text.now name items.now) }
 {
-    let mut values = Items::new(alloc);
+    let mut values = room_for(alloc, items)?;
     add_values(text, items, &mut values)?;
     add_first(name, values.as_slice(), diags)?;
     add_out_of_range(Numbering::Values, values.as_slice(), diags)?;

@@ -1,6 +1,6 @@
 // What is wrong in the body of a message, an enum or an extend block.
 
-ghost use Rattle.std.specs.Prelude.{◌≡◌, ◌++◌, ◌∷◌, [], IfOk, OnOk, filter, map, not, is_some, IsTrue, ◌↔◌};
+ghost use Rattle.std.specs.Prelude.{◌≡◌, ◌++◌, ◌∷◌, [], IfOk, IfSome, OnOk, filter, map, not, is_some, IsTrue, ◌↔◌};
 ghost use Rattle.std.specs.List.{list_any, flat_map, filter_map};
 ghost use Rattle.std.specs.Option.{option_to_list};
 ghost use Rattle.std.specs.Str.{bytes_eq};
@@ -11,6 +11,7 @@ ghost use Rattle.proto_facts.specs.Numbers as numbers;
 ghost use Rattle.proto_facts.specs.Checks as spec;
 ghost use Rattle.std.specs.Prelude.{List};
 ghost use Rattle.proto_facts.specs.declared.part.ReservedName.{ReservedName};
+ghost use Rattle.proto_facts.specs.declared.part.Numbering.{Numbering};
 ghost use Rattle.proto_facts.specs.Seen as spec_seen;
 
 use crate::diagnostic::Diag;
@@ -160,7 +161,7 @@ pub fn add_backwards(intervals: &[Interval], diags: &mut Items<Diag>) -> Result<
     Ok(())
 }
 
-// Adds the labels of each plain field.
+// Adds labels that may not stand where they do.
 pub fn add_labels(labels: &[Span], diags: &mut Items<Diag>) -> Result<(), AllocError>
     ensures { OnOk result (diags.new ≡ diags.old ++ spec.label_diags labels.now) }
 {
@@ -170,8 +171,39 @@ pub fn add_labels(labels: &[Span], diags: &mut Items<Diag>) -> Result<(), AllocE
     Ok(())
 }
 
-// Adds the members whose number an earlier one has.
-pub fn add_used_twice(
+// One above a number that is not below `least`; `least` where there is no number.
+fn next_least(least: u64, value: Option<u32>) -> Option<u64>
+    ensures { IfSome result (λ next. spec_seen.Rises least value next) }
+{
+    match value {
+        Some(value) => {
+            let value = u64::from(value);
+            if least <= value {
+                Some(value + 1)
+            } else {
+                None
+            }
+        }
+        None => Some(least),
+    }
+}
+
+// Whether each number is greater than those before it, so that none is there twice.
+fn ascend(members: &[Member]) -> bool
+    ensures { IsTrue result → (numbering : Numbering) → spec.judged (spec.number_used numbering) members.now ≡ [] }
+{
+    let mut least = 0;
+    'members: for member in members {
+        let Some(next) = next_least(least, member.value) else {
+            return false;
+        };
+        least = next;
+    }
+    true
+}
+
+// Adds the members whose number an earlier one has, by a set of the numbers met.
+fn add_number_used(
     alloc: Global,
     numbering: Numbering,
     members: &[Member],
@@ -185,6 +217,22 @@ pub fn add_used_twice(
         add(diag_if(again, used_twice(numbering), member.number), diags)?;
     }
     Ok(())
+}
+
+// Adds the members whose number an earlier one has. Numbers that ascend need no set.
+pub fn add_used_twice(
+    alloc: Global,
+    numbering: Numbering,
+    members: &[Member],
+    diags: &mut Items<Diag>,
+) -> Result<(), AllocError>
+    ensures { OnOk result (diags.new ≡ diags.old ++ spec.judged (spec.number_used numbering) members.now) }
+{
+    if ascend(members) {
+        Ok(())
+    } else {
+        add_number_used(alloc, numbering, members, diags)
+    }
 }
 
 // Adds the reserved names that stand there before. The names met are left in the set.

@@ -1,6 +1,6 @@
 // The declarations of a tree.
 
-ghost use Rattle.std.specs.Prelude.{◌≡◌, ◌++◌, length, OnOk, IfOk, None};
+ghost use Rattle.std.specs.Prelude.{◌≡◌, ◌++◌, ◌∷◌, [], length, OnOk, IfOk, None};
 ghost use Rattle.proto_facts.specs.Decls as spec;
 
 use crate::fact::{Decl, DeclKind};
@@ -8,7 +8,7 @@ use crate::text::{joined, text_at};
 use proto_syntax::{Items, Node, Span};
 use std::alloc::{AllocError, Global};
 
-// A text and the place in its tree where declarations stand.
+// What a name declares in a scope, in the body of that parent, if any: its full name begins with the scope.
 fn declared(
     alloc: Global,
     text: &str,
@@ -29,7 +29,7 @@ fn declared(
 
 // Adds the declarations of statements, and of all inside them.
 #[cycle(decls)]
-pub fn add_decls(
+fn add_decls(
     alloc: Global,
     text: &str,
     nodes: &[Node],
@@ -46,8 +46,72 @@ pub fn add_decls(
     Ok(())
 }
 
+// Adds a declaration that has no others inside it.
+fn add_own(
+    alloc: Global,
+    text: &str,
+    kind: DeclKind,
+    name: Span,
+    scope: &str,
+    parent: Option<usize>,
+    found: &mut Items<Decl>,
+) -> Result<(), AllocError>
+    ensures { OnOk result (found.new ≡ found.old ++ spec.declared text.now kind name scope.now parent ∷ []) }
+{
+    found.push(declared(alloc, text, kind, name, scope, parent)?)
+}
+
+// Adds a message or a service, and what is declared inside it: its full name is the scope of that.
 #[cycle(decls)]
-fn add_decl(
+fn add_scope(
+    alloc: Global,
+    text: &str,
+    kind: DeclKind,
+    name: Span,
+    items: &[Node],
+    scope: &str,
+    parent: Option<usize>,
+    found: &mut Items<Decl>,
+) -> Result<(), AllocError>
+    ensures { OnOk result (found.new ≡ found.old ++ spec.scope_decls text.now kind name items.now scope.now parent (length found.old)) }
+{
+    let own = found.len();
+    let decl = declared(alloc, text, kind, name, scope, parent)?;
+    let inner = decl.full_name.copy(alloc)?;
+    found.push(decl)?;
+    add_decls(
+        alloc,
+        text,
+        items,
+        DeclKind::Field,
+        inner.as_str(),
+        Some(own),
+        found,
+    )
+}
+
+// Adds an enum or a oneof, and what is declared inside it, whose scope is the same.
+#[cycle(decls)]
+fn add_block(
+    alloc: Global,
+    text: &str,
+    kind: DeclKind,
+    name: Span,
+    items: &[Node],
+    scope: &str,
+    parent: Option<usize>,
+    found: &mut Items<Decl>,
+) -> Result<(), AllocError>
+    ensures { OnOk result (found.new ≡ found.old ++ spec.block_decls text.now kind name items.now scope.now parent (length found.old)) }
+{
+    let own = found.len();
+    add_own(alloc, text, kind, name, scope, parent, found)?;
+    add_decls(alloc, text, items, DeclKind::Field, scope, Some(own), found)
+}
+
+// Adds the declarations of a statement, and of all inside it.
+#[cycle(decls)]
+pub fn add_decl(
     alloc: Global,
     text: &str,
     node: &Node,
@@ -58,63 +122,65 @@ fn add_decl(
 ) -> Result<(), AllocError>
     ensures { OnOk result (found.new ≡ found.old ++ spec.decls_of text.now node.now members scope.now parent (length found.old)) }
 {
-    let next = found.len();
     match node {
         Node::Message { name, items, .. } => {
-            found.push(declared(alloc, text, DeclKind::Message, *name, scope, parent)?)?;
-            let inner = joined(alloc, scope, text_at(text, *name))?;
-            add_decls(
+            let items = items.as_slice();
+            add_scope(
                 alloc,
                 text,
-                items.as_slice(),
-                DeclKind::Field,
-                inner.as_str(),
-                Some(next),
+                DeclKind::Message,
+                *name,
+                items,
+                scope,
+                parent,
                 found,
             )
         }
         Node::Service { name, items, .. } => {
-            found.push(declared(alloc, text, DeclKind::Service, *name, scope, parent)?)?;
-            let inner = joined(alloc, scope, text_at(text, *name))?;
-            add_decls(
+            let items = items.as_slice();
+            add_scope(
                 alloc,
                 text,
-                items.as_slice(),
-                DeclKind::Field,
-                inner.as_str(),
-                Some(next),
+                DeclKind::Service,
+                *name,
+                items,
+                scope,
+                parent,
                 found,
             )
         }
         Node::EnumDef { name, items, .. } => {
-            found.push(declared(alloc, text, DeclKind::EnumDef, *name, scope, parent)?)?;
-            add_decls(
+            let items = items.as_slice();
+            add_block(
                 alloc,
                 text,
-                items.as_slice(),
-                DeclKind::Field,
+                DeclKind::EnumDef,
+                *name,
+                items,
                 scope,
-                Some(next),
+                parent,
                 found,
             )
         }
         Node::Oneof { name, items, .. } => {
-            found.push(declared(alloc, text, DeclKind::Oneof, *name, scope, parent)?)?;
-            add_decls(
+            let items = items.as_slice();
+            add_block(
                 alloc,
                 text,
-                items.as_slice(),
-                DeclKind::Field,
+                DeclKind::Oneof,
+                *name,
+                items,
                 scope,
-                Some(next),
+                parent,
                 found,
             )
         }
         Node::Extend { items, .. } => {
+            let items = items.as_slice();
             add_decls(
                 alloc,
                 text,
-                items.as_slice(),
+                items,
                 DeclKind::Extension,
                 scope,
                 parent,
@@ -122,16 +188,12 @@ fn add_decl(
             )
         }
         Node::Rpc { name, .. } => {
-            found.push(declared(alloc, text, DeclKind::Rpc, *name, scope, parent)?)
+            add_own(alloc, text, DeclKind::Rpc, *name, scope, parent, found)
         }
-        Node::Field(field) => {
-            found.push(declared(alloc, text, members, field.name, scope, parent)?)
-        }
-        Node::MapField(field) => {
-            found.push(declared(alloc, text, members, field.name, scope, parent)?)
-        }
+        Node::Field(field) => add_own(alloc, text, members, field.name, scope, parent, found),
+        Node::MapField(field) => add_own(alloc, text, members, field.name, scope, parent, found),
         Node::Value { name, .. } => {
-            found.push(declared(alloc, text, DeclKind::Value, *name, scope, parent)?)
+            add_own(alloc, text, DeclKind::Value, *name, scope, parent, found)
         }
         _ => Ok(()),
     }

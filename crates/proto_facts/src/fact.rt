@@ -11,7 +11,7 @@ use std::alloc::{AllocError, Global};
 pub enum SyntaxFact {
     /// Protocol Buffers version 3: the file's first `syntax` says so.
     Proto3,
-    /// Another language, or a text that is too long: nothing but this is known of the file.
+    /// Another language, no `syntax` at all, or a text that is too long: nothing but this is known of the file.
     Opaque,
 }
 

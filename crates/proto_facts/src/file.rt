@@ -13,13 +13,13 @@ use crate::diagnostic::Diag;
 use crate::fact::{Decl, ImportFact, PackageFact};
 use crate::members::is;
 use crate::message::Message;
-use crate::seen::note_text;
+use crate::seen::note_name;
 use crate::stated::{StatedPackage, StatedSyntax};
 use crate::text::{dotted, literal_text};
 use proto_lex::Reason;
 use proto_syntax::{Fault, Items, Literal, Node, Problem, Span};
 use std::alloc::{AllocError, Global};
-use std::collections::BTreeSet;
+use std::collections::HashSet;
 
 // The longest text that is analysed.
 const MAX_TEXT: usize = 16_777_216;
@@ -297,16 +297,6 @@ pub fn first_package(mut found: Items<StatedPackage>) -> Option<PackageFact>
     }
 }
 
-// The name of a file's package; empty where it has none.
-pub fn package_name(package: &Option<PackageFact>) -> &str
-    ensures { result.now ≡ spec.package_name «package».now }
-{
-    match package {
-        Some(package) => package.full_name.as_str(),
-        None => "",
-    }
-}
-
 // ---- imports
 
 fn add_import_of(
@@ -357,9 +347,9 @@ pub fn add_imported_twice(
 ) -> Result<(), AllocError>
     ensures { OnOk result (diags.new ≡ diags.old ++ checks.judged spec.imported_twice imports.now) }
 {
-    let mut seen = BTreeSet::new(alloc);
+    let mut seen = HashSet::with_capacity(alloc, imports.len())?;
     'names: for name in imports {
-        let again = note_text(alloc, &mut seen, name.path.as_str())?;
+        let again = note_name(&mut seen, name.path.as_str())?;
         add(diag_if(again, Message::ImportedTwice, name.span), diags)?;
     }
     Ok(())
@@ -375,9 +365,9 @@ pub fn add_declared_twice(
 ) -> Result<(), AllocError>
     ensures { OnOk result (diags.new ≡ diags.old ++ checks.judged spec.declared_twice decls.now) }
 {
-    let mut seen = BTreeSet::new(alloc);
+    let mut seen = HashSet::with_capacity(alloc, decls.len())?;
     'names: for name in decls {
-        let again = note_text(alloc, &mut seen, name.full_name.as_str())?;
+        let again = note_name(&mut seen, name.full_name.as_str())?;
         add(
             diag_if(again, Message::DeclaredTwice, name.name_span),
             diags,

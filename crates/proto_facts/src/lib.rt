@@ -2,8 +2,9 @@
 //!
 //! `facts` gives a file's language, package, imports and declarations, and what is wrong in it by itself: bad tokens and
 //! statements, numbers and names that are used, reserved or declared twice, and the like. Which values these are is
-//! defined in specs/Facts.antt, with one definition in specs/Checks.antt for each kind of diagnostic. `in_order` puts
-//! diagnostics of whatever source into the order in which a file lists them.
+//! defined in specs/Facts.antt. Each kind of diagnostic has one definition: 201 to 204 in specs/Diags.antt, 312 to 317
+//! in specs/Facts.antt, the others in specs/Checks.antt. `in_order` puts diagnostics of whatever source into the order in
+//! which a file lists them.
 #![tactic(auto)]
 
 mod bodies;
@@ -23,8 +24,6 @@ mod reach;
 mod report;
 mod seen;
 mod stated;
-#[cfg(test)]
-mod tests;
 mod text;
 mod walk;
 

@@ -18,7 +18,7 @@ pub enum Message {
     NotUnderstood,
     /// A block inside 64 others.
     TooDeep,
-    /// A statement that the text or its block ends before its `;` or `}`.
+    /// A statement that the text or its block ends before its `;` or `}`, or a `}` that ends no block.
     Unfinished,
     /// A field number or a bound of a message's reserved range that is not in 1 to 536,870,911.
     NumberOutOfRange,
@@ -36,7 +36,7 @@ pub enum Message {
     RangeBackwards,
     /// An enum whose first value is not 0, or that has no value.
     FirstNotZero,
-    /// The number of a value or a bound of an enum's range that takes more than 32 bits.
+    /// The number of a value or a bound of an enum's reserved range that is not in -2,147,483,648 to 2,147,483,647.
     EnumNumberOutOfRange,
     /// The number of an earlier value, in an enum without `option allow_alias = true;`.
     EnumNumberUsedTwice,

@@ -9,7 +9,7 @@ use crate::checks::{add, diag_if};
 use crate::diagnostic::Diag;
 use crate::message::Message;
 use crate::part::Interval;
-use crate::reach::{Reach, ends, is_between, sorted_reaches};
+use crate::reach::{FEW, Reach, ends, is_between, sorted_reaches};
 use proto_syntax::Items;
 use std::alloc::{AllocError, Global};
 
@@ -76,8 +76,8 @@ fn add_met(good: &[Interval], met: &[bool], diags: &mut Items<Diag>) -> Result<(
     Ok(())
 }
 
-// Adds the ranges that share a number with an earlier one.
-pub fn add_range_twice(
+// Adds the ranges that share a number with an earlier one, by halves.
+fn add_by_halves(
     alloc: Global,
     good: &[Interval],
     diags: &mut Items<Diag>,
@@ -86,4 +86,48 @@ pub fn add_range_twice(
 {
     let met = met_before(alloc, good)?;
     add_met(good, met.as_slice(), diags)
+}
+
+fn overlap(interval: Interval, earlier: Interval) -> bool
+    ensures { result ≡ checks.overlap interval earlier }
+{
+    interval.low <= earlier.high && earlier.low <= interval.high
+}
+
+fn overlaps_one(before: &[Interval], interval: Interval) -> bool
+    ensures { result ≡ list_any (checks.overlap interval) before.now }
+{
+    before.iter().any(|earlier| overlap(interval, *earlier))
+}
+
+fn range_twice(before: &[Interval], interval: Interval) -> Option<Diag>
+    ensures { result ≡ checks.range_twice before.now interval }
+{
+    let again = overlaps_one(before, interval);
+    diag_if(again, Message::ReservedTwice, interval.span)
+}
+
+// Adds the ranges that share a number with an earlier one, by a look at each pair.
+fn add_overlaps(good: &[Interval], diags: &mut Items<Diag>) -> Result<(), AllocError>
+    ensures { OnOk result (diags.new ≡ diags.old ++ checks.judged checks.range_twice good.now) }
+{
+    'good: for (i, interval) in good.iter().enumerate() {
+        add(range_twice(&good[..i], *interval), diags)?;
+    }
+    Ok(())
+}
+
+// Adds the ranges that share a number with an earlier one.
+pub fn add_range_twice(
+    alloc: Global,
+    good: &[Interval],
+    diags: &mut Items<Diag>,
+) -> Result<(), AllocError>
+    ensures { OnOk result (diags.new ≡ diags.old ++ checks.judged checks.range_twice good.now) }
+{
+    if good.len() <= FEW {
+        add_overlaps(good, diags)
+    } else {
+        add_by_halves(alloc, good, diags)
+    }
 }

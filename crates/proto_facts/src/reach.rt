@@ -15,6 +15,9 @@ use crate::part::{Interval, Member};
 use proto_syntax::Items;
 use std::alloc::{AllocError, Global};
 
+// So many intervals are looked at one by one; more are put in order first.
+pub const FEW: usize = 8;
+
 // The bounds of an interval.
 #[derive(Clone, Copy, Debug, PartialEq, Eq, PartialOrd, Ord)]
 pub struct Reach {
@@ -79,8 +82,44 @@ fn number_reserved(sorted: &[Reach], ends: &[u64], member: Member) -> Option<Dia
     diag_if(held, Message::NumberReserved, member.number)
 }
 
-// Adds the members whose numbers are reserved.
-pub fn add_number_reserved(
+fn lies_in(value: Option<u32>, interval: Interval) -> bool
+    ensures { result ≡ checks.lies_in value interval }
+{
+    match value {
+        Some(value) => interval.low <= value && value <= interval.high,
+        None => false,
+    }
+}
+
+fn is_in(good: &[Interval], value: Option<u32>) -> bool
+    ensures { result ≡ list_any (checks.lies_in value) good.now }
+{
+    good.iter().any(|interval| lies_in(value, *interval))
+}
+
+fn number_in(good: &[Interval], member: Member) -> Option<Diag>
+    ensures { result ≡ checks.number_reserved good.now member }
+{
+    let is_reserved = is_in(good, member.value);
+    diag_if(is_reserved, Message::NumberReserved, member.number)
+}
+
+// Adds the members whose numbers are reserved, by a look at each interval.
+fn add_number_in(
+    good: &[Interval],
+    members: &[Member],
+    diags: &mut Items<Diag>,
+) -> Result<(), AllocError>
+    ensures { OnOk result (diags.new ≡ diags.old ++ filter_map (checks.number_reserved good.now) members.now) }
+{
+    'asked: for member in members {
+        add(number_in(good, *member), diags)?;
+    }
+    Ok(())
+}
+
+// Adds the members whose numbers are reserved, by the intervals in order.
+fn add_number_held(
     alloc: Global,
     good: &[Interval],
     members: &[Member],
@@ -97,4 +136,20 @@ pub fn add_number_reserved(
         )?;
     }
     Ok(())
+}
+
+// Adds the members whose numbers are reserved.
+pub fn add_number_reserved(
+    alloc: Global,
+    good: &[Interval],
+    members: &[Member],
+    diags: &mut Items<Diag>,
+) -> Result<(), AllocError>
+    ensures { OnOk result (diags.new ≡ diags.old ++ filter_map (checks.number_reserved good.now) members.now) }
+{
+    if good.len() <= FEW {
+        add_number_in(good, members, diags)
+    } else {
+        add_number_held(alloc, good, members, diags)
+    }
 }

@@ -5,15 +5,14 @@ ghost use Rattle.std.specs.List.{filter_map};
 ghost use Rattle.proto_facts.specs.Facts as spec;
 ghost use Rattle.proto_syntax.specs.Read.{value_tree};
 
-use crate::decls::add_decls;
 use crate::diagnostic::{Diag, in_order};
-use crate::fact::{Decl, DeclKind, FileFacts, ImportFact, SyntaxFact};
+use crate::fact::{Decl, FileFacts, ImportFact, SyntaxFact};
 use crate::file::{
     add_declared_twice, add_faults, add_imported_twice, add_imports, add_package_diags,
-    add_packages, add_starts, add_stated, add_syntax_late, first_package, opaque, package_name,
+    add_packages, add_starts, add_stated, add_syntax_late, first_package, opaque,
 };
 use crate::stated::{StatedPackage, StatedSyntax};
-use crate::walk::add_all_diags;
+use crate::walk::add_statements;
 use proto_syntax::{FileTree, Items};
 use std::alloc::{AllocError, Global};
 
@@ -33,16 +32,38 @@ fn opaque_facts(alloc: Global, diag: Diag) -> Result<FileFacts, AllocError>
     ))
 }
 
+// The name of the first package; empty where there is none.
+fn package_name(packages: &[StatedPackage]) -> &str
+    ensures { result.now ≡ spec.package_name (spec.first_package packages.now) }
+{
+    match packages {
+        [] => "",
+        [first, ..] => first.fact.full_name.as_str(),
+    }
+}
+
+// The declarations of a file in a package. Adds what is wrong with its tokens and statements.
 fn add_tree_diags(
     alloc: Global,
     text: &str,
     tree: &FileTree,
+    package: &str,
     diags: &mut Items<Diag>,
-) -> Result<(), AllocError>
-    ensures { OnOk result (diags.new ≡ diags.old ++ spec.tree_diags text.now tree.now) }
+) -> Result<Items<Decl>, AllocError>
+    ensures decls { IfOk result (λ d. d ≡ spec.decls_with text.now «package».now tree.now.nodes) }
+    ensures diags { OnOk result (diags.new ≡ diags.old ++ spec.tree_diags text.now tree.now) }
 {
+    let mut decls = Items::new(alloc);
     add_faults(tree.faults.as_slice(), diags)?;
-    add_all_diags(alloc, text, tree.nodes.as_slice(), diags)
+    add_statements(
+        alloc,
+        text,
+        tree.nodes.as_slice(),
+        package,
+        &mut decls,
+        diags,
+    )?;
+    Ok(decls)
 }
 
 fn add_late_diags(
@@ -72,7 +93,7 @@ fn add_file_diags(
     add_package_diags(packages, diags)
 }
 
-// All diagnostics of a file that is analysed, one kind after the other.
+// The declarations of a file that is analysed. Adds all its diagnostics, one kind after the other.
 fn add_analysed(
     alloc: Global,
     text: &str,
@@ -80,38 +101,14 @@ fn add_analysed(
     stated: &[StatedSyntax],
     packages: &[StatedPackage],
     imports: &[ImportFact],
-    decls: &[Decl],
     diags: &mut Items<Diag>,
-) -> Result<(), AllocError>
-    ensures { OnOk result (diags.new ≡ diags.old ++ spec.diags_of text.now tree.now stated.now packages.now imports.now decls.now) }
-{
-    add_tree_diags(alloc, text, tree, diags)?;
-    add_late_diags(alloc, tree, stated, diags)?;
-    add_file_diags(alloc, packages, imports, decls, diags)
-}
-
-fn decls_of(
-    alloc: Global,
-    text: &str,
-    tree: &FileTree,
-    packages: &[StatedPackage],
 ) -> Result<Items<Decl>, AllocError>
-    ensures { IfOk result (λ d. d ≡ spec.decls_with text.now (spec.package_name (spec.first_package packages.now)) tree.now.nodes) }
+    ensures decls { IfOk result (λ d. d ≡ spec.decls_with text.now (spec.package_name (spec.first_package packages.now)) tree.now.nodes) }
+    ensures diags { IfOk result (λ d. diags.new ≡ diags.old ++ spec.diags_of text.now tree.now stated.now packages.now imports.now d) }
 {
-    let package = match packages {
-        [] => "",
-        [first, ..] => first.fact.full_name.as_str(),
-    };
-    let mut decls = Items::new(alloc);
-    add_decls(
-        alloc,
-        text,
-        tree.nodes.as_slice(),
-        DeclKind::Field,
-        package,
-        None,
-        &mut decls,
-    )?;
+    let decls = add_tree_diags(alloc, text, tree, package_name(packages), diags)?;
+    add_late_diags(alloc, tree, stated, diags)?;
+    add_file_diags(alloc, packages, imports, decls.as_slice(), diags)?;
     Ok(decls)
 }
 
@@ -128,16 +125,14 @@ fn analysed_facts(
     add_packages(alloc, text, nodes, &mut packages)?;
     let mut imports = Items::new(alloc);
     add_imports(alloc, text, nodes, &mut imports)?;
-    let decls = decls_of(alloc, text, tree, packages.as_slice())?;
     let mut found = Items::new(alloc);
-    add_analysed(
+    let decls = add_analysed(
         alloc,
         text,
         tree,
         stated,
         packages.as_slice(),
         imports.as_slice(),
-        decls.as_slice(),
         &mut found,
     )?;
     let diags = in_order(alloc, found.as_slice())?;

@@ -52,14 +52,16 @@ pub fn literal_text(alloc: Global, text: &str, literal: &Literal) -> Result<Name
     Ok(Name::of(found))
 }
 
-// The full name of a declaration in a scope.
+// The full name of a declaration in a scope, in memory of just its size.
 pub fn joined(alloc: Global, scope: &str, name: &str) -> Result<Name, AllocError>
     ensures { IfOk result (λ n. n ≡ spec.joined scope.now name.now) }
 {
-    let mut text = String::from_str(alloc, scope)?;
-    if !scope.is_empty() {
-        text.push('.')?;
+    if scope.is_empty() {
+        return Ok(Name::of(String::from_str(alloc, name)?));
     }
+    let mut text = String::with_capacity(alloc, scope.len() + 1 + name.len())?;
+    text.push_str(scope)?;
+    text.push('.')?;
     text.push_str(name)?;
     Ok(Name::of(text))
 }

@@ -1,12 +1,16 @@
 // Goes through all statements of a tree.
 
-ghost use Rattle.std.specs.Prelude.{◌≡◌, ◌++◌, OnOk};
+ghost use Rattle.std.specs.Prelude.{◌≡◌, ◌++◌, OnOk, None, length};
 ghost use Rattle.std.specs.List.{flat_map};
 ghost use Rattle.proto_facts.specs.Checks as checks;
+ghost use Rattle.proto_facts.specs.Decls as declared;
+ghost use Rattle.proto_facts.specs.declared.fact.DeclKind.TheVariants as kind;
 ghost use Rattle.proto_facts.specs.Tree as spec;
 
 use crate::bodies::add_statement_diags;
+use crate::decls::add_decl;
 use crate::diagnostic::Diag;
+use crate::fact::{Decl, DeclKind};
 use proto_syntax::{Items, Node};
 use std::alloc::{AllocError, Global};
 
@@ -21,6 +25,27 @@ pub fn add_all_diags(
     ensures { OnOk result (diags.new ≡ diags.old ++ flat_map (checks.statement_diags text.now) (spec.all_statements nodes.now)) }
 {
     'nodes: for node in nodes {
+        add_statement_diags(alloc, text, node, diags)?;
+        add_inner_diags(alloc, text, node, diags)?;
+    }
+    Ok(())
+}
+
+// Adds what each statement of a list declares and what is wrong in it, and in those inside it. One statement after the
+// other has both done, while it is at hand.
+pub fn add_statements(
+    alloc: Global,
+    text: &str,
+    nodes: &[Node],
+    scope: &str,
+    decls: &mut Items<Decl>,
+    diags: &mut Items<Diag>,
+) -> Result<(), AllocError>
+    ensures decls { OnOk result (decls.new ≡ decls.old ++ declared.decls_in text.now nodes.now kind.Field scope.now None (length decls.old)) }
+    ensures diags { OnOk result (diags.new ≡ diags.old ++ flat_map (checks.statement_diags text.now) (spec.all_statements nodes.now)) }
+{
+    'nodes: for node in nodes {
+        add_decl(alloc, text, node, DeclKind::Field, scope, None, decls)?;
         add_statement_diags(alloc, text, node, diags)?;
         add_inner_diags(alloc, text, node, diags)?;
     }

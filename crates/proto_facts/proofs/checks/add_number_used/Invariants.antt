@@ -3,7 +3,7 @@ use Rattle.std.specs.BTreeSet.{contains}
 use Rattle.std.specs.List.{filter_map, enumerate_from, list_any}
 use Rattle.std.specs.Ordering.{nat_cmp}
 use Rattle.proto_facts.specs.Checks.{judged, judged_at, number_used, is_value}
-use Rattle.proto_facts.proofs.checks.add_used_twice.Given as goal
+use Rattle.proto_facts.proofs.checks.add_number_used.Given as goal
 
 abbrev pub invariant-members : goal.invariant-members
 invariant-members l = record {

@@ -4,7 +4,7 @@ use Rattle.proto_facts.specs.Checks.{number_reserved, diag_if}
 use Rattle.proto_facts.specs.declared.message.Message.TheVariants as m
 use Rattle.proto_facts.proofs.Places.{no_member, filter_map-next}
 use Rattle.proto_facts.proofs.ReachLemmas.{held-is}
-use Rattle.proto_facts.proofs.reach.add_number_reserved.Goals as goal
+use Rattle.proto_facts.proofs.reach.add_number_held.Goals as goal
 
 pub members-preserved : goal.members-preserved
 members-preserved c =

@@ -1,7 +1,7 @@
 use Rattle.std.proofs.Common.{◌≡◌, ◌++◌, drop}
 use Rattle.std.specs.List.{filter_map}
 use Rattle.proto_facts.specs.Checks.{number_reserved}
-use Rattle.proto_facts.proofs.reach.add_number_reserved.Given as goal
+use Rattle.proto_facts.proofs.reach.add_number_held.Given as goal
 
 abbrev pub invariant-members : goal.invariant-members
 invariant-members l = l.diags ++ filter_map (number_reserved l.good) (drop l.member-index l.members) ≡ l.fn.diags ++ filter_map (number_reserved l.good) l.members

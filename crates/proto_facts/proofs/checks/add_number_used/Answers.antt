@@ -1,7 +1,7 @@
 use Rattle.std.proofs.Common.{ap, ◌∙◌, take, get_or}
 use Rattle.proto_facts.specs.Checks.{number_used, is_value, diag_if, used_twice}
 use Rattle.proto_facts.proofs.Places.{no_member, diags-next, judged-end, any-next, has-is}
-use Rattle.proto_facts.proofs.checks.add_used_twice.Goals as goal
+use Rattle.proto_facts.proofs.checks.add_number_used.Goals as goal
 
 pub members-preserved : goal.members-preserved
 members-preserved c =

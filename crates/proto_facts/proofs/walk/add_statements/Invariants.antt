@@ -1,0 +1,14 @@
+use Rattle.std.proofs.Common.{◌≡◌, ◌++◌, drop, length, None}
+use Rattle.std.specs.List.{flat_map}
+use Rattle.proto_facts.specs.Checks.{statement_diags}
+use Rattle.proto_facts.specs.Decls.{decls_in}
+use Rattle.proto_facts.specs.declared.fact.DeclKind.TheVariants as kind
+use Rattle.proto_facts.specs.Tree.{all_statements}
+use Rattle.proto_facts.proofs.walk.add_statements.Given as goal
+
+-- what is found and what is left are all
+abbrev pub invariant-nodes : goal.invariant-nodes
+invariant-nodes l = record {
+  decls : l.decls ++ decls_in l.text (drop l.node-index l.nodes) kind.Field l.scope None (length l.decls) ≡ l.fn.decls ++ decls_in l.text l.nodes kind.Field l.scope None (length l.fn.decls);
+  diags : l.diags ++ flat_map (statement_diags l.text) (all_statements (drop l.node-index l.nodes)) ≡ l.fn.diags ++ flat_map (statement_diags l.text) (all_statements l.nodes);
+}
