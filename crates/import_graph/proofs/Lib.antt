@@ -1,0 +1,13 @@
+pub mod Steps
+pub mod Search
+pub mod ByPath
+pub mod Calls
+pub mod Linked
+pub mod Views
+pub mod Closures
+pub mod SeesTest
+pub mod OneView
+pub mod Tours
+pub mod Placing
+pub mod Descents
+pub mod PathOrder

@@ -1,0 +1,29 @@
+use Rattle.std.proofs.Common.{◌≡◌, List, length, map, ◌∙◌, ap, refl, arith}
+use Rattle.std.proofs.lemmas.List.{take_all, length-map}
+use Rattle.import_graph.specs.Links.{graph_of, links_of, targets}
+use Rattle.import_graph.specs.declared.links.LinkedFile.{LinkedFile}
+use Rattle.import_graph.specs.declared.paths.NamedFacts.{NamedFacts}
+use Rattle.import_graph.proofs.Linked.{graph_within}
+use Rattle.import_graph.proofs.Views.{imports_within}
+use Rattle.import_graph.proofs.graph.Graph.of.Goals as goal
+
+pub components-requires : goal.components-requires
+components-requires c =
+    let whole : c.loop-file.linked.items ≡ graph_of c.args.files.now = c.loop-file.invariant.linked
+    ∙ ap (λ (fs : List NamedFacts). map (λ f. links_of c.args.files.now f.facts) fs) (take_all _ c.args.files.now c.loop-file-test.false) in
+    let listed : c.as_slice.result.now ≡ map targets (graph_of c.args.files.now) = c.as_slice.ensures.value ∙ (c.loop-file.invariant.imports ∙ ap (λ (g : List LinkedFile). map targets g) whole) in
+    rw listed (imports_within (graph_of c.args.files.now) (graph_within c.args.files.now))
+
+pub invariant_of-result : goal.invariant_of-result
+invariant_of-result c =
+    let whole : c.loop-file.linked.items ≡ graph_of c.args.files.now = c.loop-file.invariant.linked
+    ∙ ap (λ (fs : List NamedFacts). map (λ f. links_of c.args.files.now f.facts) fs) (take_all _ c.args.files.now c.loop-file-test.false) in
+    let listed : c.as_slice.result.now ≡ map targets c.loop-file.linked.items = c.as_slice.ensures.value ∙ c.loop-file.invariant.imports in
+    let long : length c.as_slice.result.now ≡ length c.loop-file.linked.items = rw (listed, length-map) refl in
+    record {
+      within = rw whole (graph_within c.args.files.now);
+      imports = c.loop-file.invariant.imports;
+      public = c.loop-file.invariant.public;
+      numbered = omega (arith, long, c.in_ok-components.ensures.length, c.in_ok-components.components.ok);
+      descends = rw listed at c.in_ok-components.ensures.descends;
+    }

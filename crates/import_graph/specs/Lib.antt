@@ -1,0 +1,9 @@
+pub mod Walks
+pub mod Paths
+pub mod Links
+pub mod Views
+pub mod Closures
+pub mod Laws
+pub mod Fronts
+pub mod Tours
+pub mod Components

@@ -1,0 +1,57 @@
+-- What the imports of files name.
+use Rattle.std.specs.Prelude.{◌≡◌, ℕ, List, [], Bool, true, false, Option, Some, None, slice_index_or, map, filter, length, All, not}
+use Rattle.std.specs.List.{filter_map}
+use Rattle.proto_facts.specs.declared.fact.FileFacts.{FileFacts}
+use Rattle.proto_facts.specs.declared.fact.ImportFact.{ImportFact}
+use Rattle.proto_facts.specs.declared.fact.SyntaxFact.{SyntaxFact}
+use Rattle.proto_facts.specs.declared.fact.SyntaxFact.TheVariants.{Proto3, Opaque}
+use Rattle.import_graph.specs.declared.paths.NamedFacts.{NamedFacts}
+use Rattle.import_graph.specs.declared.links.Link.{Link}
+use Rattle.import_graph.specs.declared.links.LinkedFile.{LinkedFile}
+use Rattle.import_graph.specs.Paths.{file_named}
+use Rattle.import_graph.specs.Walks.{AllWithin}
+use Rattle.import_graph.specs.Components.{Descends}
+
+abbrev pub is_opaque : SyntaxFact → Bool
+is_opaque Proto3 = false
+is_opaque Opaque = true
+
+-- an import, with the file that it names
+abbrev pub linked : List NamedFacts → ImportFact → Link
+linked files i = record { target = file_named files i.path; is_public = i.is_public }
+
+abbrev pub links_of : List NamedFacts → FileFacts → LinkedFile
+links_of files facts = record { links = map (linked files) facts.imports; is_opaque = is_opaque facts.syntax }
+
+-- what the imports of each file name
+abbrev pub graph_of : List NamedFacts → List LinkedFile
+graph_of files = map (λ f. links_of files f.facts) files
+
+-- the imports of a file, by its number
+abbrev pub links_at : List LinkedFile → ℕ → List Link
+links_at graph f = slice_index_or (map (λ file. file.links) graph) f []
+
+-- what an import names, by its number
+abbrev pub target_at : List LinkedFile → ℕ → ℕ → Option ℕ
+target_at graph f i = slice_index_or (map (λ l. l.target) (links_at graph f)) i None
+
+-- whether an import's target is a file that is not opaque
+abbrev pub is_analysed : List LinkedFile → Option ℕ → Bool
+is_analysed graph None = false
+is_analysed graph (Some h) = not (slice_index_or (map (λ file. file.is_opaque) graph) h true)
+
+-- the files that a file imports
+abbrev pub targets : LinkedFile → List ℕ
+targets file = filter_map (λ l. l.target) file.links
+
+-- the files that it imports publicly
+abbrev pub public_targets : LinkedFile → List ℕ
+public_targets file = filter_map (λ l. l.target) (filter (λ l. l.is_public) file.links)
+
+-- each file that is imported is there, the files are listed for the search, and no import leads to a higher component
+pub record IsGraph (graph : List LinkedFile) (all : List (List ℕ)) (public_ones : List (List ℕ)) (components : List ℕ) : Type 0 where
+  pub within : All (λ file. AllWithin (length graph) (targets file)) graph
+  pub imports : all ≡ map targets graph
+  pub public : public_ones ≡ map public_targets graph
+  pub numbered : length components ≡ length graph
+  pub descends : Descends (map targets graph) components

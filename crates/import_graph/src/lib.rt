@@ -1,0 +1,23 @@
+//! Who sees whom: which file each import names, which files a file sees, and which imports close cycles.
+//!
+//! `Graph::of` takes the files of a workspace, each with its path and its facts, in the order of their paths. A file is a
+//! number from then on, its place in that list. An import names the file whose path is its text. A file sees itself, the
+//! files that it imports, and what public imports lead to from there. The definitions are in specs/: Links.antt says what
+//! imports name, Views.antt what is seen and reached as walks from file to file, and Closures.antt gives the same as
+//! functions of the graph; the laws say that both agree.
+#![tactic(auto)]
+
+mod components;
+mod front;
+mod graph;
+mod laws;
+mod links;
+mod paths;
+#[cfg(test)]
+mod tests;
+mod tour;
+
+pub use graph::Graph;
+pub use laws::{closure_law, one_view, view_law};
+pub use links::{Link, LinkedFile};
+pub use paths::{FileNo, NamedFacts, are_in_path_order};
