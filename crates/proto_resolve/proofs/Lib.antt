@@ -1,0 +1,5 @@
+pub mod Within
+pub mod Imports
+pub mod Innermost
+pub mod Search
+pub mod Packages

@@ -1,0 +1,7 @@
+use Rattle.std.proofs.Common.{take}
+use Rattle.proto_resolve.specs.Views.{ArePackagesOf}
+use Rattle.proto_resolve.proofs.views.packages_of.Given as goal
+
+-- the packages are those of the files so far
+abbrev pub invariant-loop-file : goal.invariant-loop-file
+invariant-loop-file g l = ArePackagesOf (g.I.Index.files l.index) (take l.file-index l.files) l.found

@@ -1,0 +1,9 @@
+pub mod Files
+pub mod Names
+pub mod Views
+pub mod Uses
+pub mod ViewFaults
+pub mod Sites
+pub mod Resolved
+pub mod Laws
+pub mod Tables

@@ -1,0 +1,192 @@
+// What is wrong with the names, imports and declarations of a file by what it sees.
+ghost use Rattle.std.specs.Prelude.{◌≡◌, ◌==◌, ◌&&◌, ◌++◌, ◌<◌, not, length, All, OnOk, IfOk, IfSome};
+ghost use Rattle.std.specs.List.{flat_map, list_any, enumerate_from};
+ghost use Rattle.proto_facts.specs.Diags.{diag};
+ghost use Rattle.import_graph.specs.Links.{graph_of};
+ghost use Rattle.import_graph.specs.Closures.{view_of};
+ghost use Rattle.proto_resolve.specs.Files.{has_package, facts_at};
+ghost use Rattle.proto_resolve.specs.Views.{IsView};
+ghost use Rattle.proto_resolve.specs.Names.{is_seen, is_type, has_kind, IsThere};
+ghost use Rattle.proto_resolve.specs.ViewFaults as spec;
+
+use crate::index::Index;
+use crate::scopes::{is_type, kind_at, meaning};
+use crate::site::{NameSite, Needs};
+use crate::target::{DeclRef, Target};
+use crate::view::View;
+use proto_facts::{Decl, Diag, ImportFact, Message};
+use proto_syntax::{Items, Span};
+use std::alloc::{AllocError, Global};
+
+fn diag(message: Message, span: Span) -> Diag
+    ensures { result ≡ diag message span }
+{
+    Diag {
+        start: span.start,
+        end: span.end,
+        message,
+    }
+}
+
+// ---- names
+
+fn has_kind<I: Index>(index: &I, needs: Needs, target: &Target) -> bool
+    requires { IsThere (I.files index.now) target.now }
+    ensures { result ≡ has_kind (I.files index.now) (is_type needs) (Some target.now) }
+{
+    match target {
+        Target::Package(_) => false,
+        Target::Declared(decl) => is_type(needs, kind_at(index, *decl)),
+    }
+}
+
+// Adds what is wrong with the names.
+fn push_name_faults<I: Index>(
+    alloc: Global,
+    index: &I,
+    view: &View,
+    sites: &[NameSite],
+    found: &mut Items<Diag>,
+) -> Result<(), AllocError>
+    requires { IsView (I.files index.now) view.now }
+    ensures { OnOk result (found.new ≡ found.old ++ flat_map (spec.name_faults (I.files index.now) view.now.file view.now.files) sites.now) }
+{
+    'sites: for site in sites {
+        push_name_fault(alloc, index, view, site, found)?;
+    }
+    Ok(())
+}
+
+fn push_name_fault<I: Index>(
+    alloc: Global,
+    index: &I,
+    view: &View,
+    site: &NameSite,
+    found: &mut Items<Diag>,
+) -> Result<(), AllocError>
+    requires { IsView (I.files index.now) view.now }
+    ensures { OnOk result (found.new ≡ found.old ++ spec.name_faults (I.files index.now) view.now.file view.now.files site.now) }
+{
+    match meaning(alloc, index, view, site)? {
+        None => found.push(diag(Message::Unresolved, site.span)),
+        Some(target) => {
+            if has_kind(index, site.needs, &target) {
+                return Ok(());
+            }
+            found.push(diag(Message::WrongKind, site.span))
+        }
+    }
+}
+
+// ---- imports
+
+fn push_import_faults<I: Index>(
+    alloc: Global,
+    index: &I,
+    file: usize,
+    imports: &[ImportFact],
+    found: &mut Items<Diag>,
+) -> Result<(), AllocError>
+    requires file { file < length (I.files index.now) }
+    requires imports { imports.now ≡ (let facts = facts_at (I.files index.now) file in facts.imports) }
+    ensures { OnOk result (found.new ≡ found.old ++ flat_map (spec.import_faults (I.files index.now) file) (enumerate_from 0 imports.now)) }
+{
+    for (number, import) in imports.iter().enumerate() {
+        push_import_fault(alloc, index, file, number, import, found)?;
+    }
+    Ok(())
+}
+
+fn push_import_fault<I: Index>(
+    alloc: Global,
+    index: &I,
+    file: usize,
+    number: usize,
+    import: &ImportFact,
+    found: &mut Items<Diag>,
+) -> Result<(), AllocError>
+    requires file { file < length (I.files index.now) }
+    requires number { number < length (let facts = facts_at (I.files index.now) file in facts.imports) }
+    ensures { OnOk result (found.new ≡ found.old ++ spec.import_faults (I.files index.now) file (number, import.now)) }
+{
+    let graph = index.graph();
+    match graph.import_of(file, number) {
+        None => found.push(diag(Message::ImportNotFound, import.span)),
+        Some(_) => {
+            if graph.closes_cycle(alloc, file, number)? {
+                found.push(diag(Message::ImportCycle, import.span))?;
+            }
+            Ok(())
+        }
+    }
+}
+
+// ---- declarations
+
+fn is_elsewhere(decls: &[DeclRef], view: &View) -> bool
+    ensures { result ≡ list_any (λ r. not (r.file == view.now.file) && is_seen view.now.files r.file) decls.now }
+{
+    decls
+        .iter()
+        .any(|decl| decl.file != view.file && view.has(decl.file))
+}
+
+// Adds what is wrong with the declarations.
+fn push_decl_faults<I: Index>(
+    index: &I,
+    view: &View,
+    decls: &[Decl],
+    found: &mut Items<Diag>,
+) -> Result<(), AllocError>
+    requires { IsView (I.files index.now) view.now }
+    ensures { OnOk result (found.new ≡ found.old ++ flat_map (spec.decl_faults (I.files index.now) view.now.file view.now.files) decls.now) }
+{
+    'decls: for decl in decls {
+        push_faults_of(index, view, decl, found)?;
+    }
+    Ok(())
+}
+
+fn push_faults_of<I: Index>(
+    index: &I,
+    view: &View,
+    decl: &Decl,
+    found: &mut Items<Diag>,
+) -> Result<(), AllocError>
+    requires { IsView (I.files index.now) view.now }
+    ensures { OnOk result (found.new ≡ found.old ++ spec.decl_faults (I.files index.now) view.now.file view.now.files decl.now) }
+{
+    let name = decl.full_name.as_str();
+    if is_elsewhere(index.named(name), view) {
+        found.push(diag(Message::DeclaredElsewhere, decl.name_span))?;
+    }
+    if view.has_package(name) {
+        found.push(diag(Message::NameIsPackage, decl.name_span))?;
+    }
+    Ok(())
+}
+
+// ---- a file
+
+// What is wrong in a file by what it sees: names, imports and declarations in turn.
+pub fn faults_of<I: Index>(
+    alloc: Global,
+    index: &I,
+    view: &View,
+    sites: &[NameSite],
+) -> Result<Items<Diag>, AllocError>
+    requires file { view.now.file < length (I.files index.now) }
+    requires is_view { IsView (I.files index.now) view.now }
+    requires files { view.now.files ≡ view_of (graph_of (I.files index.now)) view.now.file }
+    ensures { IfOk result (λ d. d ≡ spec.view_faults (I.files index.now) view.now.file sites.now) }
+{
+    let mut found = Items::new(alloc);
+    let file = view.file;
+    if index.graph().are_complete(view.files.as_slice()) {
+        push_name_faults(alloc, index, view, sites, &mut found)?;
+    }
+    let facts = index.facts(file);
+    push_import_faults(alloc, index, file, facts.imports.as_slice(), &mut found)?;
+    push_decl_faults(index, view, facts.decls.as_slice(), &mut found)?;
+    Ok(found)
+}

@@ -1,0 +1,41 @@
+// The names of a file, resolved.
+ghost use Rattle.std.specs.Prelude.{◌≡◌, ◌<◌, length, IfOk};
+ghost use Rattle.proto_resolve.specs.Resolved.{resolved};
+
+use crate::faults::faults_of;
+use crate::index::Index;
+use crate::sites::names_of_file;
+use crate::uses::{NameUse, all_uses};
+use crate::views::view_of;
+use proto_facts::{Diag, in_order};
+use proto_syntax::{FileTree, Items};
+use std::alloc::{AllocError, Global};
+
+/// What is known of a file by what it sees.
+#[derive(Debug, Drop)]
+pub struct Links {
+    /// One for each component of each name that has a meaning, by offset.
+    pub uses: Items<NameUse>,
+    /// The diagnostics 401 to 406, each once, by start, end, number and words.
+    pub diags: Items<Diag>,
+}
+
+/// Resolves the names of a file of the index, which has this text and this tree. An `Err` comes only where memory was
+/// refused.
+pub fn resolve_file<I: Index>(
+    alloc: Global,
+    index: &I,
+    file: usize,
+    text: &str,
+    tree: &FileTree,
+) -> Result<Links, AllocError>
+    requires { file < length (I.files index.now) }
+    ensures { IfOk result (λ l. l ≡ resolved (I.files index.now) file text.now tree.now) }
+{
+    let view = view_of(alloc, index, file)?;
+    let sites = names_of_file(alloc, text, index.facts(file), tree.nodes.as_slice())?;
+    let uses = all_uses(alloc, index, &view, sites.as_slice())?;
+    let found = faults_of(alloc, index, &view, sites.as_slice())?;
+    let diags = in_order(alloc, found.as_slice())?;
+    Ok(Links { uses, diags })
+}

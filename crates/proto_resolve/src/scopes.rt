@@ -1,0 +1,144 @@
+// The scope in which a name is looked for, and what it means.
+ghost use Rattle.std.specs.Prelude.{◌≡◌, ◌==◌, ◌<◌, length, All, IfOk, IfSome};
+ghost use Rattle.proto_resolve.specs.Files.{decl_at};
+ghost use Rattle.proto_resolve.specs.Views.{IsView};
+ghost use Rattle.proto_resolve.specs.Names.{found, is_type, is_holder, settles, settles_at, first_text, joined_all, texts_of, scope_of, meaning, IsThere};
+
+use crate::finding::found;
+use crate::full_names::{copied, joined, joined_all};
+use crate::index::Index;
+use crate::site::{NameSite, Needs};
+use crate::target::{DeclRef, Target};
+use crate::view::View;
+use proto_facts::{DeclKind, Name};
+use std::alloc::{AllocError, Global};
+
+pub fn is_type(needs: Needs, kind: DeclKind) -> bool
+    ensures { result ≡ is_type needs kind }
+{
+    match kind {
+        DeclKind::Message => true,
+        DeclKind::EnumDef => matches!(needs, Needs::MessageOrEnum),
+        _ => false,
+    }
+}
+
+fn is_holder(kind: DeclKind) -> bool
+    ensures { result ≡ is_holder kind }
+{
+    matches!(
+        kind,
+        DeclKind::Message | DeclKind::EnumDef | DeclKind::Service
+    )
+}
+
+pub fn kind_at<I: Index>(index: &I, decl: DeclRef) -> DeclKind
+    requires { decl.file < length (I.files index.now) }
+    ensures { result ≡ (let d = decl_at (I.files index.now) decl in d.kind) }
+{
+    match index.facts(decl.file).decls.as_slice().get(decl.number) {
+        Some(decl) => decl.kind,
+        None => DeclKind::Field,
+    }
+}
+
+// Whether a first component that is found like this settles the scope.
+fn settles<I: Index>(index: &I, is_alone: bool, target: &Option<Target>) -> bool
+    requires { IfSome target.now (IsThere (I.files index.now)) }
+    ensures { result ≡ settles (I.files index.now) is_alone target.now }
+{
+    match target {
+        None => false,
+        Some(Target::Package(_)) => !is_alone,
+        Some(Target::Declared(decl)) => {
+            let kind = kind_at(index, *decl);
+            if is_alone {
+                is_type(Needs::MessageOrEnum, kind)
+            } else {
+                is_holder(kind)
+            }
+        }
+    }
+}
+
+fn first_text(site: &NameSite) -> &str
+    ensures { result.now ≡ first_text site.now }
+{
+    match site.components.as_slice().first() {
+        Some(component) => component.text.as_str(),
+        None => "",
+    }
+}
+
+fn settles_at<I: Index>(
+    alloc: Global,
+    index: &I,
+    view: &View,
+    site: &NameSite,
+    scope: &str,
+) -> Result<bool, AllocError>
+    requires { IsView (I.files index.now) view.now }
+    ensures { IfOk result (λ r. r ≡ settles_at (I.files index.now) view.now.file view.now.files site.now scope.now) }
+{
+    let first = joined(alloc, scope, first_text(site))?;
+    let target = found(alloc, index, view, first.as_str())?;
+    Ok(settles(index, site.components.len() == 1, &target))
+}
+
+// The innermost scope that settles a name: where its first component is found as what ends the search.
+pub fn scope_of<I: Index>(
+    alloc: Global,
+    index: &I,
+    view: &View,
+    site: &NameSite,
+) -> Result<Option<Name>, AllocError>
+    requires { IsView (I.files index.now) view.now }
+    ensures { IfOk result (λ r. r ≡ scope_of (I.files index.now) view.now.file view.now.files site.now) }
+{
+    if site.is_absolute {
+        return Ok(Some(copied(alloc, "")?));
+    }
+    for scope in site.scopes.as_slice() {
+        if settles_at(alloc, index, view, site, scope.as_str())? {
+            return Ok(Some(scope.copy(alloc)?));
+        }
+    }
+    Ok(None)
+}
+
+// What a name means, if anything.
+pub fn meaning<I: Index>(
+    alloc: Global,
+    index: &I,
+    view: &View,
+    site: &NameSite,
+) -> Result<Option<Target>, AllocError>
+    requires { IsView (I.files index.now) view.now }
+    ensures value { IfOk result (λ r. r ≡ meaning (I.files index.now) view.now.file view.now.files site.now) }
+    ensures within { IfOk result (λ r. IfSome r (IsThere (I.files index.now))) }
+{
+    match scope_of(alloc, index, view, site)? {
+        None => Ok(None),
+        Some(scope) => {
+            let target = found_in(alloc, index, view, scope.as_str(), site)?;
+            Ok(target)
+        }
+    }
+}
+
+// What stands at the full name that the components have in a scope.
+pub fn found_in<I: Index>(
+    alloc: Global,
+    index: &I,
+    view: &View,
+    scope: &str,
+    site: &NameSite,
+) -> Result<Option<Target>, AllocError>
+    requires { IsView (I.files index.now) view.now }
+    ensures value { IfOk result (λ r. r ≡ found (I.files index.now) view.now.file view.now.files (joined_all scope.now (texts_of site.now))) }
+    ensures within { IfOk result (λ r. IfSome r (IsThere (I.files index.now))) }
+{
+    let name = joined_all(alloc, scope, site.components.as_slice())?;
+    let target = found(alloc, index, view, name.as_str())?;
+    Ok(target)
+}

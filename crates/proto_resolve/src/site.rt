@@ -1,0 +1,29 @@
+// The names that stand in a file.
+use proto_facts::Name;
+use proto_syntax::{Items, Span};
+
+// What a name has to mean where it stands.
+#[derive(Clone, Copy, Debug, PartialEq, Eq)]
+pub enum Needs {
+    Message,
+    MessageOrEnum,
+}
+
+// One of the identifiers of a name.
+#[derive(Debug, Drop)]
+pub struct Component {
+    pub text: Name,
+    pub span: Span,
+}
+
+// A name that stands in a file, with its scopes, innermost first.
+#[derive(Debug, Drop)]
+pub struct NameSite {
+    // The whole name, its leading dot included.
+    pub span: Span,
+    // Whether a dot stands before the first component.
+    pub is_absolute: bool,
+    pub components: Items<Component>,
+    pub scopes: Items<Name>,
+    pub needs: Needs,
+}

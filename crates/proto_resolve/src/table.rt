@@ -1,0 +1,126 @@
+// An index that holds its files, for tests.
+ghost use Rattle.std.specs.Prelude.{◌≡◌, ◌++◌, ℕ, List, filter, length, IfOk, OnOk, bytes_eq};
+ghost use Rattle.std.specs.List.{enumerate_from};
+ghost use Rattle.import_graph.specs.Paths.{IsInPathOrder};
+ghost use Rattle.proto_resolve.specs.Files.{all_decls, decl_at, refs_of};
+ghost use Rattle.proto_resolve.specs.Tables.{listed};
+
+use crate::index::Index;
+use crate::target::DeclRef;
+use import_graph::{Graph, NamedFacts};
+use proto_facts::{Decl, FileFacts};
+use proto_syntax::Items;
+use std::alloc::{AllocError, Global};
+use std::collections::BTreeMap;
+use std::marker::Model;
+
+// Files with their graph, and with their declarations by name.
+#[derive(Drop)]
+pub struct Table {
+    files: Vec<NamedFacts>,
+    graph: Graph,
+    names: BTreeMap<String, Vec<DeclRef>>,
+}
+
+impl Model for Table {
+    ghost use Rattle.std.specs.Prelude.{◌≡◌, ℕ, List};
+    ghost use Rattle.import_graph.specs.declared.paths.NamedFacts.{NamedFacts};
+    ghost use Rattle.import_graph.specs.Links.{graph_of};
+    ghost use Rattle.proto_resolve.specs.Files.{all_named};
+    ghost use Rattle.proto_resolve.specs.Tables.{listed};
+
+    ghost Value = { List NamedFacts };
+
+    ghost view = { λ t. t.files.items };
+
+    ghost invariant = { λ t. (t.graph ≡ graph_of t.files.items) × ((q : List ℕ) → listed t.names q ≡ all_named t.files.items q) };
+}
+
+fn push_decls(file: usize, decls: &[Decl], found: &mut Items<DeclRef>) -> Result<(), AllocError>
+    ensures { OnOk result (found.new ≡ found.old ++ refs_of file decls.now) }
+{
+    for (number, _) in decls.iter().enumerate() {
+        found.push(DeclRef { file, number })?;
+    }
+    Ok(())
+}
+
+fn all_decls(alloc: Global, files: &[NamedFacts]) -> Result<Items<DeclRef>, AllocError>
+    ensures { IfOk result (λ d. d ≡ all_decls files.now) }
+{
+    let mut found = Items::new(alloc);
+    for (number, file) in files.iter().enumerate() {
+        push_decls(number, file.facts.decls.as_slice(), &mut found)?;
+    }
+    Ok(found)
+}
+
+fn name_of(files: &[NamedFacts], decl: DeclRef) -> &str
+    ensures { result.now ≡ (let d = decl_at files.now decl in d.full_name) }
+{
+    match files.get(decl.file) {
+        None => "",
+        Some(file) => match file.facts.decls.as_slice().get(decl.number) {
+            None => "",
+            Some(decl) => decl.full_name.as_str(),
+        },
+    }
+}
+
+fn by_name(
+    alloc: Global,
+    files: &[NamedFacts],
+    decls: &[DeclRef],
+) -> Result<BTreeMap<String, Vec<DeclRef>>, AllocError>
+    ensures { IfOk result (λ m. (q : List ℕ) → listed m q ≡ filter (λ r. bytes_eq (let d = decl_at files.now r in d.full_name) q) decls.now) }
+{
+    let mut names: BTreeMap<String, Vec<DeclRef>> = BTreeMap::new(alloc);
+    for decl in decls {
+        let name = String::from_str(alloc, name_of(files, *decl))?;
+        names.entry(name)?.or_default().push(*decl)?;
+    }
+    Ok(names)
+}
+
+impl Table {
+    // The table of these files, which are in the order of their paths.
+    pub fn of(alloc: Global, files: Vec<NamedFacts>) -> Result<Table, AllocError>
+        requires { IsInPathOrder files.items }
+        ensures { IfOk result (λ t. t ≡ files.items) }
+    {
+        let graph = Graph::of(alloc, files.as_slice())?;
+        let decls = all_decls(alloc, files.as_slice())?;
+        let names = by_name(alloc, files.as_slice(), decls.as_slice())?;
+        Ok(Table {
+            files,
+            graph,
+            names,
+        })
+    }
+
+    // How many files there are.
+    pub fn len(&self) -> usize
+        ensures { result ≡ length self.now }
+    {
+        self.files.len()
+    }
+}
+
+impl Index for Table {
+    ghost files = { λ t. t };
+
+    fn graph(&self) -> &Graph {
+        &self.graph
+    }
+
+    fn facts(&self, file: usize) -> &FileFacts {
+        &self.files[file].facts
+    }
+
+    fn named(&self, full_name: &str) -> &[DeclRef] {
+        match self.names.get(full_name) {
+            Some(decls) => decls.as_slice(),
+            None => &[],
+        }
+    }
+}
