@@ -34,6 +34,12 @@ MESSAGES = {
     316: {"text too long"},
     317: {"not a proto3 file"},
     318: {"label not allowed here"},
+    401: {"unresolved name"},
+    402: {"wrong kind of name"},
+    403: {"import not found"},
+    404: {"import cycle"},
+    405: {"name declared in a visible file"},
+    406: {"name is a package"},
 }
 
 
@@ -93,15 +99,15 @@ class Files(unittest.TestCase):
                 ("S|foo { bar } message A { }|", ["1:0-25 204"]),
                 ("S|enum E { A = 0; message B { }; }|", ["1:16-30 202"]),
                 ("S|message M { oneof o { message m = 1 [(x) = { a: 1 }]; } }|", ["1:22-51 202", "1:51-53 202"]),
-                ("S|message M { oneof x = 1; rpc y = 2; }|", ["1:12-24 202"]),
+                ("S|message M { oneof x = 1; rpc y = 2; }|", ["1:12-24 202", "1:25-28 401"]),
             ]
         )
 
     def test_forms(self):
         self.expect(
             [
-                ("S|message M { optional x = 1; repeated optional optional y = 2; }|", ["1:12-27 202", "1:37-45 318"]),
-                ("S|message M { map x = 1; map<int32, map> y = 2; map<int32, map<int32, int32>> z = 3; }|", ["1:46-82 202"]),
+                ("S|message M { optional x = 1; repeated optional optional y = 2; }|", ["1:12-27 202", "1:37-45 318", "1:46-54 401"]),
+                ("S|message M { map x = 1; map<int32, map> y = 2; map<int32, map<int32, int32>> z = 3; }|", ["1:12-15 401", "1:34-37 401", "1:46-82 202"]),
                 ("S|message M { oneof o { map<int32, int32> y = 2; } }|", ["1:22-46 202"]),
                 (
                     "S|message M { int32 a = 1 []; int32 b = 2 [a] [b]; int32 c = 3 [a = { x: [1] }, b]; int32 d = 4 [ ( ]; }|",
@@ -130,7 +136,7 @@ class Files(unittest.TestCase):
                 ("S|" + "message A{" * 65 + "}" * 65, ["1:640-651 203"]),
                 (
                     "S|" + "message A{" * 63 + "enum E { Z = 0; message B { }; } oneof o { } extend X { extend Y { } } " + "}" * 63,
-                    ["1:646-660 203", "1:686-698 203"],
+                    ["1:646-660 203", "1:682-683 401", "1:686-698 203"],
                 ),
             ]
         )
@@ -158,7 +164,7 @@ class Files(unittest.TestCase):
                     ["2:12-13 301", "5:12-17 302", "6:12-17 302", "9:12-21 301", "10:12-15 303", "11:12-42 301"],
                 ),
                 ("S|message M { int32 a = 1; oneof o { int32 b = 01; } map<bool, bool> c = 0x1; }|", ["1:45-47 303", "1:71-74 303"]),
-                ("S|extend M { int32 a = 1; int32 b = 1; int32 c = 0; int32 d = 19000; }|", ["1:47-48 301", "1:60-65 302"]),
+                ("S|extend M { int32 a = 1; int32 b = 1; int32 c = 0; int32 d = 19000; }|", ["1:7-8 401", "1:47-48 301", "1:60-65 302"]),
             ]
         )
         digits = "9" * 100_000
@@ -214,7 +220,7 @@ class Files(unittest.TestCase):
             [
                 (
                     text,
-                    ["0:1-19 315", "2:7-16 313", "4:8-9 314", "6:11-19 318", "7:6-11 311", "8:12-20 318", "9:19-20 306", "11:22-32 309"],
+                    ["0:1-19 315", "1:7-16 403", "2:7-16 313", "2:7-16 403", "4:8-9 314", "6:11-19 318", "7:6-11 311", "8:12-20 318", "9:19-20 306", "11:22-32 309"],
                 ),
             ]
         )

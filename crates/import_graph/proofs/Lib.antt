@@ -11,3 +11,5 @@ pub mod Tours
 pub mod Placing
 pub mod Descents
 pub mod PathOrder
+pub mod Turns
+pub mod Mutual

@@ -1,7 +1,7 @@
 -- What a graph's lists say of its links.
 use Rattle.std.proofs.Common.{◌≡◌, ◌⊎◌, inl, inr, ⊎_elim, ◌↔◌, ℕ, zero, suc, ◌<◌, List, [], ◌∷◌, Bool, true, length, get_or, Option, Some, None, map, filter, nat_eq, refl, ap, sym, ◌∙◌, arith}
 use Rattle.std.specs.Prelude.{All, Contains, position, bytes_eq}
-use Rattle.std.specs.List.{filter_map, cons_option, starts_with}
+use Rattle.std.specs.List.{filter_map, cons_option, starts_with, list_all}
 use Rattle.std.proofs.lemmas.Bool.{cases_Bool}
 use Rattle.std.proofs.lemmas.List.{length-map}
 use Rattle.std.proofs.lemmas.List.Elements.{All-nil, All-cons, All-map}
@@ -10,7 +10,7 @@ use Rattle.import_graph.specs.declared.links.Link.{Link}
 use Rattle.import_graph.specs.declared.links.LinkedFile.{LinkedFile}
 use Rattle.import_graph.specs.declared.paths.NamedFacts.{NamedFacts}
 use Rattle.import_graph.specs.Paths.{file_named, slash}
-use Rattle.import_graph.specs.Links.{graph_of, links_of, links_at, linked, targets, public_targets}
+use Rattle.import_graph.specs.Links.{graph_of, links_of, links_at, linked, targets, public_targets, is_analysed, is_complete_in}
 use Rattle.import_graph.specs.Views.{Imports, ImportsPublicly}
 use Rattle.import_graph.specs.Walks.{AllWithin, Lists, Walk, stay, go}
 
@@ -79,6 +79,12 @@ pub public_at : (graph : List LinkedFile) (f : ℕ) → get_or (map public_targe
 public_at [] f = refl
 public_at (x ∷ xs) zero = refl
 public_at (x ∷ xs) (suc f) = public_at xs f
+
+-- the test of a file's links, file by file
+pub complete_at : (all graph : List LinkedFile) (f : ℕ) (d : Bool) → f < length graph → get_or (map (is_complete_in all) graph) f d ≡ list_all (λ l. is_analysed all l.target) (links_at graph f)
+complete_at all [] f d lt = absurd (omega arith)
+complete_at all (x ∷ xs) zero d lt = refl
+complete_at all (x ∷ xs) (suc f) d lt = complete_at all xs f d (omega arith)
 
 pub imports_listed : (graph : List LinkedFile) (a b : ℕ) → Lists (map targets graph) a b ↔ Imports graph a b
 imports_listed graph a b = (

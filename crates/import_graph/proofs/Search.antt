@@ -13,7 +13,7 @@ use Rattle.import_graph.specs.Fronts.{IsSeen, weight, VisitsAll}
 use Rattle.import_graph.specs.declared.front.Front.{Front}
 
 -- one more step at the end
-walk_snoc : {Step : ℕ → ℕ → Type 0} {a b c : ℕ} → Walk Step a b → Step b c → Walk Step a c
+pub walk_snoc : {Step : ℕ → ℕ → Type 0} {a b c : ℕ} → Walk Step a b → Step b c → Walk Step a c
 walk_snoc stay last = go last stay
 walk_snoc (go first rest) last = go first (walk_snoc rest last)
 

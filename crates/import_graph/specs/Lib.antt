@@ -7,3 +7,4 @@ pub mod Laws
 pub mod Fronts
 pub mod Tours
 pub mod Components
+pub mod Ties

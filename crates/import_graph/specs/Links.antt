@@ -1,6 +1,6 @@
 -- What the imports of files name.
-use Rattle.std.specs.Prelude.{◌≡◌, ℕ, List, [], Bool, true, false, Option, Some, None, slice_index_or, map, filter, length, All, not}
-use Rattle.std.specs.List.{filter_map}
+use Rattle.std.specs.Prelude.{◌≡◌, ℕ, List, [], Bool, true, false, Option, Some, None, slice_index_or, map, filter, length, vec_len, All, not}
+use Rattle.std.specs.List.{filter_map, list_all}
 use Rattle.proto_facts.specs.declared.fact.FileFacts.{FileFacts}
 use Rattle.proto_facts.specs.declared.fact.ImportFact.{ImportFact}
 use Rattle.proto_facts.specs.declared.fact.SyntaxFact.{SyntaxFact}
@@ -11,6 +11,8 @@ use Rattle.import_graph.specs.declared.links.LinkedFile.{LinkedFile}
 use Rattle.import_graph.specs.Paths.{file_named}
 use Rattle.import_graph.specs.Walks.{AllWithin}
 use Rattle.import_graph.specs.Components.{Descends}
+use Rattle.import_graph.specs.Ties.{IsTied}
+use Rattle.import_graph.specs.declared.components.Components.{Components}
 
 abbrev pub is_opaque : SyntaxFact → Bool
 is_opaque Proto3 = false
@@ -40,6 +42,10 @@ abbrev pub is_analysed : List LinkedFile → Option ℕ → Bool
 is_analysed graph None = false
 is_analysed graph (Some h) = not (slice_index_or (map (λ file. file.is_opaque) graph) h true)
 
+-- whether every import of a file names a file of the graph that is not opaque
+abbrev pub is_complete_in : List LinkedFile → LinkedFile → Bool
+is_complete_in graph file = list_all (λ l. is_analysed graph l.target) file.links
+
 -- the files that a file imports
 abbrev pub targets : LinkedFile → List ℕ
 targets file = filter_map (λ l. l.target) file.links
@@ -48,10 +54,14 @@ targets file = filter_map (λ l. l.target) file.links
 abbrev pub public_targets : LinkedFile → List ℕ
 public_targets file = filter_map (λ l. l.target) (filter (λ l. l.is_public) file.links)
 
--- each file that is imported is there, the files are listed for the search, and no import leads to a higher component
-pub record IsGraph (graph : List LinkedFile) (all : List (List ℕ)) (public_ones : List (List ℕ)) (components : List ℕ) : Type 0 where
+-- each file that is imported is there, the files are listed for the search, it is known which are complete, and the components
+-- are those of the imports
+pub record IsGraph (graph : List LinkedFile) (all : List (List ℕ)) (public_ones : List (List ℕ)) (flags : List Bool) (components : Components) : Type 0 where
   pub within : All (λ file. AllWithin (length graph) (targets file)) graph
   pub imports : all ≡ map targets graph
   pub public : public_ones ≡ map public_targets graph
-  pub numbered : length components ≡ length graph
-  pub descends : Descends (map targets graph) components
+  pub complete : flags ≡ map (is_complete_in graph) graph
+  pub numbered : vec_len components.numbers ≡ length graph
+  pub descends : Descends (map targets graph) components.numbers.items
+  pub flagged : vec_len components.tied ≡ length graph
+  pub tied : IsTied (map targets graph) components.numbers.items components.tied.items

@@ -1,10 +1,12 @@
-// Numbers for files, such that no import leads to a higher one: files on one cycle then have the same.
+// Numbers for files, such that no import leads to a higher one, and which files of one number lead to one another.
 
 ghost use Rattle.std.specs.Prelude.{◌≡◌, ◌<◌, ◌≤◌, ◌+◌, ℕ, [], List, length, vec_len, slice_index_or, IfOk, OnOk, All};
 ghost use Rattle.import_graph.specs.Walks.{AllWithin};
 ghost use Rattle.import_graph.specs.Components.{Descends};
+ghost use Rattle.import_graph.specs.Ties.{IsTied};
 
 use crate::paths::FileNo;
+use crate::ties::tied;
 use crate::tour::leaving_order;
 use sqlite_items::Items;
 use std::alloc::{AllocError, Global};
@@ -66,12 +68,23 @@ impl Placing {
     }
 }
 
-// A number for each file. No import leads to a higher one, so files that lead to one another have the same. The order of
-// a tour is to give others different ones; nothing but time depends on that.
-pub fn components(alloc: Global, imports: &[Items<FileNo>]) -> Result<Vec<usize>, AllocError>
+// What is known of the files that lead to one another.
+#[derive(Drop)]
+pub struct Components {
+    // A number for each file. No import leads to a higher one, so files that lead to one another have the same.
+    pub numbers: Vec<usize>,
+    // Files of one number lead to one another, where both are flagged here. The tour is ordered so that all are; nothing but
+    // time depends on that.
+    pub tied: Vec<bool>,
+}
+
+// The components of the files, which are given by their imports.
+pub fn components_of(alloc: Global, imports: &[Items<FileNo>]) -> Result<Components, AllocError>
     requires { All (AllWithin (length imports.now)) imports.now }
-    ensures length { IfOk result (λ numbers. vec_len numbers ≡ length imports.now) }
-    ensures descends { IfOk result (λ numbers. Descends imports.now numbers.items) }
+    ensures numbered { IfOk result (λ c. vec_len c.numbers ≡ length imports.now) }
+    ensures descends { IfOk result (λ c. Descends imports.now c.numbers.items) }
+    ensures flagged { IfOk result (λ c. vec_len c.tied ≡ length imports.now) }
+    ensures tied { IfOk result (λ c. IsTied imports.now c.numbers.items c.tied.items) }
 {
     let mut order = leaving_order(alloc, imports)?;
     order.reverse();
@@ -83,5 +96,9 @@ pub fn components(alloc: Global, imports: &[Items<FileNo>]) -> Result<Vec<usize>
     for (number, &file) in order.iter().enumerate() {
         placing.place_from(imports, file, none, number)?;
     }
-    Ok(placing.numbers)
+    let tied = tied(alloc, imports, placing.numbers.as_slice(), order.as_slice())?;
+    Ok(Components {
+        numbers: placing.numbers,
+        tied,
+    })
 }

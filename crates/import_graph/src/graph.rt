@@ -4,9 +4,9 @@ ghost use Rattle.std.specs.Prelude.{◌≡◌, ◌<◌, ◌↔◌, ℕ, List, le
 ghost use Rattle.std.specs.List.Sorted.{IsStrictlyIncreasing};
 ghost use Rattle.import_graph.specs.Paths.{IsInPathOrder};
 
-use crate::components::components;
+use crate::components::{Components, components_of};
 use crate::front::{add, numbers, reached};
-use crate::links::{LinkedFile, links_of};
+use crate::links::{LinkedFile, completeness, links_of};
 use crate::paths::{FileNo, NamedFacts};
 use sqlite_items::Items;
 use std::alloc::{AllocError, Global};
@@ -15,15 +15,17 @@ use std::marker::Model;
 /// The imports of the files of a workspace, which contracts see as the list of the files' links.
 ///
 /// Files and imports are numbers from 0: a file is its place in the list that the graph is made of, an import its place
-/// among the imports of its file. An `Err` comes only where memory was refused.
+/// among the imports of its file. The graph keeps the allocator that it is made with, and takes the memory of its answers
+/// from there. An `Err` comes only where memory was refused; the graph is unchanged then.
 #[derive(Drop)]
 pub struct Graph {
+    alloc: Global,
     files: Vec<LinkedFile>,
     imports: Vec<Items<FileNo>>,
     public: Vec<Items<FileNo>>,
-    // A number for each file: where that of an imported file is another than that of the importing one, no imports lead
-    // back.
-    components: Vec<usize>,
+    // For each file whether all that it imports is there and not opaque.
+    complete: Vec<bool>,
+    components: Components,
 }
 
 impl Model for Graph {
@@ -35,16 +37,17 @@ impl Model for Graph {
 
     ghost view = { λ g. g.files.items };
 
-    ghost invariant = { λ g. IsGraph g.files.items g.imports.items g.public.items g.components.items };
+    ghost invariant = { λ g. IsGraph g.files.items g.imports.items g.public.items g.complete.items g.components };
 }
 
 impl Graph {
-    ghost use Rattle.import_graph.specs.Links.{graph_of, links_at, target_at, is_analysed};
+    ghost use Rattle.import_graph.specs.Links.{graph_of, links_at, target_at};
     ghost use Rattle.std.specs.List.{list_all};
     ghost use Rattle.import_graph.specs.Closures.{view_of, reaches, closes_cycle, is_complete, is_closed};
     ghost use Rattle.import_graph.specs.Views.{Imports, Sees, Reaches, ClosesCycle, IsClosed};
 
-    /// The graph of files, which are given in the order of their paths' bytes, no path twice.
+    /// The graph of files, which are given in the order of their paths' bytes, no path twice. Each file's number is its
+    /// place in the list, from 0. `Err` where memory was refused.
     pub fn of(alloc: Global, files: &[NamedFacts]) -> Result<Graph, AllocError>
         requires { IsInPathOrder files.now }
         ensures { IfOk result (λ g. g ≡ graph_of files.now) }
@@ -58,16 +61,20 @@ impl Graph {
             public.push(links.public_targets(alloc)?)?;
             linked.push(links)?;
         }
-        let components = components(alloc, imports.as_slice())?;
+        let complete = completeness(alloc, linked.as_slice())?;
+        let components = components_of(alloc, imports.as_slice())?;
         Ok(Graph {
+            alloc,
             files: linked,
             imports,
             public,
+            complete,
             components,
         })
     }
 
-    /// The number of the file that an import names, if any. Takes no memory.
+    /// The number of the file that an import names: `None` where there is no such file. The import is given by its place,
+    /// from 0, among the imports of its file. Takes no memory.
     pub fn import_of(&self, file: FileNo, import: usize) -> Option<FileNo>
         requires file { file < length self.now }
         requires import { import < length (links_at self.now file) }
@@ -78,8 +85,8 @@ impl Graph {
     }
 
     /// The numbers of the files that a file sees, ascending, each once: itself, its imports, and what public imports lead
-    /// to from there.
-    pub fn visible(&self, alloc: Global, file: FileNo) -> Result<Vec<FileNo>, AllocError>
+    /// to from there. `Err` where memory was refused.
+    pub fn visible(&self, file: FileNo) -> Result<Vec<FileNo>, AllocError>
         requires { file < length self.now }
         ensures view { IfOk result (λ v. v.items ≡ view_of self.now file) }
         ensures ascending { IfOk result (λ v. IsStrictlyIncreasing v.items) }
@@ -87,72 +94,76 @@ impl Graph {
         ensures exact { IfOk result (λ v. (g : ℕ) → Contains v.items g ↔ Sees self.now file g) }
     {
         let _ = &self.files;
-        let view = self.seen(alloc, file)?;
+        let view = self.seen(file)?;
         Ok(view)
     }
 
-    fn seen(&self, alloc: Global, file: FileNo) -> Result<Vec<FileNo>, AllocError>
+    fn seen(&self, file: FileNo) -> Result<Vec<FileNo>, AllocError>
         requires { file < length self.now }
         ensures ascending { IfOk result (λ v. IsStrictlyIncreasing v.items) }
         ensures within { IfOk result (λ v. All (λ g. g < length self.now) v.items) }
         ensures exact { IfOk result (λ v. (g : ℕ) → Contains v.items g ↔ Sees self.now file g) }
     {
-        let mut seen = reached(alloc, self.public.as_slice(), self.imports[file].as_slice())?;
+        let mut seen = reached(
+            self.alloc,
+            self.public.as_slice(),
+            self.imports[file].as_slice(),
+        )?;
         add(&mut seen, file)?;
-        numbers(alloc, &seen)
+        numbers(self.alloc, &seen)
     }
 
-    /// Whether an import closes a cycle: imports lead from the file that it names back to the importing one. False where
-    /// the import names no file.
-    pub fn closes_cycle(
-        &self,
-        alloc: Global,
-        file: FileNo,
-        import: usize,
-    ) -> Result<bool, AllocError>
+    /// Whether an import closes a cycle: imports lead from the file that it names back to the importing one, or it names
+    /// that one itself. False where it names no file. The import is given by its place, from 0, among the imports of its
+    /// file. `Err` where memory was refused.
+    pub fn closes_cycle(&self, file: FileNo, import: usize) -> Result<bool, AllocError>
         requires file { file < length self.now }
         requires import { import < length (links_at self.now file) }
         ensures value { IfOk result (λ closes. closes ≡ closes_cycle self.now file (target_at self.now file import)) }
         ensures exact { IfOk result (λ closes. IsTrue closes ↔ ClosesCycle self.now file (target_at self.now file import)) }
     {
         match self.import_of(file, import) {
-            Some(target) => self.leads_back(alloc, file, target),
+            Some(target) => self.leads_back(file, target),
             None => Ok(false),
         }
     }
 
     // Whether imports lead back to a file from one that it imports.
-    fn leads_back(&self, alloc: Global, file: FileNo, target: FileNo) -> Result<bool, AllocError>
+    fn leads_back(&self, file: FileNo, target: FileNo) -> Result<bool, AllocError>
         requires file { file < length self.now }
         requires target { target < length self.now }
         requires imported { Imports self.now file target }
         ensures value { IfOk result (λ leads. leads ≡ reaches self.now target file) }
         ensures exact { IfOk result (λ leads. IsTrue leads ↔ Reaches self.now target file) }
     {
-        if self.components[target] == self.components[file] {
-            self.reaches(alloc, target, file)
-        } else {
-            Ok(false)
+        if self.components.numbers[target] != self.components.numbers[file] {
+            return Ok(false);
         }
+        if self.components.tied[target] && self.components.tied[file] {
+            return Ok(true);
+        }
+        // Never so after the tour that gave the numbers; a search would tell.
+        self.reaches(target, file)
     }
 
-    fn reaches(&self, alloc: Global, from: FileNo, to: FileNo) -> Result<bool, AllocError>
+    fn reaches(&self, from: FileNo, to: FileNo) -> Result<bool, AllocError>
         requires from { from < length self.now }
         requires to { to < length self.now }
         ensures value { IfOk result (λ found. found ≡ reaches self.now from to) }
         ensures exact { IfOk result (λ found. IsTrue found ↔ Reaches self.now from to) }
     {
-        let seen = reached(alloc, self.imports.as_slice(), &[from])?;
+        let seen = reached(self.alloc, self.imports.as_slice(), &[from])?;
         Ok(seen.contains(&to))
     }
 
-    /// Whether a file's view is closed: every import of every file that it sees names a file that is not opaque.
-    pub fn is_closed(&self, alloc: Global, file: FileNo) -> Result<bool, AllocError>
+    /// Whether a file's view is closed: every import of every file that it sees names a file that is not opaque. `Err`
+    /// where memory was refused.
+    pub fn is_closed(&self, file: FileNo) -> Result<bool, AllocError>
         requires { file < length self.now }
         ensures value { IfOk result (λ closed. closed ≡ is_closed self.now file) }
         ensures exact { IfOk result (λ closed. IsTrue closed ↔ IsClosed self.now file) }
     {
-        let seen = self.visible(alloc, file)?;
+        let seen = self.visible(file)?;
         Ok(self.are_complete(seen.as_slice()))
     }
 
@@ -174,23 +185,6 @@ impl Graph {
         requires { file < length self.now }
         ensures { result ≡ is_complete self.now file }
     {
-        for link in self.files[file].links.as_slice() {
-            if !self.is_analysed(link.target) {
-                return false;
-            }
-        }
-        true
-    }
-
-    fn is_analysed(&self, target: Option<FileNo>) -> bool
-        ensures { result ≡ is_analysed self.now target }
-    {
-        match target {
-            Some(file) => match self.files.get(file) {
-                Some(file) => !file.is_opaque,
-                None => false,
-            },
-            None => false,
-        }
+        self.complete[file]
     }
 }

@@ -1,10 +1,13 @@
 //! Who sees whom: which file each import names, which files a file sees, and which imports close cycles.
 //!
 //! `Graph::of` takes the files of a workspace, each with its path and its facts, in the order of their paths. A file is a
-//! number from then on, its place in that list. An import names the file whose path is its text. A file sees itself, the
-//! files that it imports, and what public imports lead to from there. The definitions are in specs/: Links.antt says what
-//! imports name, Views.antt what is seen and reached as walks from file to file, and Closures.antt gives the same as
-//! functions of the graph; the laws say that both agree.
+//! number from then on, its place in that list, counted from 0. An import names the file whose path is its text. A file
+//! sees itself, the files that it imports, and what public imports lead to from there. The definitions are in specs/:
+//! Links.antt says what imports name, Views.antt what is seen and reached as walks from file to file, and Closures.antt
+//! gives the same as functions of the graph; the laws say that both agree.
+//!
+//! Which files lead to one another is found once, when the graph is made, so that whether an import closes a cycle is
+//! looked up. What a file sees is searched when it is asked for, in time that grows with what the search meets.
 #![tactic(auto)]
 
 mod components;
@@ -15,6 +18,7 @@ mod links;
 mod paths;
 #[cfg(test)]
 mod tests;
+mod ties;
 mod tour;
 
 pub use graph::Graph;

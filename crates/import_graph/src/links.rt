@@ -1,8 +1,8 @@
 // What the imports of files name.
 
-ghost use Rattle.std.specs.Prelude.{◌≡◌, ℕ, List, IfOk};
+ghost use Rattle.std.specs.Prelude.{◌≡◌, ℕ, List, IfOk, map};
 ghost use Rattle.import_graph.specs.Paths.{IsInPathOrder};
-ghost use Rattle.import_graph.specs.Links.{targets, public_targets, links_of, linked};
+ghost use Rattle.import_graph.specs.Links.{targets, public_targets, links_of, linked, is_analysed, is_complete_in};
 
 use crate::paths::{FileNo, NamedFacts, file_named};
 use proto_facts::{FileFacts, ImportFact, SyntaxFact};
@@ -12,7 +12,7 @@ use std::alloc::{AllocError, Global};
 /// What an import names.
 #[derive(Clone, Copy, Debug, PartialEq, Eq)]
 pub struct Link {
-    /// The number of the file that the import names, if any.
+    /// The number, from 0, of the file that the import names: `None` where there is no such file.
     pub target: Option<FileNo>,
     /// Whether what is imported is visible to those who import the importing file.
     pub is_public: bool,
@@ -82,4 +82,38 @@ pub fn links_of(
         links,
         is_opaque: matches!(facts.syntax, SyntaxFact::Opaque),
     })
+}
+
+fn is_analysed(files: &[LinkedFile], target: Option<FileNo>) -> bool
+    ensures { result ≡ is_analysed files.now target }
+{
+    match target {
+        Some(file) => match files.get(file) {
+            Some(file) => !file.is_opaque,
+            None => false,
+        },
+        None => false,
+    }
+}
+
+fn is_complete(files: &[LinkedFile], file: &LinkedFile) -> bool
+    ensures { result ≡ is_complete_in files.now file.now }
+{
+    for link in file.links.as_slice() {
+        if !is_analysed(files, link.target) {
+            return false;
+        }
+    }
+    true
+}
+
+// For each file whether every one of its imports names one of the files that is not opaque.
+pub fn completeness(alloc: Global, files: &[LinkedFile]) -> Result<Vec<bool>, AllocError>
+    ensures { IfOk result (λ flags. flags.items ≡ map (is_complete_in files.now) files.now) }
+{
+    let mut flags = Vec::with_capacity(alloc, files.len())?;
+    for file in files {
+        flags.push(is_complete(files, file))?;
+    }
+    Ok(flags)
 }

@@ -15,8 +15,8 @@ pub type FileNo = usize;
 /// A file of the workspace: its path, and what its text says by itself.
 #[derive(Drop)]
 pub struct NamedFacts {
-    /// The path from the workspace's root, its parts joined by `/`; one that begins with `/` is of a file outside, which
-    /// no import names.
+    /// The path in UTF-8 from the workspace's root, its parts joined by `/`; one that begins with `/` is of a file outside,
+    /// which no import names.
     pub path: Name,
     /// The facts of the file's text.
     pub facts: FileFacts,

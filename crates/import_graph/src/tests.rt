@@ -39,7 +39,7 @@ fn show_import(
         Some(target) => write!(line, " {target}")?,
         None => write!(line, " -")?,
     }
-    if graph.closes_cycle(rt.alloc(), file, import)? {
+    if graph.closes_cycle(file, import)? {
         write!(line, "!")?;
     }
     Ok(())
@@ -60,11 +60,11 @@ fn show_file(
     for import in 0..files[file].facts.imports.as_slice().len() {
         show_import(rt, graph, file, import, line)?;
     }
-    let view = graph.visible(rt.alloc(), file)?;
+    let view = graph.visible(file)?;
     for seen in view.as_slice() {
         write!(line, " +{seen}")?;
     }
-    let closed = graph.is_closed(rt.alloc(), file)?;
+    let closed = graph.is_closed(file)?;
     let end = match (closed, graph.are_complete(view.as_slice())) {
         (true, true) => ".\n",
         (false, false) => "\n",
@@ -91,8 +91,11 @@ fn shown(rt: &HostRuntime, texts: &[(&str, &str)]) -> Result<String, Fail> {
     Ok(lines)
 }
 
-// Shows the graph of each list of texts, and compares.
-fn compare(rt: &HostRuntime, rows: &[(&[(&str, &str)], &str)]) -> Result<String, Fail> {
+// Files, each a path and a text, and what is shown of their graph.
+type Case = (&'static [(&'static str, &'static str)], &'static str);
+
+// Shows the graph of each case, and tells those that differ.
+fn compare(rt: &HostRuntime, rows: &[Case]) -> Result<String, Fail> {
     let mut wrong = String::new(rt.alloc());
     for (texts, wanted) in rows {
         let lines = shown(rt, texts)?;
@@ -103,124 +106,187 @@ fn compare(rt: &HostRuntime, rows: &[(&[(&str, &str)], &str)]) -> Result<String,
     Ok(wrong)
 }
 
+const VIEWS: &[Case] = &[
+    // What c imports plainly is not seen from a, nor by b.
+    (
+        &[
+            (
+                "a.proto",
+                "import \"b.proto\";\nmessage A {\n  C c = 1;\n  D d = 2;\n}\n",
+            ),
+            ("b.proto", "import public \"c.proto\";\n"),
+            ("c.proto", "import \"d.proto\";\nmessage C { D d = 1; }\n"),
+            ("d.proto", "message D { }\n"),
+        ],
+        "0: 1 +0 +1 +2.\n1: 2 +1 +2.\n2: 3 +2 +3.\n3: +3.\n",
+    ),
+    (
+        &[
+            ("f1.proto", "import \"f2.proto\";\n"),
+            ("f2.proto", "import \"f3.proto\";\n"),
+            ("f3.proto", "import \"f4.proto\";\n"),
+            ("f4.proto", "message M4 { M4 a = 1; }\n"),
+        ],
+        "0: 1 +0 +1.\n1: 2 +1 +2.\n2: 3 +2 +3.\n3: +3.\n",
+    ),
+    // An import of nothing opens the views of those that see it, and of no others.
+    (
+        &[
+            ("a.proto", "import \"b.proto\";\n"),
+            ("b.proto", "import \"none.proto\";\n"),
+            ("c.proto", "import \"a.proto\";\n"),
+        ],
+        "0: 1 +0 +1\n1: - +1\n2: 0 +0 +2.\n",
+    ),
+    (
+        &[
+            (
+                "k.proto",
+                "import \"m.proto\";\nimport \"m.proto\";\npackage k;\n",
+            ),
+            ("m.proto", "package k.M;\nenum E { a = 0; }\n"),
+        ],
+        "0: 1 1 +0 +1.\n1: +1.\n",
+    ),
+    // No import reaches a file outside, which may import.
+    (
+        &[
+            ("/untitled:One", "import \"a.proto\";\n"),
+            ("a.proto", "import \"/untitled:One\";\nimport \"\";\n"),
+        ],
+        "0: 1 +0 +1\n1: - - +1\n",
+    ),
+    // An import of a file of another syntax opens the view too.
+    (
+        &[
+            ("a.proto", "import \"old.proto\";\n"),
+            ("old.proto", "message Old { required int32 a = 1; }\n"),
+        ],
+        "0: 1 +0 +1\n1: +1.\n",
+    ),
+    (&[("b.proto", ""), ("b.proto", "")], "not in order"),
+];
+
 #[test]
 fn what_is_seen(rt: HostRuntime) -> Result<(), Fail> {
-    let rows: [(&[(&str, &str)], &str); 6] = [
-        // What c imports plainly is not seen from a, nor by b.
-        (
-            &[
-                (
-                    "a.proto",
-                    "import \"b.proto\";\nmessage A {\n  C c = 1;\n  D d = 2;\n}\n",
-                ),
-                ("b.proto", "import public \"c.proto\";\n"),
-                ("c.proto", "import \"d.proto\";\nmessage C { D d = 1; }\n"),
-                ("d.proto", "message D { }\n"),
-            ],
-            "0: 1 +0 +1 +2.\n1: 2 +1 +2.\n2: 3 +2 +3.\n3: +3.\n",
-        ),
-        (
-            &[
-                ("f1.proto", "import \"f2.proto\";\n"),
-                ("f2.proto", "import \"f3.proto\";\n"),
-                ("f3.proto", "import \"f4.proto\";\n"),
-                ("f4.proto", "message M4 { M4 a = 1; }\n"),
-            ],
-            "0: 1 +0 +1.\n1: 2 +1 +2.\n2: 3 +2 +3.\n3: +3.\n",
-        ),
-        // An import of nothing opens the views of those that see it, and of no others.
-        (
-            &[
-                ("a.proto", "import \"b.proto\";\n"),
-                ("b.proto", "import \"none.proto\";\n"),
-                ("c.proto", "import \"a.proto\";\n"),
-            ],
-            "0: 1 +0 +1\n1: - +1\n2: 0 +0 +2.\n",
-        ),
-        (
-            &[
-                (
-                    "k.proto",
-                    "import \"m.proto\";\nimport \"m.proto\";\npackage k;\n",
-                ),
-                ("m.proto", "package k.M;\nenum E { a = 0; }\n"),
-            ],
-            "0: 1 1 +0 +1.\n1: +1.\n",
-        ),
-        // No import reaches a file outside, which may import.
-        (
-            &[
-                ("/untitled:One", "import \"a.proto\";\n"),
-                ("a.proto", "import \"/untitled:One\";\nimport \"\";\n"),
-            ],
-            "0: 1 +0 +1\n1: - - +1\n",
-        ),
-        (&[("b.proto", ""), ("b.proto", "")], "not in order"),
-    ];
-    assert_eq!(rt; compare(&rt, &rows)?.as_str(), "");
+    assert_eq!(rt; compare(&rt, VIEWS)?.as_str(), "");
     Ok(())
 }
 
+const CYCLES: &[Case] = &[
+    (
+        &[
+            ("old.proto", "message Old { required int32 a = 1; }\n"),
+            (
+                "x.proto",
+                "import \"none.proto\";\nimport \"x.proto\";\nimport \"old.proto\";\nmessage X { Gone g = 1; }\n",
+            ),
+        ],
+        "0: +0.\n1: - 1! 0 +0 +1\n",
+    ),
+    // A file that only leads to a cycle is on none.
+    (
+        &[
+            ("a.proto", "import \"b.proto\";\n"),
+            ("b.proto", "import public \"a.proto\";\n"),
+            ("c.proto", "import \"a.proto\";\n"),
+        ],
+        "0: 1! +0 +1.\n1: 0! +0 +1.\n2: 0 +0 +2.\n",
+    ),
+    (
+        &[
+            ("a.proto", "import \"b.proto\";\n"),
+            ("b.proto", "import \"c.proto\";\n"),
+            ("c.proto", "import \"a.proto\";\n"),
+        ],
+        "0: 1! +0 +1.\n1: 2! +1 +2.\n2: 0! +0 +2.\n",
+    ),
+    (
+        &[
+            ("a.proto", "import \"b.proto\";\nimport weak \"c.proto\";\n"),
+            ("b.proto", "import public \"d.proto\";\n"),
+            ("c.proto", "import public \"d.proto\";\n"),
+            ("d.proto", ""),
+        ],
+        "0: 1 2 +0 +1 +2 +3.\n1: 3 +1 +3.\n2: 3 +2 +3.\n3: +3.\n",
+    ),
+    (
+        &[
+            ("a.proto", "import \"b.proto\";\n"),
+            ("b.proto", "import public \"c.proto\";\n"),
+            ("c.proto", "import public \"d.proto\";\n"),
+            ("d.proto", "import public \"b.proto\";\n"),
+        ],
+        "0: 1 +0 +1 +2 +3.\n1: 2! +1 +2 +3.\n2: 3! +1 +2 +3.\n3: 1! +1 +2 +3.\n",
+    ),
+    // An import from one cycle to another closes none.
+    (
+        &[
+            ("a.proto", "import \"b.proto\";\n"),
+            ("b.proto", "import \"a.proto\";\nimport \"c.proto\";\n"),
+            ("c.proto", "import \"d.proto\";\n"),
+            ("d.proto", "import \"c.proto\";\n"),
+        ],
+        "0: 1! +0 +1.\n1: 0! 2 +0 +1 +2.\n2: 3! +2 +3.\n3: 2! +2 +3.\n",
+    ),
+];
+
 #[test]
 fn which_imports_close_cycles(rt: HostRuntime) -> Result<(), Fail> {
-    let rows: [(&[(&str, &str)], &str); 6] = [
-        (
-            &[
-                ("old.proto", "message Old { required int32 a = 1; }\n"),
-                (
-                    "x.proto",
-                    "import \"none.proto\";\nimport \"x.proto\";\nimport \"old.proto\";\nmessage X { Gone g = 1; }\n",
-                ),
-            ],
-            "0: +0.\n1: - 1! 0 +0 +1\n",
-        ),
-        // A file that only leads to a cycle is on none.
-        (
-            &[
-                ("a.proto", "import \"b.proto\";\n"),
-                ("b.proto", "import public \"a.proto\";\n"),
-                ("c.proto", "import \"a.proto\";\n"),
-            ],
-            "0: 1! +0 +1.\n1: 0! +0 +1.\n2: 0 +0 +2.\n",
-        ),
-        (
-            &[
-                ("a.proto", "import \"b.proto\";\n"),
-                ("b.proto", "import \"c.proto\";\n"),
-                ("c.proto", "import \"a.proto\";\n"),
-            ],
-            "0: 1! +0 +1.\n1: 2! +1 +2.\n2: 0! +0 +2.\n",
-        ),
-        (
-            &[
-                ("a.proto", "import \"b.proto\";\nimport weak \"c.proto\";\n"),
-                ("b.proto", "import public \"d.proto\";\n"),
-                ("c.proto", "import public \"d.proto\";\n"),
-                ("d.proto", ""),
-            ],
-            "0: 1 2 +0 +1 +2 +3.\n1: 3 +1 +3.\n2: 3 +2 +3.\n3: +3.\n",
-        ),
-        (
-            &[
-                ("a.proto", "import \"b.proto\";\n"),
-                ("b.proto", "import public \"c.proto\";\n"),
-                ("c.proto", "import public \"d.proto\";\n"),
-                ("d.proto", "import public \"b.proto\";\n"),
-            ],
-            "0: 1 +0 +1 +2 +3.\n1: 2! +1 +2 +3.\n2: 3! +1 +2 +3.\n3: 1! +1 +2 +3.\n",
-        ),
-        // An import from one cycle to another closes none.
-        (
-            &[
-                ("a.proto", "import \"b.proto\";\n"),
-                ("b.proto", "import \"a.proto\";\nimport \"c.proto\";\n"),
-                ("c.proto", "import \"d.proto\";\n"),
-                ("d.proto", "import \"c.proto\";\n"),
-            ],
-            "0: 1! +0 +1.\n1: 0! 2 +0 +1 +2.\n2: 3! +2 +3.\n3: 2! +2 +3.\n",
-        ),
-    ];
-    assert_eq!(rt; compare(&rt, &rows)?.as_str(), "");
+    assert_eq!(rt; compare(&rt, CYCLES)?.as_str(), "");
+    Ok(())
+}
+
+// How many files the long ring has.
+const RING: u32 = 20_000;
+
+// Files that each import the next two, the last ones the first ones.
+fn ring(rt: &HostRuntime) -> Result<Vec<NamedFacts>, Fail> {
+    let mut files = Vec::new(rt.alloc());
+    for number in 0..RING {
+        let next = (number + 1) % RING;
+        let second = (number + 2) % RING;
+        let path = format!(in rt.alloc(); "{number:0>5}.proto")?;
+        let imports = format!(in rt.alloc();
+            "import \"{next:0>5}.proto\";\nimport \"{second:0>5}.proto\";\n"
+        )?;
+        files.push(file(rt, path.as_str(), imports.as_str())?)?;
+    }
+    Ok(files)
+}
+
+// How many imports of a file close cycles.
+fn closing_imports(graph: &Graph, files: &[NamedFacts], file: FileNo) -> Result<u32, Fail>
+    requires graph { graph.now ≡ graph_of files.now }
+    requires file { file < length files.now }
+{
+    let mut count: u32 = 0;
+    for import in 0..files[file].facts.imports.as_slice().len() {
+        if graph.closes_cycle(file, import)? {
+            count = count.wrapping_add(1);
+        }
+    }
+    Ok(count)
+}
+
+// How many imports of all files close cycles: none where the files are not in order.
+fn closing_imports_of_all(rt: &HostRuntime, files: &[NamedFacts]) -> Result<u32, Fail> {
+    if !are_in_path_order(files) {
+        return Ok(0);
+    }
+    let graph = Graph::of(rt.alloc(), files)?;
+    let mut count: u32 = 0;
+    for file in 0..files.len() {
+        count = count.wrapping_add(closing_imports(&graph, files, file)?);
+    }
+    Ok(count)
+}
+
+// A search of the ring for each import would outlast the time that a test has.
+#[test]
+fn imports_of_a_long_ring_close_cycles(rt: HostRuntime) -> Result<(), Fail> {
+    let files = ring(&rt)?;
+    assert_eq!(rt; closing_imports_of_all(&rt, files.as_slice())?, 2 * RING);
     Ok(())
 }
 

@@ -1,8 +1,8 @@
 // The order in which a depth-first tour of all files leaves them. The files that import a file are gone to from there.
 
-ghost use Rattle.std.specs.Prelude.{◌≡◌, ◌<◌, ◌≤◌, ◌+◌, [], List, length, vec_len, IfOk, OnOk, All};
+ghost use Rattle.std.specs.Prelude.{◌≡◌, ◌<◌, ◌≤◌, ◌+◌, [], ◌∷◌, ◌++◌, List, slice_index_or, slice_set, length, vec_len, IfOk, OnOk, All};
 ghost use Rattle.import_graph.specs.Walks.{AllWithin};
-ghost use Rattle.import_graph.specs.Tours.{IsTour, IsWithin, work};
+ghost use Rattle.import_graph.specs.Tours.{IsTour, IsWithin, work, AddsOnly, IsTurned};
 
 use crate::paths::FileNo;
 use sqlite_items::Items;
@@ -26,6 +26,7 @@ fn add_to(rows: &mut Vec<Items<FileNo>>, at: FileNo, file: FileNo) -> Result<(),
     requires within { All (AllWithin (vec_len rows.old)) rows.old.items }
     ensures length { OnOk result (vec_len rows.new ≡ vec_len rows.old) }
     ensures within { OnOk result (All (AllWithin (vec_len rows.old)) rows.new.items) }
+    ensures adds { OnOk result (rows.new.items ≡ slice_set rows.old.items at (slice_index_or rows.old.items at [] ++ file ∷ [])) }
 {
     rows[at].push(file)
 }
@@ -40,6 +41,7 @@ fn add_to_all(
     requires within { All (AllWithin (vec_len rows.old)) rows.old.items }
     ensures length { OnOk result (vec_len rows.new ≡ vec_len rows.old) }
     ensures within { OnOk result (All (AllWithin (vec_len rows.old)) rows.new.items) }
+    ensures adds { OnOk result (AddsOnly rows.old.items rows.new.items targets.now file) }
 {
     for &target in targets {
         add_to(rows, target, file)?;
@@ -48,10 +50,11 @@ fn add_to_all(
 }
 
 // For each file those that import it.
-fn importers(alloc: Global, imports: &[Items<FileNo>]) -> Result<Vec<Items<FileNo>>, AllocError>
+pub fn importers(alloc: Global, imports: &[Items<FileNo>]) -> Result<Vec<Items<FileNo>>, AllocError>
     requires { All (AllWithin (length imports.now)) imports.now }
     ensures length { IfOk result (λ rows. vec_len rows ≡ length imports.now) }
     ensures within { IfOk result (λ rows. All (AllWithin (vec_len rows)) rows.items) }
+    ensures turned { IfOk result (λ rows. IsTurned imports.now rows.items) }
 {
     let mut rows = empty_rows(alloc, imports.len())?;
     for (file, targets) in imports.iter().enumerate() {

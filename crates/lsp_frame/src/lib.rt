@@ -26,7 +26,7 @@ pub use laws::{header_is_lines, stream_is_frames, stream_shows_its_fault, writte
 pub use memory::{MemSink, MemSource};
 pub use reader::{Frame, FrameReader, LastAnswer};
 pub use to_write::ToWrite;
-pub use writer::write_frame;
+pub use writer::{write_bytes, write_frame};
 
 #[cfg(test)]
 mod tests;

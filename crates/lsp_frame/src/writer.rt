@@ -84,3 +84,26 @@ pub fn write_frame<K: ByteSink>(writer: &mut K, body: &[u8]) -> Result<(), Write
     write_part(writer, body, headed)?;
     Ok(())
 }
+
+/// Writes these bytes.
+///
+/// It takes no memory. At an `Err` the sink failed, and exactly `written` of the bytes went out, from their front.
+pub fn write_bytes<K: ByteSink>(writer: &mut K, bytes: &[u8]) -> Result<(), WriteFault>
+    ensures ok { OnOk result (Appends (K.written writer.old) (K.written writer.new) bytes.now) }
+
+    // Where the writer fails, exactly that many of the bytes went out.
+    ensures err { IfErr result (λ fault. SendsPrefix (K.written writer.old) (K.written writer.new) bytes.now fault.written) }
+
+    // It fails only where the writer failed in the call.
+    ensures cause { OnErr result (HasFailed (K.counts writer.old) (K.counts writer.new)) }
+
+    // It ends well only where no error came in the call.
+    ensures calm { OnOk result (NoError (K.counts writer.old) (K.counts writer.new)) }
+    ensures counts { NoneFell (K.counts writer.old) (K.counts writer.new) }
+
+    // After an error of the writer no other write is made: a call meets one at most.
+    ensures once { (K.counts writer.new).errors ≤ (K.counts writer.old).errors + 1 }
+{
+    write_part(writer, bytes, 0)?;
+    Ok(())
+}

@@ -1,10 +1,27 @@
 -- What is known of a body that is a request or a notification.
-use Rattle.std.proofs.Common.{◌≡◌, [], ◌∷◌, Bool, true, false, not, ◌&&◌, ◌||◌, is_none, Option, Some, None, option_map, unwrap_or, refl, codes}
+use Rattle.std.proofs.Common.{◌≡◌, ◌↔◌, [], ◌∷◌, Bool, true, false, not, ◌&&◌, ◌||◌, is_none, Option, Some, None, option_map, unwrap_or, refl, codes}
 use Rattle.serde_json.specs.Data.{Data}
 use Rattle.lsp_rpc.specs.Body.{json_of, has}
 use Rattle.lsp_rpc.specs.Message.{IdData, request, notification, response, invalid_request, parse_error, first_case, call_of, message_in, id_of, method_of, params_of, is_object, is_response, has_bad_id, is_version_two, names_method}
-use Rattle.lsp_rpc.specs.Laws.{IsRequest, RequestsAreCalls, NotificationsHaveNoId}
+use Rattle.lsp_rpc.specs.Laws.{OnlyJsonIsRead, IsRequest, RequestsAreCalls, NotificationsHaveNoId}
 use Rattle.lsp_rpc.specs.declared.method.Method.{Method}
+
+not_unread : (object answer bad version named : Bool) (i : Option IdData) (m : Option Method) (p : Data)
+    → first_case ((not object, invalid_request None) ∷ (answer, response) ∷ (bad, invalid_request None) ∷ (not version || not named, invalid_request i) ∷ []) (call_of i m p) ≡ parse_error → ⊥
+not_unread false answer bad version named i m p h = cc
+not_unread true true bad version named i m p h = cc
+not_unread true false true version named i m p h = cc
+not_unread true false false false named i m p h = cc
+not_unread true false false true false i m p h = cc
+not_unread true false false true true None m p h = cc
+not_unread true false false true true (Some j) m p h = cc
+
+only_json : (o : Option Data) → (unwrap_or (option_map message_in o) parse_error ≡ parse_error) ↔ (o ≡ None)
+only_json None = (λ h. refl, λ h. refl)
+only_json (Some d) = (λ h. absurd (not_unread (is_object d) (is_response d) (has_bad_id d) (is_version_two d) (names_method d) (id_of d) (method_of d) (params_of d) h), λ h. cc)
+
+pub parse_errors : OnlyJsonIsRead
+parse_errors body = only_json (json_of body)
 
 record Passes (version named : Bool) (i : Option IdData) (m : Option Method) (p : Data) (id : IdData) (method : Option Method) (params : Data) : Type 0 where
   version_is : version ≡ true

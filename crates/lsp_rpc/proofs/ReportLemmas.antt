@@ -1,11 +1,13 @@
--- The tokens of the diagnostics of a report.
+-- The tokens of the diagnostics of a report, and of the reports of a workspace.
 use Rattle.std.proofs.Common.{◌≡◌, List, [], ◌∷◌, ◌++◌, map, flat_map, refl, ap, ◌∙◌, append_assoc}
 use Rattle.json.specs.Token.{Token, end_array}
 use Rattle.json.specs.Tree.{json_tokens, items_tokens}
 use Rattle.serde_json.specs.View.{items_of}
 use Rattle.serde_json.specs.Written.{outline, items_outline}
 use Rattle.lsp_rpc.specs.Diagnostic.{diagnostic_value, diagnostic_view}
+use Rattle.lsp_rpc.specs.Workspace.{document_value, document_view}
 use Rattle.lsp_rpc.specs.declared.diagnostic.Diagnostic.{Diagnostic}
+use Rattle.lsp_rpc.specs.declared.workspace.DocumentReport.{DocumentReport}
 
 abbrev pub diagnostic_tokens : Diagnostic → List Token
 diagnostic_tokens d = json_tokens (outline (diagnostic_value (diagnostic_view d)))
@@ -17,3 +19,14 @@ items_tokens_of ds = flat_map diagnostic_tokens ds
 pub items_tokens-closed : (ds : List Diagnostic) → items_tokens_of ds ++ end_array ∷ [] ≡ items_tokens (items_outline (items_of (map diagnostic_value (map diagnostic_view ds))))
 items_tokens-closed [] = refl
 items_tokens-closed (d ∷ ds) = append_assoc (diagnostic_tokens d) (items_tokens_of ds) (end_array ∷ []) ∙ ap (λ ts. diagnostic_tokens d ++ ts) (items_tokens-closed ds)
+
+abbrev pub document_tokens : DocumentReport → List Token
+document_tokens r = json_tokens (outline (document_value (document_view r)))
+
+abbrev pub documents_tokens_of : List DocumentReport → List Token
+documents_tokens_of rs = flat_map document_tokens rs
+
+-- with the closing bracket
+pub documents_tokens-closed : (rs : List DocumentReport) → documents_tokens_of rs ++ end_array ∷ [] ≡ items_tokens (items_outline (items_of (map document_value (map document_view rs))))
+documents_tokens-closed [] = refl
+documents_tokens-closed (r ∷ rs) = append_assoc (document_tokens r) (documents_tokens_of rs) (end_array ∷ []) ∙ ap (λ ts. document_tokens r ++ ts) (documents_tokens-closed rs)

@@ -1,5 +1,5 @@
 -- The texts of replies, byte for byte.
-use Rattle.std.proofs.Common.{◌≡◌, ℕ, List, [], ◌∷◌, ◌++◌, true, false, map, refl, sym, ap, ◌∙◌, append_assoc, codes}
+use Rattle.std.proofs.Common.{◌≡◌, ℕ, List, [], ◌∷◌, ◌++◌, true, false, map, refl, sym, ap, ap₂, ◌∙◌, append_assoc, codes}
 use Rattle.std.specs.Fmt.{digits}
 use Rattle.std.specs.List.{join_with_byte}
 use Rattle.serde_json.specs.Data.{Data, Items, number, unsigned, string, array, object, member, no_members}
@@ -8,7 +8,8 @@ use Rattle.serde_json.specs.Written.{compact_text, items_text}
 use Rattle.serde_json.proofs.OnLiterals.{serde_json_on_literals}
 use Rattle.lsp_rpc.specs.Reply.{id_or_null, error_value}
 use Rattle.lsp_rpc.specs.Diagnostic.{DiagnosticData, range_value, severity_number, diagnostic_value}
-use Rattle.lsp_rpc.specs.Laws.{ResultText, error_object_text, ErrorText, InitializeText, DiagnosticText, ReportText}
+use Rattle.lsp_rpc.specs.Workspace.{DocumentData, version_value, document_value, workspace_value}
+use Rattle.lsp_rpc.specs.Laws.{ResultText, error_object_text, ErrorText, InitializeText, DiagnosticText, ReportText, document_text, WorkspaceText}
 use Rattle.lsp_rpc.specs.declared.error_code.ErrorCode.{ErrorCode}
 use Rattle.lsp_rpc.specs.declared.error_code.ErrorCode.TheVariants.{ParseError, InvalidRequest, MethodNotFound, InvalidParams, ServerNotInitialized}
 
@@ -54,13 +55,13 @@ diagnostic_spelled code message range severity = simp append_assoc
 pub diagnostic_text : DiagnosticText
 diagnostic_text d = diagnostic_spelled (number (unsigned d.code)) (string d.message) (range_value d.range) (number (unsigned (severity_number d.severity)))
 
-later_items : (f : DiagnosticData → Data) (x : List ℕ) (ds : List DiagnosticData)
+later_items : {T : Type 0} (f : T → Data) (x : List ℕ) (ds : List T)
     → x ++ items_text true (items_of (map f ds)) ≡ join_with_byte 44 (x ∷ map (λ d. compact_text (f d)) ds) ++ 93 ∷ []
 later_items f x [] = refl
 later_items f x (d ∷ ds) =
     ap (λ s. x ++ 44 ∷ s) (later_items f (compact_text (f d)) ds) ∙ sym (append_assoc x (44 ∷ join_with_byte 44 (compact_text (f d) ∷ map (λ e. compact_text (f e)) ds)) (93 ∷ []))
 
-joined_items : (f : DiagnosticData → Data) (ds : List DiagnosticData) → items_text false (items_of (map f ds)) ≡ join_with_byte 44 (map (λ d. compact_text (f d)) ds) ++ 93 ∷ []
+joined_items : {T : Type 0} (f : T → Data) (ds : List T) → items_text false (items_of (map f ds)) ≡ join_with_byte 44 (map (λ d. compact_text (f d)) ds) ++ 93 ∷ []
 joined_items f [] = refl
 joined_items f (d ∷ ds) = later_items f (compact_text (f d)) ds
 
@@ -76,3 +77,41 @@ report_text ds =
     report_spelled (items_of (map diagnostic_value ds))
     ∙ ap (λ s. codes "{\"items\":[" ++ (s ++ codes ",\"kind\":\"full\"}")) (joined_items diagnostic_value ds)
     ∙ ap (λ s. codes "{\"items\":[" ++ s) (append_assoc (join_with_byte 44 texts) (93 ∷ []) (codes ",\"kind\":\"full\"}"))
+
+-- ---- workspaces
+
+document_spelled : (items : Items) (uri version : Data)
+    → compact_text (object (member (codes "items") (array items) (member (codes "kind") (string (codes "full")) (member (codes "uri") uri (member (codes "version") version no_members)))))
+    ≡ codes "{\"items\":[" ++ (items_text false items ++ (codes ",\"kind\":\"full\",\"uri\":" ++ compact_text uri ++ codes ",\"version\":" ++ compact_text version ++ codes "}"))
+unfolding serde_json_on_literals
+document_spelled items uri version = simp append_assoc
+
+closed : (before items bracket kind uri key version end : List ℕ)
+    → before ++ ((items ++ bracket) ++ (kind ++ uri ++ key ++ version ++ end)) ≡ before ++ items ++ (bracket ++ kind) ++ uri ++ key ++ version ++ end
+closed before items bracket kind uri key version end = simp append_assoc
+
+document_is : (r : DocumentData) → compact_text (document_value r) ≡ document_text r
+document_is r =
+    let texts : List (List ℕ) = map (λ d. compact_text (diagnostic_value d)) r.diagnostics in
+    let kind : List ℕ = codes ",\"kind\":\"full\",\"uri\":" in
+    let uri : List ℕ = compact_text (string r.uri) in
+    let version : List ℕ = compact_text (version_value r.version) in
+    document_spelled (items_of (map diagnostic_value r.diagnostics)) (string r.uri) (version_value r.version)
+    ∙ ap (λ s. codes "{\"items\":[" ++ (s ++ (kind ++ uri ++ codes ",\"version\":" ++ version ++ codes "}"))) (joined_items diagnostic_value r.diagnostics)
+    ∙ closed (codes "{\"items\":[") (join_with_byte 44 texts) (93 ∷ []) kind uri (codes ",\"version\":") version (codes "}")
+
+documents_are : (rs : List DocumentData) → map (λ r. compact_text (document_value r)) rs ≡ map document_text rs
+documents_are [] = refl
+documents_are (r ∷ rs) = ap₂ ◌∷◌ (document_is r) (documents_are rs)
+
+workspace_spelled : (items : Items) → compact_text (object (member (codes "items") (array items) no_members)) ≡ codes "{\"items\":[" ++ (items_text false items ++ codes "}")
+unfolding serde_json_on_literals
+workspace_spelled items = refl
+
+pub workspace_text : WorkspaceText
+workspace_text rs =
+    let texts : List (List ℕ) = map (λ r. compact_text (document_value r)) rs in
+    workspace_spelled (items_of (map document_value rs))
+    ∙ ap (λ s. codes "{\"items\":[" ++ (s ++ codes "}")) (joined_items document_value rs)
+    ∙ ap (λ s. codes "{\"items\":[" ++ s) (append_assoc (join_with_byte 44 texts) (93 ∷ []) (codes "}"))
+    ∙ ap (λ ts. codes "{\"items\":[" ++ (join_with_byte 44 ts ++ codes "]}")) (documents_are rs)

@@ -10,6 +10,7 @@ use Rattle.lsp_rpc.specs.Message.{IdData, message_of, parse_error, invalid_reque
 use Rattle.lsp_rpc.specs.Reply.{id_value, id_or_null, result_reply, error_row, error_reply}
 use Rattle.lsp_rpc.specs.Initialize.{initialize_result}
 use Rattle.lsp_rpc.specs.Diagnostic.{DiagnosticData, range_value, severity_number, diagnostic_value, report_value}
+use Rattle.lsp_rpc.specs.Workspace.{DocumentData, version_value, document_value, workspace_value}
 use Rattle.lsp_rpc.specs.declared.method.Method.{Method}
 use Rattle.lsp_rpc.specs.declared.error_code.ErrorCode.{ErrorCode}
 
@@ -72,3 +73,12 @@ abbrev pub ReportText : Type 0
 ReportText =
     (ds : List DiagnosticData) → compact_text (report_value ds)
     ≡ codes "{\"items\":[" ++ join_with_byte 44 (map (λ d. compact_text (diagnostic_value d)) ds) ++ codes "],\"kind\":\"full\"}"
+
+abbrev pub document_text : DocumentData → List ℕ
+document_text r =
+    codes "{\"items\":[" ++ join_with_byte 44 (map (λ d. compact_text (diagnostic_value d)) r.diagnostics) ++ codes "],\"kind\":\"full\",\"uri\":" ++ quoted r.uri
+    ++ codes ",\"version\":" ++ compact_text (version_value r.version) ++ codes "}"
+
+-- the reports' texts stand in order, with commas between them
+abbrev pub WorkspaceText : Type 0
+WorkspaceText = (rs : List DocumentData) → compact_text (workspace_value rs) ≡ codes "{\"items\":[" ++ join_with_byte 44 (map document_text rs) ++ codes "]}"

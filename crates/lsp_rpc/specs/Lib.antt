@@ -3,6 +3,7 @@ pub mod Method
 pub mod Message
 pub mod Params
 pub mod Diagnostic
+pub mod Workspace
 pub mod Initialize
 pub mod Reply
 pub mod Writing

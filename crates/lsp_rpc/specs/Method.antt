@@ -2,9 +2,9 @@
 use Rattle.std.specs.Prelude.{ℕ, List, [], ◌∷◌, Option, codes, bytes_eq}
 use Rattle.std.specs.Map.{lookup}
 use Rattle.lsp_rpc.specs.declared.method.Method.{Method}
-use Rattle.lsp_rpc.specs.declared.method.Method.TheVariants.{Initialize, Shutdown, Exit, DidOpen, DidChange, DidSave, DidClose, DocumentDiagnostic}
+use Rattle.lsp_rpc.specs.declared.method.Method.TheVariants.{Initialize, Shutdown, Exit, DidOpen, DidChange, DidSave, DidClose, DocumentDiagnostic, WorkspaceDiagnostic}
 
--- each name with its method: the server's lifecycle, then its documents
+-- each name with its method: the server's lifecycle, then its documents, then the workspace
 abbrev pub methods : List (List ℕ × Method)
 methods =
     (codes "initialize", Initialize)
@@ -15,6 +15,7 @@ methods =
     ∷ (codes "textDocument/didSave", DidSave)
     ∷ (codes "textDocument/didClose", DidClose)
     ∷ (codes "textDocument/diagnostic", DocumentDiagnostic)
+    ∷ (codes "workspace/diagnostic", WorkspaceDiagnostic)
     ∷ []
 
 -- the method with this very name

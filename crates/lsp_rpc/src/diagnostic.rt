@@ -82,7 +82,11 @@ fn write_diagnostic(out: &mut Writer, diagnostic: &Diagnostic<'_>) -> Result<(),
     Ok(())
 }
 
-fn write_items(out: &mut Writer, diagnostics: &[Diagnostic<'_>]) -> Result<(), AllocError>
+// Writes the diagnostics of a document, in order, as an array.
+pub(crate) fn write_items(
+    out: &mut Writer,
+    diagnostics: &[Diagnostic<'_>],
+) -> Result<(), AllocError>
     ensures { OnOk result
         (Adds out.old (array (items_of (map diagnostic_value (map diagnostic_view diagnostics.now)))) out.new) }
 {

@@ -1,6 +1,6 @@
 // Laws of the definitions that the contracts cite. Each is a function with nothing to do, whose clause
 // is the law.
-ghost use Rattle.lsp_rpc.specs.Laws.{OnlyJsonIsRead, BatchesAreInvalid, RequestsAreCalls, NotificationsHaveNoId, ResultText, ErrorText, InitializeText, DiagnosticText, ReportText};
+ghost use Rattle.lsp_rpc.specs.Laws.{OnlyJsonIsRead, BatchesAreInvalid, RequestsAreCalls, NotificationsHaveNoId, ResultText, ErrorText, InitializeText, DiagnosticText, ReportText, WorkspaceText};
 
 /// A law: what is answered as a parse error is what is no JSON text, and nothing else.
 pub fn parse_errors()
@@ -45,4 +45,9 @@ pub fn diagnostic_text()
 /// A law: the bytes of a report.
 pub fn report_text()
     ensures { ReportText }
+{}
+
+/// A law: the bytes of the reports of a workspace.
+pub fn workspace_text()
+    ensures { WorkspaceText }
 {}

@@ -15,18 +15,20 @@ mod message;
 mod method;
 mod params;
 mod reply;
+mod workspace;
 
 pub use diagnostic::{Diagnostic, Severity};
 pub use error_code::ErrorCode;
 pub use id::Id;
 pub use laws::{
     batches, diagnostic_text, error_text, initialize_text, notifications, parse_errors,
-    report_text, requests, result_text,
+    report_text, requests, result_text, workspace_text,
 };
 pub use message::Message;
 pub use method::Method;
 pub use params::{DidChangeParams, DidOpenParams, VersionedDocument, document_uri};
-pub use reply::{error_reply, initialize_reply, null_reply, report_reply};
+pub use reply::{error_reply, initialize_reply, null_reply, report_reply, workspace_reply};
+pub use workspace::DocumentReport;
 
 #[cfg(test)]
 mod tests;

@@ -21,6 +21,8 @@ pub enum Method {
     DidClose,
     /// `textDocument/diagnostic`
     DocumentDiagnostic,
+    /// `workspace/diagnostic`
+    WorkspaceDiagnostic,
 }
 
 impl Method {
@@ -37,6 +39,7 @@ impl Method {
             "textDocument/didSave" => Some(Method::DidSave),
             "textDocument/didClose" => Some(Method::DidClose),
             "textDocument/diagnostic" => Some(Method::DocumentDiagnostic),
+            "workspace/diagnostic" => Some(Method::WorkspaceDiagnostic),
             _ => None,
         }
     }

@@ -6,6 +6,7 @@ ghost use Rattle.serde_json.specs.Written.{compact_text};
 ghost use Rattle.lsp_rpc.specs.Message.{id_view};
 ghost use Rattle.lsp_rpc.specs.Writing.{empty, Appends, Adds};
 ghost use Rattle.lsp_rpc.specs.Diagnostic.{report_value, diagnostic_view};
+ghost use Rattle.lsp_rpc.specs.Workspace.{workspace_value, document_view};
 ghost use Rattle.lsp_rpc.specs.Initialize.{initialize_result};
 ghost use Rattle.lsp_rpc.specs.Reply as reply;
 
@@ -13,6 +14,7 @@ use crate::diagnostic::{Diagnostic, write_report};
 use crate::error_code::ErrorCode;
 use crate::id::Id;
 use crate::initialize::write_initialize_result;
+use crate::workspace::{DocumentReport, write_workspace};
 use json::Writer;
 use std::alloc::{AllocError, Global};
 
@@ -38,6 +40,21 @@ pub fn report_reply(
 {
     let mut out = result_begun(alloc, id)?;
     write_report(&mut out, diagnostics)?;
+    out.end_object()?;
+    Ok(out.into_inner())
+}
+
+/// The reply that gives the diagnostics of all documents of a workspace, in order, as full reports.
+pub fn workspace_reply(
+    alloc: Global,
+    id: &Id,
+    reports: &[DocumentReport<'_>],
+) -> Result<Vec<u8>, AllocError>
+    ensures { IfOk result (λ b. b.items
+        ≡ compact_text (reply.result_reply (id_view id.now) (workspace_value (map document_view reports.now)))) }
+{
+    let mut out = result_begun(alloc, id)?;
+    write_workspace(&mut out, reports)?;
     out.end_object()?;
     Ok(out.into_inner())
 }

@@ -4,8 +4,8 @@ use Rattle.std.specs.List.{position, position_from}
 use Rattle.std.proofs.lemmas.Bool.{and_parts, ltb-true}
 use Rattle.std.proofs.lemmas.Iterator.Adapters.{position_from-zero}
 use Rattle.lsp_session.specs.Configuration.{has_one_root, is_good_file, in_root_order, refusal}
-use Rattle.lsp_session.specs.FileView.{disk_view}
-use Rattle.lsp_session.specs.declared.config.DiskFile.{DiskFile}
+use Rattle.lsp_workspace.specs.Disk.{disk_view}
+use Rattle.lsp_workspace.specs.declared.disk.DiskFile.{DiskFile}
 use Rattle.lsp_session.specs.declared.fault.ServeFault.TheVariants.{BadPath}
 
 position-map : (fs : List DiskFile) (i : ℕ) → position_from (λ f. not (is_good_file 1 f)) i (map disk_view fs) ≡ position_from (λ f. not (is_good_file 1 (disk_view f))) i fs

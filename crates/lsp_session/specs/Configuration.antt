@@ -3,14 +3,9 @@ use Rattle.std.specs.Prelude.{ℕ, nat_lt, List, [], ◌∷◌, Bool, false, not
 use Rattle.std.specs.List.{flat_map, position, range_with_len}
 use Rattle.workspace_uri.specs.Path.{is_workspace_path}
 use Rattle.workspace_uri.specs.Uri.{folder_of}
+use Rattle.lsp_workspace.specs.Disk.{FileData}
 use Rattle.lsp_session.specs.declared.fault.ServeFault.{ServeFault}
 use Rattle.lsp_session.specs.declared.fault.ServeFault.TheVariants.{BadRoot, BadPath}
-
--- a file by the number of its root, its path under it and its text
-pub record FileData : Type 0 where
-  pub root : ℕ
-  pub path : List ℕ
-  pub text : List ℕ
 
 pub record Configuration : Type 0 where
   pub roots : List (List ℕ)

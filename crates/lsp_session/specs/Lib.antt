@@ -1,8 +1,6 @@
 pub mod Configuration
 pub mod Fault
-pub mod FileView
-pub mod Files
-pub mod Diagnostics
+pub mod Checking
 pub mod Session
 pub mod Stream
 pub mod Core

@@ -1,8 +1,9 @@
 -- The sequential session (Language Server Protocol 3.17): what each message changes, and what is replied to it.
-use Rattle.std.specs.Prelude.{ℕ, List, [], ◌∷◌, ◌++◌, Bool, true, false, Option, Some, None, option_and_then, map, fold}
+use Rattle.std.specs.Prelude.{ℕ, List, [], ◌∷◌, ◌++◌, Bool, true, false, Option, Some, None, option_and_then, option_map, map, fold}
 use Rattle.serde_json.specs.Data.{Data, null}
 use Rattle.serde_json.specs.Written.{compact_text}
 use Rattle.lsp_rpc.specs.Diagnostic.{report_value}
+use Rattle.lsp_rpc.specs.Workspace.{workspace_value}
 use Rattle.lsp_rpc.specs.Initialize.{initialize_result}
 use Rattle.lsp_rpc.specs.Message.{IdData, MessageData, parse_error, invalid_request, response, request, notification, message_of}
 use Rattle.lsp_rpc.specs.Params.{OpenedDocument, ChangedDocument, opened_of, changed_of, uri_of}
@@ -10,11 +11,11 @@ use Rattle.lsp_rpc.specs.Reply.{result_reply, error_reply}
 use Rattle.lsp_rpc.specs.declared.error_code.ErrorCode.{ErrorCode}
 use Rattle.lsp_rpc.specs.declared.error_code.ErrorCode.TheVariants.{ParseError, InvalidRequest, MethodNotFound, InvalidParams, ServerNotInitialized}
 use Rattle.lsp_rpc.specs.declared.method.Method.{Method}
-use Rattle.lsp_rpc.specs.declared.method.Method.TheVariants.{Initialize, Shutdown, Exit, DidOpen, DidChange, DidSave, DidClose, DocumentDiagnostic}
+use Rattle.lsp_rpc.specs.declared.method.Method.TheVariants.{Initialize, Shutdown, Exit, DidOpen, DidChange, DidSave, DidClose, DocumentDiagnostic, WorkspaceDiagnostic}
 use Rattle.workspace_uri.specs.Uri.{path_of}
 use Rattle.lsp_session.specs.Configuration.{Configuration, in_root_order}
-use Rattle.lsp_session.specs.Diagnostics.{diagnostics}
-use Rattle.lsp_session.specs.Files.{Files, from_disk, opened_files, changed_files, saved_files, closed_files, text_at}
+use Rattle.lsp_workspace.specs.Reports.{document_diagnostics, workspace_reports}
+use Rattle.lsp_workspace.specs.Files.{Files, from_disk, opened_files, changed_files, saved_files, closed_files, text_at}
 use Rattle.lsp_session.specs.declared.phase.Phase.{Phase}
 use Rattle.lsp_session.specs.declared.phase.Phase.TheVariants.{Uninitialized, Running, Shut, Exited}
 
@@ -69,19 +70,32 @@ closed s params = at_path closed_files s (path_in s params)
 
 -- ---- requests
 
--- the diagnostics of a text, of a document of the workspace
-abbrev pub diagnosed : State → IdData → Option (List ℕ) → Turn
-diagnosed s id None = refuse s (Some id) InvalidParams
-diagnosed s id (Some text) = answer s id (report_value (diagnostics text))
+-- the path and the text of the document that the params name, where it is one of the workspace
+abbrev pub document_at : List ℕ → Files → Option (List ℕ × List ℕ)
+document_at path files = option_map (λ text. (path, text)) (text_at path files)
 
--- the text of the document that the params name, where it is one of the workspace
-abbrev pub text_in : State → Data → Option (List ℕ)
-text_in s params = option_and_then (λ path. text_at path s.files) (path_in s params)
+abbrev pub document_in : State → Data → Option (List ℕ × List ℕ)
+document_in s params = option_and_then (λ path. document_at path s.files) (path_in s params)
+
+-- what is wrong in a document of the workspace
+abbrev pub diagnosed : State → IdData → Option (List ℕ × List ℕ) → Turn
+diagnosed s id None = refuse s (Some id) InvalidParams
+diagnosed s id (Some document) = answer s id (report_value (document_diagnostics s.files document.0 document.1))
+
+-- the one root
+abbrev pub root_of : List (List ℕ) → List ℕ
+root_of [] = []
+root_of (root ∷ more) = root
+
+-- what is wrong in all files of the workspace
+abbrev pub all_diagnosed : State → IdData → Turn
+all_diagnosed s id = answer s id (workspace_value (workspace_reports (root_of s.roots) s.files))
 
 abbrev pub running_request : State → IdData → Option Method → Data → Turn
 running_request s id (Some Initialize) params = refuse s (Some id) InvalidRequest
 running_request s id (Some Shutdown) params = answer (enter Shut s) id null
-running_request s id (Some DocumentDiagnostic) params = diagnosed s id (text_in s params)
+running_request s id (Some DocumentDiagnostic) params = diagnosed s id (document_in s params)
+running_request s id (Some WorkspaceDiagnostic) params = all_diagnosed s id
 running_request s id _ params = refuse s (Some id) MethodNotFound
 
 abbrev pub first_request : State → IdData → Option Method → Turn

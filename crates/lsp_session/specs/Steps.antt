@@ -15,7 +15,7 @@ use Rattle.lsp_rpc.specs.Message.{MessageData, message_of}
 use Rattle.lsp_rpc.specs.Params.{ChangeData}
 use Rattle.lsp_session.specs.Configuration.{Configuration}
 use Rattle.lsp_session.specs.Core.{Event, messages, processed, CoreState, Stands}
-use Rattle.lsp_session.specs.Files.{OpenDocument, File, Files, set_file, changed_file, saved_file}
+use Rattle.lsp_workspace.specs.Files.{OpenDocument, File, Files, set_file, changed_file, saved_file}
 use Rattle.lsp_session.specs.Session.{State, Turn, turn, silent, session}
 
 -- these replies, and then what a turn replies
@@ -26,28 +26,6 @@ replying replies t = record { state = t.state; replies = replies ++ t.replies }
 abbrev pub turns : State → List MessageData → Turn
 turns s [] = silent s
 turns s (m ∷ ms) = replying (turn s m).replies (turns (turn s m).state ms)
-
--- ---- files
-
--- a file after changes of its document, if one is open
-abbrev pub changed_from : ℤ → List ChangeData → File → Option OpenDocument → File
-changed_from version changes f None = f
-changed_from version changes f (Some d) = changed_file version changes f d
-
--- a file after a save of its document, if one is open
-abbrev pub saved_from : File → Option OpenDocument → File
-saved_from f None = f
-saved_from f (Some d) = saved_file f d
-
--- whether a document is open in a file and no text is kept
-abbrev pub leaves : Option File → Bool
-leaves None = false
-leaves (Some f) = is_some f.document && is_none f.kept
-
--- the files with no document open at a path
-abbrev pub with_none_open : List ℕ → Files → Option File → Files
-with_none_open path files None = files
-with_none_open path files (Some f) = set_file path (record f { document = None }) files
 
 -- ---- messages that are answered at once
 

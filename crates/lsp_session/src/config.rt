@@ -2,23 +2,13 @@
 ghost use Rattle.std.specs.Prelude.{◌≡◌, ◌≢◌, true, false, not, [], ◌∷◌, None, Some, map, string_bytes, IfOk, IfErr, OnOk};
 ghost use Rattle.std.specs.List.{position};
 ghost use Rattle.lsp_session.specs.Configuration.{has_one_root, is_good_file};
-ghost use Rattle.lsp_session.specs.FileView.{disk_view};
+ghost use Rattle.lsp_workspace.specs.Disk.{disk_view};
 
 use crate::fault::ServeFault;
+use lsp_workspace::DiskFile;
 use std::alloc::Global;
 use std::marker::Model;
 use workspace_uri::{Root, is_workspace_path};
-
-/// A file that was found on disk when the server started.
-#[derive(Debug, Drop)]
-pub struct DiskFile {
-    /// The number of its root in the list of roots, from 0.
-    pub root: usize,
-    /// Its path under the root, segments joined by `/`.
-    pub path: String,
-    /// What it holds.
-    pub text: String,
-}
 
 /// What a session is started with: one root, and files on disk under it.
 #[derive(Debug, Drop)]
@@ -32,7 +22,7 @@ impl Model for Config {
     ghost use Rattle.std.specs.Prelude.{map, [], ◌∷◌};
     ghost use Rattle.workspace_uri.specs.View.{root_text};
     ghost use Rattle.lsp_session.specs.Configuration.{Configuration};
-    ghost use Rattle.lsp_session.specs.FileView.{disk_view};
+    ghost use Rattle.lsp_workspace.specs.Disk.{disk_view};
 
     ghost Value = { Configuration };
 

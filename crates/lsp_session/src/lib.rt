@@ -5,11 +5,10 @@
 //! stream ends. [`run_core`] does the same over a list of events.
 #![tactic(auto)]
 
+mod checking;
 mod config;
-mod diagnostics;
 mod ended;
 mod fault;
-mod files;
 mod laws;
 mod phase;
 mod reply;
@@ -19,10 +18,12 @@ mod session;
 mod session_core;
 mod verdict;
 
-pub use config::{Config, DiskFile};
+pub use checking::check;
+pub use config::Config;
 pub use ended::Ended;
 pub use fault::{CoreFault, ServeFault};
-pub use laws::{nothing_follows_an_exit, texts_are_of_the_workspace};
+pub use laws::nothing_follows_an_exit;
+pub use lsp_workspace::DiskFile;
 pub use reply::Reply;
 pub use run::{CoreEvent, CoreRun, run_core};
 pub use serving::serve;

@@ -5,20 +5,21 @@ ghost use Rattle.serde_json.specs.View.{view};
 ghost use Rattle.serde_json.specs.Written.{compact_text};
 ghost use Rattle.lsp_rpc.specs.Message.{id_view, message_view};
 ghost use Rattle.lsp_rpc.specs.Params.{opened_of, changed_of};
-ghost use Rattle.lsp_session.specs.Files.{text_at};
+ghost use Rattle.lsp_rpc.specs.Diagnostic.{diagnostic_view};
+ghost use Rattle.lsp_workspace.specs.Files.{text_at, workspace};
+ghost use Rattle.lsp_workspace.specs.Reports.{document_diagnostics};
 ghost use Rattle.lsp_rpc.specs.Reply as reply;
 ghost use Rattle.lsp_session.specs.Session as spec;
 
 use crate::config::Config;
-use crate::diagnostics::diagnostics;
-use crate::files::{self, Files};
 use crate::phase::Phase;
 use crate::reply::Reply;
 use doc_text::Text;
 use lsp_rpc::{
-    DidChangeParams, DidOpenParams, ErrorCode, Id, Message, Method, document_uri, error_reply,
-    initialize_reply, null_reply, report_reply,
+    Diagnostic, DidChangeParams, DidOpenParams, ErrorCode, Id, Message, Method, document_uri,
+    error_reply, initialize_reply, null_reply, report_reply, workspace_reply,
 };
+use lsp_workspace::{self as files, Files, Linked, document_diagnostics, link, workspace_reports};
 use serde_json::Value;
 use std::alloc::{AllocError, Global};
 use workspace_uri::Root;
@@ -30,6 +31,8 @@ pub(crate) struct Session {
     root: Root,
     phase: Phase,
     files: Files,
+    // The work on the files, as far as it was done.
+    linked: Option<Linked>,
 }
 
 impl Session {
@@ -46,6 +49,7 @@ impl Session {
             root,
             phase: Phase::Uninitialized,
             files,
+            linked: None,
         })
     }
 
@@ -79,16 +83,6 @@ impl Session {
         ensures { option_map (λ t. t.now) result ≡ text_at path.now (state_of self.now).files }
     {
         files::get(&self.files, path)?.text()
-    }
-
-    // The text of the document that the params name, where it is one of the workspace.
-    fn text_in(&self, params: &Value) -> Result<Option<&Text>, AllocError>
-        ensures { IfOk result (λ o. option_map (λ t. t.now) o ≡ spec.text_in (state_of self.now) (view params.now)) }
-    {
-        match self.path_in(params)? {
-            Some(path) => Ok(self.text_at(path.as_str())),
-            None => Ok(None),
-        }
     }
 
     fn open(&mut self, params: Value) -> Result<(), AllocError>
@@ -136,15 +130,68 @@ impl Session {
         Ok(())
     }
 
-    fn diagnose(&self, id: &Id, params: &Value) -> Result<Option<Reply>, AllocError>
-        ensures { IfOk result (λ r. option_to_list r ≡ map compact_text
-            (spec.diagnosed (state_of self.now) (id_view id.now) (spec.text_in (state_of self.now) (view params.now))).replies) }
+    // What is wrong in the document of a path, which has this text, in the workspace, which is linked.
+    fn found_in(
+        &self,
+        linked: &Linked,
+        path: &str,
+        text: &Text,
+    ) -> Result<Vec<Diagnostic<'static>>, AllocError>
+        requires { linked.now ≡ workspace (state_of self.now).files }
+        ensures { IfOk result (λ found. map diagnostic_view found.items ≡ document_diagnostics (state_of self.now).files path.now text.now) }
     {
-        let Some(text) = self.text_in(params)? else {
+        let found = document_diagnostics(self.alloc, linked, path, text)?;
+        Ok(found)
+    }
+
+    // Replies the diagnostics of the document at a path, where it is one of the workspace, which is linked.
+    fn report(&self, linked: &Linked, id: &Id, path: &str) -> Result<Option<Reply>, AllocError>
+        requires { linked.now ≡ workspace (state_of self.now).files }
+        ensures { IfOk result (λ r. option_to_list r ≡ map compact_text
+            (spec.diagnosed (state_of self.now) (id_view id.now) (spec.document_at path.now (state_of self.now).files)).replies) }
+    {
+        let Some(text) = self.text_at(path) else {
             return self.refuse(Some(id), ErrorCode::InvalidParams);
         };
-        let found = diagnostics(self.alloc, text)?;
+        let found = self.found_in(linked, path, text)?;
         Ok(Some(Reply::new(report_reply(self.alloc, id, found.as_slice())?)))
+    }
+
+    fn diagnose_at(&mut self, id: &Id, path: &str) -> Result<Option<Reply>, AllocError>
+        ensures state { OnOk result (state_of self.new ≡ state_of self.old) }
+        ensures reply { IfOk result (λ r. option_to_list r ≡ map compact_text
+            (spec.diagnosed (state_of self.old) (id_view id.now) (spec.document_at path.now (state_of self.old).files)).replies) }
+    {
+        if self.text_at(path).is_none() {
+            return self.refuse(Some(id), ErrorCode::InvalidParams);
+        }
+        let linked = link(self.alloc, self.linked.take(), &self.files)?;
+        let reply = self.report(&linked, id, path)?;
+        self.linked = Some(linked);
+        Ok(reply)
+    }
+
+    fn diagnose(&mut self, id: &Id, params: &Value) -> Result<Option<Reply>, AllocError>
+        ensures state { OnOk result (state_of self.new ≡ state_of self.old) }
+        ensures reply { IfOk result (λ r. option_to_list r ≡ map compact_text
+            (spec.diagnosed (state_of self.old) (id_view id.now) (spec.document_in (state_of self.old) (view params.now))).replies) }
+    {
+        match self.path_in(params)? {
+            Some(path) => self.diagnose_at(id, path.as_str()),
+            None => self.refuse(Some(id), ErrorCode::InvalidParams),
+        }
+    }
+
+    fn diagnose_all(&mut self, id: &Id) -> Result<Option<Reply>, AllocError>
+        ensures state { OnOk result (state_of self.new ≡ state_of self.old) }
+        ensures reply { IfOk result (λ r. option_to_list r ≡ map compact_text
+            (spec.all_diagnosed (state_of self.old) (id_view id.now)).replies) }
+    {
+        let linked = link(self.alloc, self.linked.take(), &self.files)?;
+        let reports = workspace_reports(self.alloc, &self.root, &self.files, &linked)?;
+        let reply = Reply::new(workspace_reply(self.alloc, id, reports.as_slice())?);
+        self.linked = Some(linked);
+        Ok(Some(reply))
     }
 
     // ---- messages
@@ -174,6 +221,7 @@ impl Session {
                 Ok(Some(reply))
             }
             (Phase::Running, Some(Method::DocumentDiagnostic)) => self.diagnose(id, params),
+            (Phase::Running, Some(Method::WorkspaceDiagnostic)) => self.diagnose_all(id),
             (Phase::Running, Some(Method::Initialize)) | (Phase::Shut, _) => {
                 self.refuse(Some(id), ErrorCode::InvalidRequest)
             }

@@ -3,7 +3,7 @@ ghost use Rattle.std.specs.Prelude.{◌<◌};
 
 use lsp_frame::{FrameReader, MemSink, MemSource, write_frame};
 use lsp_session::{
-    Config, Core, CoreEvent, CoreFault, DiskFile, Ended, ServeFault, run_core, serve,
+    Config, Core, CoreEvent, CoreFault, DiskFile, Ended, ServeFault, check, run_core, serve,
 };
 use std::alloc::{AllocError, Global};
 use std::process::Abort;
@@ -537,5 +537,175 @@ fn refuses_bad_configurations(rt: HostRuntime) -> Result<(), Fail> {
     assert!(rt; made.err() == Some(ServeFault::BadPath { index: 1 }));
     assert_eq!(rt; ServeFault::BadRoot.code(), 806);
     assert_eq!(rt; ServeFault::BadPath { index: 1 }.code(), 807);
+    Ok(())
+}
+
+// ---- the whole workspace
+
+const WORKSPACE_DIAGNOSTIC: &str =
+    "{\"jsonrpc\":\"2.0\",\"id\":2,\"method\":\"workspace/diagnostic\",\"params\":{}}";
+
+const NO_DOCUMENTS: &str = "{\"id\":2,\"jsonrpc\":\"2.0\",\"result\":{\"items\":[]}}";
+
+const OPEN_UNTITLED: &str =
+    "{\"jsonrpc\":\"2.0\",\"method\":\"textDocument/didOpen\",\"params\":{\"textDocument\":{\"uri\":\"untitled:One\",\"version\":3,\"text\":\"syntax = \\\"proto3\\\";\\n#\\n\"}}}";
+
+const OPEN_BLANK: &str =
+    "{\"jsonrpc\":\"2.0\",\"method\":\"textDocument/didOpen\",\"params\":{\"textDocument\":{\"uri\":\"file:///w/d%20e/a.proto\",\"version\":1,\"text\":\"syntax = \\\"proto3\\\";\\n\"}}}";
+
+const THREE_DOCUMENTS: &str =
+    "{\"id\":2,\"jsonrpc\":\"2.0\",\"result\":{\"items\":[{\"items\":[{\"code\":201,\"message\":\"illegal character\",\"range\":{\"end\":{\"character\":1,\"line\":1},\"start\":{\"character\":0,\"line\":1}},\"severity\":1,\"source\":\"protols\"}],\"kind\":\"full\",\"uri\":\"untitled:One\",\"version\":3},{\"items\":[],\"kind\":\"full\",\"uri\":\"file:///w/d%20e/a.proto\",\"version\":1},{\"items\":[],\"kind\":\"full\",\"uri\":\"file:///w/%C3%A9.proto\",\"version\":null}]}}";
+
+const IMPORTING: &str = "syntax = \"proto3\";\nimport \"b.proto\";\nmessage A { B b = 1; }\n";
+
+const OPEN_IMPORTED: &str =
+    "{\"jsonrpc\":\"2.0\",\"method\":\"textDocument/didOpen\",\"params\":{\"textDocument\":{\"uri\":\"file:///w/b.proto\",\"version\":1,\"text\":\"syntax = \\\"proto3\\\";\\nmessage B { }\\n\"}}}";
+
+const RENAME_IMPORTED: &str =
+    "{\"jsonrpc\":\"2.0\",\"method\":\"textDocument/didChange\",\"params\":{\"textDocument\":{\"uri\":\"file:///w/b.proto\",\"version\":2},\"contentChanges\":[{\"text\":\"syntax = \\\"proto3\\\";\\nmessage C { }\\n\"}]}}";
+
+const UNRESOLVED: &str =
+    "{\"id\":2,\"jsonrpc\":\"2.0\",\"result\":{\"items\":[{\"code\":401,\"message\":\"unresolved name\",\"range\":{\"end\":{\"character\":13,\"line\":2},\"start\":{\"character\":12,\"line\":2}},\"severity\":1,\"source\":\"protols\"}],\"kind\":\"full\"}}";
+
+const NOT_FOUND: &str =
+    "{\"id\":2,\"jsonrpc\":\"2.0\",\"result\":{\"items\":[{\"code\":403,\"message\":\"import not found\",\"range\":{\"end\":{\"character\":16,\"line\":1},\"start\":{\"character\":7,\"line\":1}},\"severity\":1,\"source\":\"protols\"}],\"kind\":\"full\"}}";
+
+// The reports come by path, each with the URI of the last open and the version of an open document. What one file says
+// shows in another at once.
+const WHOLE_WORKSPACES: &[Dialogue] = &[
+    Dialogue {
+        files: &[],
+        messages: &[INITIALIZE, WORKSPACE_DIAGNOSTIC],
+        replies: &[INITIALIZED, NO_DOCUMENTS],
+    },
+    Dialogue {
+        files: &[("é.proto", GOOD_TEXT)],
+        messages: &[INITIALIZE, OPEN_UNTITLED, OPEN_BLANK, WORKSPACE_DIAGNOSTIC],
+        replies: &[INITIALIZED, THREE_DOCUMENTS],
+    },
+    Dialogue {
+        files: &[("a.proto", IMPORTING)],
+        messages: &[
+            INITIALIZE,
+            DIAGNOSTIC,
+            OPEN_IMPORTED,
+            DIAGNOSTIC,
+            DIAGNOSTIC,
+            RENAME_IMPORTED,
+            DIAGNOSTIC,
+        ],
+        replies: &[INITIALIZED, NOT_FOUND, NO_REPORT, NO_REPORT, UNRESOLVED],
+    },
+];
+
+#[test]
+fn reports_the_whole_workspace(rt: HostRuntime) -> Result<(), Fail> {
+    expect_replies(&rt, WHOLE_WORKSPACES)
+}
+
+// Files on disk, the lines of a check, and whether it finds an error.
+struct Checked {
+    files: &'static [(&'static str, &'static str)],
+    lines: &'static str,
+    found: bool,
+}
+
+const CHAIN: &[(&str, &str)] = &[
+    (
+        "f1.proto",
+        "syntax = \"proto3\";\nimport \"f2.proto\";\nmessage M1 { M2 a = 1; M7 b = 2; }\n",
+    ),
+    (
+        "f2.proto",
+        "syntax = \"proto3\";\nimport \"f3.proto\";\nmessage M2 { M3 a = 1; M7 b = 2; }\n",
+    ),
+    (
+        "f3.proto",
+        "syntax = \"proto3\";\nimport \"f7.proto\";\nmessage M3 { M7 a = 1; M7 b = 2; }\n",
+    ),
+    (
+        "f7.proto",
+        "syntax = \"proto3\";\nmessage M7 { M7 a = 1; }\n",
+    ),
+];
+
+const FOREIGN: &[(&str, &str)] = &[
+    (
+        "x.proto",
+        "syntax = \"proto3\";\nimport \"none.proto\";\nimport \"x.proto\";\nimport \"old.proto\";\nmessage X { Gone g = 1; }\n",
+    ),
+    (
+        "old.proto",
+        "syntax = \"proto2\";\nmessage Old { required int32 a = 1; }\n",
+    ),
+];
+
+// A file that isn't proto3 is no error by itself. Columns count UTF-16 units from 1.
+const CHECKED: &[Checked] = &[
+    Checked {
+        files: &[],
+        lines: "",
+        found: false,
+    },
+    Checked {
+        files: CHAIN,
+        lines: "f1.proto:3:24: 401 unresolved name\nf2.proto:3:24: 401 unresolved name\n",
+        found: true,
+    },
+    Checked {
+        files: FOREIGN,
+        lines: "old.proto:1:1: 317 not a proto3 file\nx.proto:2:8: 403 import not found\nx.proto:3:8: 404 import cycle\n",
+        found: true,
+    },
+    Checked {
+        files: &[
+            ("a/old.proto", "syntax = \"proto2\";"),
+            ("b.proto", GOOD_TEXT),
+        ],
+        lines: "a/old.proto:1:1: 317 not a proto3 file\n",
+        found: false,
+    },
+    Checked {
+        files: &[("w.proto", "syntax = \"proto3\"; /* 😀 */ # @\n")],
+        lines: "w.proto:1:29: 201 illegal character\nw.proto:1:31: 201 illegal character\n",
+        found: true,
+    },
+];
+
+fn expect_check<R: AllocGlobal + Abort>(rt: &R, checked: &Checked) -> Result<(), Fail> {
+    let alloc = rt.alloc();
+    let files = files_of(alloc, checked.files)?;
+    let config = Config::make(alloc, texts_of(alloc, &[ROOT])?, files)?;
+    let mut writer = MemSink::new(alloc, 1000, 7, 2, false)?;
+    let found = check(alloc, &mut writer, config)?;
+    assert_eq!(rt; writer.written(), checked.lines.as_bytes());
+    assert_eq!(rt; found, checked.found);
+    Ok(())
+}
+
+#[test]
+fn checks_workspaces(rt: HostRuntime) -> Result<(), Fail> {
+    for checked in CHECKED {
+        expect_check(&rt, checked)?;
+    }
+    Ok(())
+}
+
+// How many bytes a sink takes before it fails.
+const ROOMS: &[usize] = &[0, 1, 34, 35, 69];
+
+#[test]
+fn a_check_ends_with_its_sink(rt: HostRuntime) -> Result<(), Fail> {
+    let alloc = rt.alloc();
+    let lines = b"f1.proto:3:24: 401 unresolved name\nf2.proto:3:24: 401 unresolved name\n";
+    for room in ROOMS {
+        let files = files_of(alloc, CHAIN)?;
+        let config = Config::make(alloc, texts_of(alloc, &[ROOT])?, files)?;
+        let mut writer = MemSink::new(alloc, *room, 7, 0, false)?;
+        let checked = check(alloc, &mut writer, config);
+        assert!(rt; checked == Err(ServeFault::Write));
+        assert_eq!(rt; writer.written().len(), *room);
+        assert!(rt; lines.starts_with(writer.written()));
+    }
     Ok(())
 }

@@ -1,3 +1,4 @@
+pub mod DeclOrder
 pub mod DiagOrder
 pub mod FactsLaws
 pub mod MessageOrder

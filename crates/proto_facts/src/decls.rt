@@ -2,28 +2,39 @@
 
 ghost use Rattle.std.specs.Prelude.{◌≡◌, ◌++◌, ◌∷◌, [], length, OnOk, IfOk, None};
 ghost use Rattle.proto_facts.specs.Decls as spec;
+ghost use Rattle.proto_facts.specs.declared.fact.DeclKind.TheVariants as kinds;
 
 use crate::fact::{Decl, DeclKind};
 use crate::text::{joined, text_at};
 use proto_syntax::{Items, Node, Span};
 use std::alloc::{AllocError, Global};
 
-// What a name declares in a scope, in the body of that parent, if any: its full name begins with the scope.
+// Where a statement stands, and so what it declares there.
+#[derive(Clone, Copy)]
+pub struct Place<'a> {
+    // What a field is declared as there: as a field or as an extension.
+    pub members: DeclKind,
+    // What full names begin with there; empty at the top of a file without a package.
+    pub scope: &'a str,
+    // The number of the declaration whose body it is, if any.
+    pub parent: Option<usize>,
+}
+
+// What a name declares in a place.
 fn declared(
     alloc: Global,
     text: &str,
     kind: DeclKind,
     name: Span,
-    scope: &str,
-    parent: Option<usize>,
+    place: Place<'_>,
 ) -> Result<Decl, AllocError>
-    ensures { IfOk result (λ d. d ≡ spec.declared text.now kind name scope.now parent) }
+    ensures { IfOk result (λ d. d ≡ spec.declared text.now kind name place.entry.scope.now place.entry.parent) }
 {
     Ok(Decl {
         kind,
-        full_name: joined(alloc, scope, text_at(text, name))?,
+        full_name: joined(alloc, place.scope, text_at(text, name))?,
         name_span: name,
-        parent,
+        parent: place.parent,
     })
 }
 
@@ -33,15 +44,13 @@ fn add_decls(
     alloc: Global,
     text: &str,
     nodes: &[Node],
-    members: DeclKind,
-    scope: &str,
-    parent: Option<usize>,
+    place: Place<'_>,
     found: &mut Items<Decl>,
 ) -> Result<(), AllocError>
-    ensures { OnOk result (found.new ≡ found.old ++ spec.decls_in text.now nodes.now members scope.now parent (length found.old)) }
+    ensures { OnOk result (found.new ≡ found.old ++ spec.decls_in text.now nodes.now place.entry.members place.entry.scope.now place.entry.parent (length found.old)) }
 {
     'nodes: for node in nodes {
-        add_decl(alloc, text, node, members, scope, parent, found)?;
+        add_decl(alloc, text, node, place, found)?;
     }
     Ok(())
 }
@@ -52,13 +61,12 @@ fn add_own(
     text: &str,
     kind: DeclKind,
     name: Span,
-    scope: &str,
-    parent: Option<usize>,
+    place: Place<'_>,
     found: &mut Items<Decl>,
 ) -> Result<(), AllocError>
-    ensures { OnOk result (found.new ≡ found.old ++ spec.declared text.now kind name scope.now parent ∷ []) }
+    ensures { OnOk result (found.new ≡ found.old ++ spec.declared text.now kind name place.entry.scope.now place.entry.parent ∷ []) }
 {
-    found.push(declared(alloc, text, kind, name, scope, parent)?)
+    found.push(declared(alloc, text, kind, name, place)?)
 }
 
 // Adds a message or a service, and what is declared inside it: its full name is the scope of that.
@@ -69,25 +77,21 @@ fn add_scope(
     kind: DeclKind,
     name: Span,
     items: &[Node],
-    scope: &str,
-    parent: Option<usize>,
+    place: Place<'_>,
     found: &mut Items<Decl>,
 ) -> Result<(), AllocError>
-    ensures { OnOk result (found.new ≡ found.old ++ spec.scope_decls text.now kind name items.now scope.now parent (length found.old)) }
+    ensures { OnOk result (found.new ≡ found.old ++ spec.scope_decls text.now kind name items.now place.entry.scope.now place.entry.parent (length found.old)) }
 {
     let own = found.len();
-    let decl = declared(alloc, text, kind, name, scope, parent)?;
+    let decl = declared(alloc, text, kind, name, place)?;
     let inner = decl.full_name.copy(alloc)?;
     found.push(decl)?;
-    add_decls(
-        alloc,
-        text,
-        items,
-        DeclKind::Field,
-        inner.as_str(),
-        Some(own),
-        found,
-    )
+    let inside = Place {
+        members: DeclKind::Field,
+        scope: inner.as_str(),
+        parent: Some(own),
+    };
+    add_decls(alloc, text, items, inside, found)
 }
 
 // Adds an enum or a oneof, and what is declared inside it, whose scope is the same.
@@ -98,15 +102,37 @@ fn add_block(
     kind: DeclKind,
     name: Span,
     items: &[Node],
-    scope: &str,
-    parent: Option<usize>,
+    place: Place<'_>,
     found: &mut Items<Decl>,
 ) -> Result<(), AllocError>
-    ensures { OnOk result (found.new ≡ found.old ++ spec.block_decls text.now kind name items.now scope.now parent (length found.old)) }
+    ensures { OnOk result (found.new ≡ found.old ++ spec.block_decls text.now kind name items.now place.entry.scope.now place.entry.parent (length found.old)) }
 {
-    let own = found.len();
-    add_own(alloc, text, kind, name, scope, parent, found)?;
-    add_decls(alloc, text, items, DeclKind::Field, scope, Some(own), found)
+    let inside = Place {
+        members: DeclKind::Field,
+        scope: place.scope,
+        parent: Some(found.len()),
+    };
+    add_own(alloc, text, kind, name, place, found)?;
+    add_decls(alloc, text, items, inside, found)
+}
+
+// Adds what is declared in an `extend` block, whose scope and parent are those of the block.
+#[cycle(decls)]
+fn add_extensions(
+    alloc: Global,
+    text: &str,
+    items: &[Node],
+    place: Place<'_>,
+    found: &mut Items<Decl>,
+) -> Result<(), AllocError>
+    ensures { OnOk result (found.new ≡ found.old ++ spec.decls_in text.now items.now kinds.Extension place.entry.scope.now place.entry.parent (length found.old)) }
+{
+    let inside = Place {
+        members: DeclKind::Extension,
+        scope: place.scope,
+        parent: place.parent,
+    };
+    add_decls(alloc, text, items, inside, found)
 }
 
 // Adds the declarations of a statement, and of all inside it.
@@ -115,86 +141,33 @@ pub fn add_decl(
     alloc: Global,
     text: &str,
     node: &Node,
-    members: DeclKind,
-    scope: &str,
-    parent: Option<usize>,
+    place: Place<'_>,
     found: &mut Items<Decl>,
 ) -> Result<(), AllocError>
-    ensures { OnOk result (found.new ≡ found.old ++ spec.decls_of text.now node.now members scope.now parent (length found.old)) }
+    ensures { OnOk result (found.new ≡ found.old ++ spec.decls_of text.now node.now place.entry.members place.entry.scope.now place.entry.parent (length found.old)) }
 {
     match node {
         Node::Message { name, items, .. } => {
             let items = items.as_slice();
-            add_scope(
-                alloc,
-                text,
-                DeclKind::Message,
-                *name,
-                items,
-                scope,
-                parent,
-                found,
-            )
+            add_scope(alloc, text, DeclKind::Message, *name, items, place, found)
         }
         Node::Service { name, items, .. } => {
             let items = items.as_slice();
-            add_scope(
-                alloc,
-                text,
-                DeclKind::Service,
-                *name,
-                items,
-                scope,
-                parent,
-                found,
-            )
+            add_scope(alloc, text, DeclKind::Service, *name, items, place, found)
         }
         Node::EnumDef { name, items, .. } => {
             let items = items.as_slice();
-            add_block(
-                alloc,
-                text,
-                DeclKind::EnumDef,
-                *name,
-                items,
-                scope,
-                parent,
-                found,
-            )
+            add_block(alloc, text, DeclKind::EnumDef, *name, items, place, found)
         }
         Node::Oneof { name, items, .. } => {
             let items = items.as_slice();
-            add_block(
-                alloc,
-                text,
-                DeclKind::Oneof,
-                *name,
-                items,
-                scope,
-                parent,
-                found,
-            )
+            add_block(alloc, text, DeclKind::Oneof, *name, items, place, found)
         }
-        Node::Extend { items, .. } => {
-            let items = items.as_slice();
-            add_decls(
-                alloc,
-                text,
-                items,
-                DeclKind::Extension,
-                scope,
-                parent,
-                found,
-            )
-        }
-        Node::Rpc { name, .. } => {
-            add_own(alloc, text, DeclKind::Rpc, *name, scope, parent, found)
-        }
-        Node::Field(field) => add_own(alloc, text, members, field.name, scope, parent, found),
-        Node::MapField(field) => add_own(alloc, text, members, field.name, scope, parent, found),
-        Node::Value { name, .. } => {
-            add_own(alloc, text, DeclKind::Value, *name, scope, parent, found)
-        }
+        Node::Extend { items, .. } => add_extensions(alloc, text, items.as_slice(), place, found),
+        Node::Rpc { name, .. } => add_own(alloc, text, DeclKind::Rpc, *name, place, found),
+        Node::Field(field) => add_own(alloc, text, place.members, field.name, place, found),
+        Node::MapField(field) => add_own(alloc, text, place.members, field.name, place, found),
+        Node::Value { name, .. } => add_own(alloc, text, DeclKind::Value, *name, place, found),
         _ => Ok(()),
     }
 }

@@ -1,12 +1,15 @@
 // Laws of diagnostics and of facts. Each is proved for all lists, texts and trees, and its function does nothing.
-ghost use Rattle.std.specs.Prelude.{◌≡◌, ℕ, List};
+ghost use Rattle.std.specs.List.Sorted.{IsStrictlyIncreasing};
+ghost use Rattle.std.specs.Prelude.{◌≡◌, ℕ, List, map};
 ghost use Rattle.proto_syntax.specs.declared.node.FileTree.{FileTree};
 ghost use Rattle.proto_facts.specs.declared.diagnostic.Diag.{Diag};
 ghost use Rattle.proto_facts.specs.declared.fact.FileFacts.{FileFacts};
 ghost use Rattle.proto_facts.specs.declared.message.Message.{Message};
-ghost use Rattle.proto_facts.specs.Facts.{AreFacts, facts_in};
+ghost use Rattle.proto_facts.specs.Facts.{AreFacts, facts_in, facts_of};
 ghost use Rattle.proto_facts.specs.Messages.{message_order, variant_order};
 ghost use Rattle.proto_facts.specs.Order.{IsListOf, in_order as ordered};
+
+use proto_syntax::names_law;
 
 /// A law: the variants of `Message` stand in the order of their numbers, and those of one number in that of their words.
 pub fn messages_in_order()
@@ -24,3 +27,10 @@ pub fn one_value_of_facts()
     ensures value { (text : List ℕ) (tree : FileTree) → AreFacts text tree (facts_in text tree) }
     ensures only { (text : List ℕ) (tree : FileTree) (f : FileFacts) → AreFacts text tree f → f ≡ facts_in text tree }
 {}
+
+/// A law: the declarations of a text stand in the order of their names: each name starts before the next one.
+pub fn decls_in_order()
+    ensures { (text : List ℕ) → IsStrictlyIncreasing (map (λ d. d.name_span.start) (facts_of text).decls) }
+{
+    names_law();
+}

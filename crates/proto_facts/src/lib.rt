@@ -4,7 +4,7 @@
 //! statements, numbers and names that are used, reserved or declared twice, and the like. Which values these are is
 //! defined in specs/Facts.antt. Each kind of diagnostic has one definition: 201 to 204 in specs/Diags.antt, 312 to 317
 //! in specs/Facts.antt, the others in specs/Checks.antt. `in_order` puts diagnostics of whatever source into the order in
-//! which a file lists them.
+//! which a file lists them. The declarations of a text stand in the order of their names, as the law `decls_in_order` says.
 #![tactic(auto)]
 
 mod bodies;
@@ -29,7 +29,8 @@ mod walk;
 
 pub use diagnostic::{Diag, in_order};
 pub use fact::{Decl, DeclKind, FileFacts, ImportFact, PackageFact, SyntaxFact};
-pub use laws::{messages_in_order, one_list_in_order, one_value_of_facts};
+pub use laws::{decls_in_order, messages_in_order, one_list_in_order, one_value_of_facts};
 pub use message::Message;
 pub use name::Name;
 pub use report::facts;
+pub use text::{joined, text_at};

@@ -14,7 +14,7 @@ fn is_boundary(text: &str, offset: usize) -> bool
     text.is_char_boundary(offset)
 }
 
-// What stands at a span; nothing where that is no part of the text.
+/// What stands at a span of a text; nothing where the span is no part of the text, or begins or ends inside a character.
 pub fn text_at(text: &str, span: Span) -> &str
     ensures { result.now ≡ spec.text_at text.now span }
 {
@@ -52,7 +52,12 @@ pub fn literal_text(alloc: Global, text: &str, literal: &Literal) -> Result<Name
     Ok(Name::of(found))
 }
 
-// The full name of a declaration in a scope, in memory of just its size.
+/// The full name of a name in a scope: the two with a dot between them, or the name alone where the scope is empty. It is
+/// in memory of just its size.
+///
+/// # Errors
+///
+/// `AllocError` where memory was refused.
 pub fn joined(alloc: Global, scope: &str, name: &str) -> Result<Name, AllocError>
     ensures { IfOk result (λ n. n ≡ spec.joined scope.now name.now) }
 {

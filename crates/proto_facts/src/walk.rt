@@ -8,7 +8,7 @@ ghost use Rattle.proto_facts.specs.declared.fact.DeclKind.TheVariants as kind;
 ghost use Rattle.proto_facts.specs.Tree as spec;
 
 use crate::bodies::add_statement_diags;
-use crate::decls::add_decl;
+use crate::decls::{Place, add_decl};
 use crate::diagnostic::Diag;
 use crate::fact::{Decl, DeclKind};
 use proto_syntax::{Items, Node};
@@ -44,8 +44,13 @@ pub fn add_statements(
     ensures decls { OnOk result (decls.new ≡ decls.old ++ declared.decls_in text.now nodes.now kind.Field scope.now None (length decls.old)) }
     ensures diags { OnOk result (diags.new ≡ diags.old ++ flat_map (checks.statement_diags text.now) (spec.all_statements nodes.now)) }
 {
+    let top = Place {
+        members: DeclKind::Field,
+        scope,
+        parent: None,
+    };
     'nodes: for node in nodes {
-        add_decl(alloc, text, node, DeclKind::Field, scope, None, decls)?;
+        add_decl(alloc, text, node, top, decls)?;
         add_statement_diags(alloc, text, node, diags)?;
         add_inner_diags(alloc, text, node, diags)?;
     }

@@ -1,10 +1,10 @@
 // What `facts` finds in texts, with the real lexer and parser.
 use proto_facts::{
-    Diag, FileFacts, Message, Name, SyntaxFact, facts, in_order, messages_in_order,
-    one_list_in_order, one_value_of_facts,
+    Diag, FileFacts, Message, Name, SyntaxFact, decls_in_order, facts, in_order, joined,
+    messages_in_order, one_list_in_order, one_value_of_facts, text_at,
 };
 use proto_lex::lex;
-use proto_syntax::parse;
+use proto_syntax::{Span, names_law, parse};
 use std::test::Fail;
 
 // The facts of a text.
@@ -249,6 +249,17 @@ fn diagnostics_in_order(rt: HostRuntime) -> Result<(), Fail> {
     messages_in_order();
     one_list_in_order();
     one_value_of_facts();
+    names_law();
+    decls_in_order();
+    Ok(())
+}
+
+#[test]
+fn full_names_of_a_text(rt: HostRuntime) -> Result<(), Fail> {
+    let name = text_at("enum É { }", Span { start: 5, end: 7 });
+    assert_eq!(rt; joined(rt.alloc(), "a.b", name)?.as_str(), "a.b.É");
+    assert_eq!(rt; joined(rt.alloc(), "", name)?.as_str(), "É");
+    assert_eq!(rt; text_at("enum É { }", Span { start: 5, end: 6 }), "");
     Ok(())
 }
 

@@ -2,4 +2,12 @@ pub mod Within
 pub mod Imports
 pub mod Innermost
 pub mod Search
-pub mod Packages
+pub mod Prefixes
+pub mod Order
+pub mod Firsts
+pub mod Members
+pub mod Meets
+pub mod Outers
+pub mod LastUse
+pub mod Places
+pub mod UsesOf

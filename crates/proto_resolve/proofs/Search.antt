@@ -13,13 +13,13 @@ use Rattle.std.proofs.lemmas.List.Elements.{All-from_get_or}
 use Rattle.std.proofs.lemmas.List.Folds.{list_any_at, list_any_none}
 use Rattle.std.proofs.lemmas.List.Kept.{AllPairs-from_increasing}
 
-below : (a x : ℕ) → a < x → nat_cmp a x ≡ Less
+pub below : (a x : ℕ) → a < x → nat_cmp a x ≡ Less
 below a x lt = sym (nat_cmp_is a x Less lt)
 
-same : (x : ℕ) → nat_cmp x x ≡ Equal
+pub same : (x : ℕ) → nat_cmp x x ≡ Equal
 same x = sym (nat_cmp_is x x Equal refl)
 
-above : (a x : ℕ) → x < a → nat_cmp a x ≡ Greater
+pub above : (a x : ℕ) → x < a → nat_cmp a x ≡ Greater
 above a x lt = sym (nat_cmp_is a x Greater lt)
 
 at_most_two : (o : Ordering) → ordering_index o ≤ 2

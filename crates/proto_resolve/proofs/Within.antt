@@ -1,5 +1,5 @@
 -- What is found is there.
-use Rattle.std.proofs.Common.{◌≡◌, ℕ, ◌+◌, ◌<◌, ◌==◌, List, [], ◌∷◌, Bool, length, Option, Some, None, map, find, inl, inr, ap, arith}
+use Rattle.std.proofs.Common.{◌≡◌, ℕ, ◌+◌, ◌<◌, ◌==◌, List, [], ◌∷◌, Bool, length, Option, Some, None, map, find, inl, inr, arith}
 use Rattle.std.specs.Prelude.{All, bytes_eq}
 use Rattle.std.specs.List.{enumerate_from, flat_map}
 use Rattle.std.specs.Option.{option_or}
@@ -8,9 +8,7 @@ use Rattle.std.proofs.lemmas.List.Elements.{All-nil, All-head, All-tail, All-app
 use Rattle.import_graph.specs.declared.paths.NamedFacts.{NamedFacts}
 use Rattle.proto_resolve.specs.declared.target.DeclRef.{DeclRef}
 use Rattle.proto_resolve.specs.Files.{all_decls, all_named, decl_at}
-use Rattle.std.specs.Prelude.{option_and_then}
-use Rattle.proto_resolve.specs.declared.site.NameSite.{NameSite}
-use Rattle.proto_resolve.specs.Names.{first_declared, is_seen, found, joined_all, meaning, scope_of, texts_of}
+use Rattle.proto_resolve.specs.Names.{first_declared, is_seen}
 
 abbrev refs : ℕ × NamedFacts → List DeclRef
 refs e = map (λ d. record { file = e.0; number = d.0 }) (enumerate_from 0 (let facts = e.1.facts in facts.decls))
@@ -49,8 +47,3 @@ first_within files f view name x e =
     (λ y own. found_one (λ r. r.file < length files) (is_own f) (all_named files name) y (named_within files name) own)
     (λ y seen. found_one (λ r. r.file < length files) (is_visible view) (all_named files name) y (named_within files name) seen)
     e
-
--- at a scope that settles the name
-pub meaning_at : (files : List NamedFacts) (f : ℕ) (view : List ℕ) (site : NameSite) (s : List ℕ) → scope_of files f view site ≡ Some s
-    → meaning files f view site ≡ found files f view (joined_all s (texts_of site))
-meaning_at files f view site s e = ap (λ (o : Option (List ℕ)). option_and_then (λ s. found files f view (joined_all s (texts_of site))) o) e

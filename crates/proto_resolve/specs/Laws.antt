@@ -1,11 +1,45 @@
 -- Laws of the definitions.
-use Rattle.std.specs.Prelude.{◌≡◌, ℕ, List, true, Some}
+use Rattle.std.specs.Prelude.{◌≡◌, ◌≢◌, ◌↔◌, ◌⊎◌, ◌==◌, ℕ, suc, Bool, List, [], All, IsTrue, Some, None, true, false, map, length, take}
+use Rattle.std.specs.List.{list_any, range_with_len}
 use Rattle.import_graph.specs.declared.paths.NamedFacts.{NamedFacts}
+use Rattle.proto_facts.specs.Text.{joined}
 use Rattle.proto_resolve.specs.declared.site.NameSite.{NameSite}
-use Rattle.std.specs.Prelude.{false}
-use Rattle.proto_resolve.specs.Names.{scope_of, settles_at, IsInnermost}
+use Rattle.proto_resolve.specs.declared.target.Target.{Target}
+use Rattle.proto_resolve.specs.declared.uses.NameUse.{NameUse}
+use Rattle.proto_resolve.specs.Files.{all_named, has_package}
+use Rattle.proto_resolve.specs.Names.{found, is_seen, joined_all, meaning, scope_of, settles_at, texts_of, IsInnermost}
+use Rattle.proto_resolve.specs.Uses.{uses_of}
 
--- the scope of a name is the innermost one that settles it
+-- A name without a leading dot has the scope s exactly where s settles it and no inner scope does, and none exactly where no
+-- scope does.
 abbrev pub ScopeLaw : Type 0
-ScopeLaw = (files : List NamedFacts) (f : ℕ) (view : List ℕ) (site : NameSite) (s : List ℕ) → site.is_absolute ≡ false
-    → scope_of files f view site ≡ Some s → IsInnermost (λ x. settles_at files f view site x ≡ true) site.scopes s
+ScopeLaw = (files : List NamedFacts) (f : ℕ) (view : List ℕ) (site : NameSite) → site.is_absolute ≡ false
+    → ((s : List ℕ) → (scope_of files f view site ≡ Some s) ↔ IsInnermost (λ x. settles_at files f view site x ≡ true) site.scopes s)
+    × ((scope_of files f view site ≡ None) ↔ All (λ x. settles_at files f view site x ≡ false) site.scopes)
+
+-- whether a file declares a full name
+abbrev pub declares : List NamedFacts → List ℕ → ℕ → Bool
+declares files name g = list_any (λ r. r.file == g) (all_named files name)
+
+-- A file that declares a full name inside an outer one declares the outer one too, or has it as a package.
+abbrev pub AreHeld : List NamedFacts → Type 0
+AreHeld files = (g : ℕ) (outer name : List ℕ) → outer ≢ [] → IsTrue (declares files (joined outer name) g)
+    → IsTrue (declares files outer g) ⊎ IsTrue (has_package files outer g)
+
+-- the full name of a name's first components, up to the one of the number k, in the scope s
+abbrev pub up_to : List ℕ → NameSite → ℕ → List ℕ
+up_to s site k = joined_all s (take (suc k) (texts_of site))
+
+-- one use for each component of the i-th name, in order, of what is found at the full name up to it
+pub record AreUsesOf (files : List NamedFacts) (f : ℕ) (view : List ℕ) (i : ℕ) (s : List ℕ) (site : NameSite) (uses : List NameUse) : Type 0 where
+  pub numbers : All (λ u. u.name ≡ i) uses
+  pub spans : map (λ u. u.span) uses ≡ map (λ c. c.span) site.components
+  pub targets : map (λ u. Some u.target) uses ≡ map (λ k. found files f view (up_to s site k)) (range_with_len 0 (length site.components))
+
+-- A name without a meaning has no uses. A name with a meaning has one for each component, where the files declare what their
+-- declarations lie in, the file sees itself, and no component is empty.
+abbrev pub UsesLaw : Type 0
+UsesLaw = (files : List NamedFacts) (f : ℕ) (view : List ℕ) (i : ℕ) (site : NameSite)
+    → (meaning files f view site ≡ None → uses_of files f view i site ≡ [])
+    × ((s : List ℕ) (t : Target) → AreHeld files → IsTrue (is_seen view f) → All (λ c. c ≢ []) (texts_of site)
+    → scope_of files f view site ≡ Some s → meaning files f view site ≡ Some t → AreUsesOf files f view i s site (uses_of files f view i site))

@@ -3,7 +3,10 @@ pub mod Names
 pub mod Views
 pub mod Uses
 pub mod ViewFaults
+pub mod Places
 pub mod Sites
 pub mod Resolved
 pub mod Laws
 pub mod Tables
+pub mod Finding
+pub mod FindingLaws

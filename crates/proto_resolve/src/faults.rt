@@ -1,6 +1,8 @@
 // What is wrong with the names, imports and declarations of a file by what it sees.
-ghost use Rattle.std.specs.Prelude.{◌≡◌, ◌==◌, ◌&&◌, ◌++◌, ◌<◌, not, length, All, OnOk, IfOk, IfSome};
+ghost use Rattle.std.specs.Prelude.{◌≡◌, ◌==◌, ◌&&◌, ◌++◌, ◌<◌, not, ℕ, List, find, is_some, length, All, OnOk, IfOk, IfSome};
 ghost use Rattle.std.specs.List.{flat_map, list_any, enumerate_from};
+ghost use Rattle.std.specs.List.Sorted.{IsNonDecreasingBy};
+ghost use Rattle.proto_resolve.specs.declared.site.NameSite.{NameSite};
 ghost use Rattle.proto_facts.specs.Diags.{diag};
 ghost use Rattle.import_graph.specs.Links.{graph_of};
 ghost use Rattle.import_graph.specs.Closures.{view_of};
@@ -9,8 +11,9 @@ ghost use Rattle.proto_resolve.specs.Views.{IsView};
 ghost use Rattle.proto_resolve.specs.Names.{is_seen, is_type, has_kind, IsThere};
 ghost use Rattle.proto_resolve.specs.ViewFaults as spec;
 
+use crate::finding::first_of;
 use crate::index::Index;
-use crate::scopes::{is_type, kind_at, meaning};
+use crate::scopes::{is_type, kind_at};
 use crate::site::{NameSite, Needs};
 use crate::target::{DeclRef, Target};
 use crate::view::View;
@@ -40,37 +43,20 @@ fn has_kind<I: Index>(index: &I, needs: Needs, target: &Target) -> bool
     }
 }
 
-// Adds what is wrong with the names.
-fn push_name_faults<I: Index>(
-    alloc: Global,
+// Adds what is wrong with a name that means this.
+pub fn push_name_fault<I: Index>(
     index: &I,
-    view: &View,
-    sites: &[NameSite],
-    found: &mut Items<Diag>,
-) -> Result<(), AllocError>
-    requires { IsView (I.files index.now) view.now }
-    ensures { OnOk result (found.new ≡ found.old ++ flat_map (spec.name_faults (I.files index.now) view.now.file view.now.files) sites.now) }
-{
-    'sites: for site in sites {
-        push_name_fault(alloc, index, view, site, found)?;
-    }
-    Ok(())
-}
-
-fn push_name_fault<I: Index>(
-    alloc: Global,
-    index: &I,
-    view: &View,
     site: &NameSite,
+    target: &Option<Target>,
     found: &mut Items<Diag>,
 ) -> Result<(), AllocError>
-    requires { IsView (I.files index.now) view.now }
-    ensures { OnOk result (found.new ≡ found.old ++ spec.name_faults (I.files index.now) view.now.file view.now.files site.now) }
+    requires { IfSome target.now (IsThere (I.files index.now)) }
+    ensures { (f : ℕ) (seen : List ℕ) → OnOk result (found.new ≡ found.old ++ spec.faults_of_meaning (I.files index.now) f seen site.now target.now) }
 {
-    match meaning(alloc, index, view, site)? {
+    match target {
         None => found.push(diag(Message::Unresolved, site.span)),
         Some(target) => {
-            if has_kind(index, site.needs, &target) {
+            if has_kind(index, site.needs, target) {
                 return Ok(());
             }
             found.push(diag(Message::WrongKind, site.span))
@@ -81,7 +67,6 @@ fn push_name_fault<I: Index>(
 // ---- imports
 
 fn push_import_faults<I: Index>(
-    alloc: Global,
     index: &I,
     file: usize,
     imports: &[ImportFact],
@@ -92,13 +77,12 @@ fn push_import_faults<I: Index>(
     ensures { OnOk result (found.new ≡ found.old ++ flat_map (spec.import_faults (I.files index.now) file) (enumerate_from 0 imports.now)) }
 {
     for (number, import) in imports.iter().enumerate() {
-        push_import_fault(alloc, index, file, number, import, found)?;
+        push_import_fault(index, file, number, import, found)?;
     }
     Ok(())
 }
 
 fn push_import_fault<I: Index>(
-    alloc: Global,
     index: &I,
     file: usize,
     number: usize,
@@ -113,7 +97,7 @@ fn push_import_fault<I: Index>(
     match graph.import_of(file, number) {
         None => found.push(diag(Message::ImportNotFound, import.span)),
         Some(_) => {
-            if graph.closes_cycle(alloc, file, number)? {
+            if graph.closes_cycle(file, number)? {
                 found.push(diag(Message::ImportCycle, import.span))?;
             }
             Ok(())
@@ -123,12 +107,37 @@ fn push_import_fault<I: Index>(
 
 // ---- declarations
 
+// Whether another file of the view has one of the declarations, which are by file. The shorter list is walked.
 fn is_elsewhere(decls: &[DeclRef], view: &View) -> bool
+    requires { IsNonDecreasingBy (λ r. r.file) decls.now }
     ensures { result ≡ list_any (λ r. not (r.file == view.now.file) && is_seen view.now.files r.file) decls.now }
 {
-    decls
-        .iter()
-        .any(|decl| decl.file != view.file && view.has(decl.file))
+    if decls.len() <= view.files.len() {
+        decls
+            .iter()
+            .any(|decl| decl.file != view.file && view.has(decl.file))
+    } else {
+        has_another(decls, view)
+    }
+}
+
+fn has_another(decls: &[DeclRef], view: &View) -> bool
+    requires { IsNonDecreasingBy (λ r. r.file) decls.now }
+    ensures { result ≡ list_any (λ r. not (r.file == view.now.file) && is_seen view.now.files r.file) decls.now }
+{
+    for &file in view.files.as_slice() {
+        if has_other(decls, file, view.file) {
+            return true;
+        }
+    }
+    false
+}
+
+fn has_other(decls: &[DeclRef], file: usize, own: usize) -> bool
+    requires { IsNonDecreasingBy (λ r. r.file) decls.now }
+    ensures { result ≡ (not (file == own) && is_some (find (λ r. r.file == file) decls.now)) }
+{
+    file != own && first_of(decls, file).is_some()
 }
 
 // Adds what is wrong with the declarations.
@@ -160,7 +169,7 @@ fn push_faults_of<I: Index>(
     if is_elsewhere(index.named(name), view) {
         found.push(diag(Message::DeclaredElsewhere, decl.name_span))?;
     }
-    if view.has_package(name) {
+    if view.packages.has(name) {
         found.push(diag(Message::NameIsPackage, decl.name_span))?;
     }
     Ok(())
@@ -168,25 +177,27 @@ fn push_faults_of<I: Index>(
 
 // ---- a file
 
-// What is wrong in a file by what it sees: names, imports and declarations in turn.
+// What is wrong in a file by what it sees: with its names, where the view is closed, its imports and its declarations in turn.
+// What is wrong with the names is handed in.
 pub fn faults_of<I: Index>(
     alloc: Global,
     index: &I,
     view: &View,
-    sites: &[NameSite],
+    names: Items<Diag>,
 ) -> Result<Items<Diag>, AllocError>
     requires file { view.now.file < length (I.files index.now) }
     requires is_view { IsView (I.files index.now) view.now }
     requires files { view.now.files ≡ view_of (graph_of (I.files index.now)) view.now.file }
-    ensures { IfOk result (λ d. d ≡ spec.view_faults (I.files index.now) view.now.file sites.now) }
+    ensures { (sites : List NameSite) → names ≡ flat_map (spec.name_faults (I.files index.now) view.now.file view.now.files) sites → IfOk result (λ d. d ≡ spec.view_faults (I.files index.now) view.now.file sites) }
 {
-    let mut found = Items::new(alloc);
+    let mut found = if index.graph().are_complete(view.files.as_slice()) {
+        names
+    } else {
+        Items::new(alloc)
+    };
     let file = view.file;
-    if index.graph().are_complete(view.files.as_slice()) {
-        push_name_faults(alloc, index, view, sites, &mut found)?;
-    }
     let facts = index.facts(file);
-    push_import_faults(alloc, index, file, facts.imports.as_slice(), &mut found)?;
+    push_import_faults(index, file, facts.imports.as_slice(), &mut found)?;
     push_decl_faults(index, view, facts.decls.as_slice(), &mut found)?;
     Ok(found)
 }

@@ -1,5 +1,6 @@
 // What stands at a full name.
 ghost use Rattle.std.specs.Prelude.{◌≡◌, ◌==◌, find, List, IfOk, IfSome};
+ghost use Rattle.std.specs.List.Sorted.{IsNonDecreasingBy};
 ghost use Rattle.import_graph.specs.declared.paths.NamedFacts.{NamedFacts};
 ghost use Rattle.proto_resolve.specs.Views.{IsView};
 ghost use Rattle.proto_resolve.specs.Names.{found, first_declared, is_seen, package_found, IsThere};
@@ -10,16 +11,40 @@ use crate::view::View;
 use proto_facts::Name;
 use std::alloc::{AllocError, Global};
 
-fn first_of(decls: &[DeclRef], file: usize) -> Option<DeclRef>
+// The first declaration of a file, among declarations by file.
+pub fn first_of(decls: &[DeclRef], file: usize) -> Option<DeclRef>
+    requires { IsNonDecreasingBy (λ r. r.file) decls.now }
     ensures { result ≡ find (λ r. r.file == file) decls.now }
 {
-    decls.iter().copied().find(|decl| decl.file == file)
+    let place = decls.partition_point(|decl| decl.file < file);
+    if place >= decls.len() || decls[place].file != file {
+        return None;
+    }
+    Some(decls[place])
 }
 
+// The first declaration of a file of the view, among declarations by file. The shorter list is walked.
 fn first_seen(decls: &[DeclRef], view: &View) -> Option<DeclRef>
+    requires { IsNonDecreasingBy (λ r. r.file) decls.now }
     ensures { result ≡ find (λ r. is_seen view.now.files r.file) decls.now }
 {
-    decls.iter().copied().find(|decl| view.has(decl.file))
+    if decls.len() <= view.files.len() {
+        decls.iter().copied().find(|decl| view.has(decl.file))
+    } else {
+        first_of_files(decls, view)
+    }
+}
+
+fn first_of_files(decls: &[DeclRef], view: &View) -> Option<DeclRef>
+    requires { IsNonDecreasingBy (λ r. r.file) decls.now }
+    ensures { result ≡ find (λ r. is_seen view.now.files r.file) decls.now }
+{
+    for &file in view.files.as_slice() {
+        if let Some(decl) = first_of(decls, file) {
+            return Some(decl);
+        }
+    }
+    None
 }
 
 // What a file finds at a full name, where it sees the files of the view.
@@ -40,6 +65,7 @@ pub fn found<I: Index>(
 }
 
 fn first_declared(decls: &[DeclRef], view: &View) -> Option<DeclRef>
+    requires { IsNonDecreasingBy (λ r. r.file) decls.now }
     ensures { result ≡ first_declared view.now.file view.now.files decls.now }
 {
     match first_of(decls, view.file) {
@@ -52,7 +78,7 @@ fn package_found(alloc: Global, view: &View, name: &str) -> Result<Option<Target
     ensures value { (files : List NamedFacts) → IsView files view.now → IfOk result (λ r. r ≡ package_found files view.now.files name.now) }
     ensures within { (files : List NamedFacts) → IfOk result (λ r. IfSome r (IsThere files)) }
 {
-    if !view.has_package(name) {
+    if !view.packages.has(name) {
         return Ok(None);
     }
     let name = String::from_str(alloc, name)?;

@@ -5,7 +5,7 @@ ghost use Rattle.proto_resolve.specs.Resolved.{resolved};
 use crate::faults::faults_of;
 use crate::index::Index;
 use crate::sites::names_of_file;
-use crate::uses::{NameUse, all_uses};
+use crate::uses::{NameUse, resolve_names};
 use crate::views::view_of;
 use proto_facts::{Diag, in_order};
 use proto_syntax::{FileTree, Items};
@@ -34,8 +34,11 @@ pub fn resolve_file<I: Index>(
 {
     let view = view_of(alloc, index, file)?;
     let sites = names_of_file(alloc, text, index.facts(file), tree.nodes.as_slice())?;
-    let uses = all_uses(alloc, index, &view, sites.as_slice())?;
-    let found = faults_of(alloc, index, &view, sites.as_slice())?;
+    let names = resolve_names(alloc, index, &view, sites.as_slice())?;
+    let found = faults_of(alloc, index, &view, names.faults)?;
     let diags = in_order(alloc, found.as_slice())?;
-    Ok(Links { uses, diags })
+    Ok(Links {
+        uses: names.uses,
+        diags,
+    })
 }

@@ -1,16 +1,16 @@
 // The scope in which a name is looked for, and what it means.
-ghost use Rattle.std.specs.Prelude.{◌≡◌, ◌==◌, ◌<◌, length, All, IfOk, IfSome};
+ghost use Rattle.std.specs.Prelude.{◌≡◌, ◌==◌, ◌<◌, length, All, IfOk, IfSome, option_copied, option_and_then};
 ghost use Rattle.proto_resolve.specs.Files.{decl_at};
 ghost use Rattle.proto_resolve.specs.Views.{IsView};
-ghost use Rattle.proto_resolve.specs.Names.{found, is_type, is_holder, settles, settles_at, first_text, joined_all, texts_of, scope_of, meaning, IsThere};
+ghost use Rattle.proto_resolve.specs.Names.{found, is_type, is_holder, settles, settles_at, first_text, joined_all, texts_of, scope_of, IsThere};
 
 use crate::finding::found;
-use crate::full_names::{copied, joined, joined_all};
+use crate::full_names::{joined_all, push_component};
 use crate::index::Index;
 use crate::site::{NameSite, Needs};
 use crate::target::{DeclRef, Target};
 use crate::view::View;
-use proto_facts::{DeclKind, Name};
+use proto_facts::DeclKind;
 use std::alloc::{AllocError, Global};
 
 pub fn is_type(needs: Needs, kind: DeclKind) -> bool
@@ -70,64 +70,72 @@ fn first_text(site: &NameSite) -> &str
     }
 }
 
+// Whether a scope settles a name. The full name of the first component is written over `name`.
 fn settles_at<I: Index>(
     alloc: Global,
     index: &I,
     view: &View,
     site: &NameSite,
     scope: &str,
+    name: &mut String,
 ) -> Result<bool, AllocError>
     requires { IsView (I.files index.now) view.now }
     ensures { IfOk result (λ r. r ≡ settles_at (I.files index.now) view.now.file view.now.files site.now scope.now) }
 {
-    let first = joined(alloc, scope, first_text(site))?;
-    let target = found(alloc, index, view, first.as_str())?;
+    name.clear();
+    name.push_str(scope)?;
+    push_component(name, first_text(site))?;
+    let target = found(alloc, index, view, name.as_str())?;
     Ok(settles(index, site.components.len() == 1, &target))
 }
 
 // The innermost scope that settles a name: where its first component is found as what ends the search.
-pub fn scope_of<I: Index>(
+pub fn scope_of<'a, I: Index>(
     alloc: Global,
     index: &I,
     view: &View,
-    site: &NameSite,
-) -> Result<Option<Name>, AllocError>
+    site: &'a NameSite,
+) -> Result<Option<&'a str>, AllocError>
     requires { IsView (I.files index.now) view.now }
-    ensures { IfOk result (λ r. r ≡ scope_of (I.files index.now) view.now.file view.now.files site.now) }
+    ensures { IfOk result (λ r. option_copied r ≡ scope_of (I.files index.now) view.now.file view.now.files site.now) }
 {
     if site.is_absolute {
-        return Ok(Some(copied(alloc, "")?));
+        return Ok(Some(""));
     }
-    for scope in site.scopes.as_slice() {
-        if settles_at(alloc, index, view, site, scope.as_str())? {
-            return Ok(Some(scope.copy(alloc)?));
+    let scopes = site.scopes.place();
+    let mut name = String::new(alloc);
+    for number in 0..scopes.len() {
+        let scope = scopes.get(number);
+        if settles_at(alloc, index, view, site, scope, &mut name)? {
+            return Ok(Some(scope));
         }
     }
     Ok(None)
 }
 
-// What a name means, if anything.
-pub fn meaning<I: Index>(
+// What a name means, if anything, where this is its scope.
+pub fn meaning_in<I: Index>(
     alloc: Global,
     index: &I,
     view: &View,
+    scope: Option<&str>,
     site: &NameSite,
 ) -> Result<Option<Target>, AllocError>
     requires { IsView (I.files index.now) view.now }
-    ensures value { IfOk result (λ r. r ≡ meaning (I.files index.now) view.now.file view.now.files site.now) }
+    ensures value { IfOk result (λ r. r ≡ option_and_then (λ s. found (I.files index.now) view.now.file view.now.files (joined_all s (texts_of site.now))) (option_copied scope.entry)) }
     ensures within { IfOk result (λ r. IfSome r (IsThere (I.files index.now))) }
 {
-    match scope_of(alloc, index, view, site)? {
+    match scope {
         None => Ok(None),
         Some(scope) => {
-            let target = found_in(alloc, index, view, scope.as_str(), site)?;
+            let target = found_in(alloc, index, view, scope, site)?;
             Ok(target)
         }
     }
 }
 
 // What stands at the full name that the components have in a scope.
-pub fn found_in<I: Index>(
+fn found_in<I: Index>(
     alloc: Global,
     index: &I,
     view: &View,

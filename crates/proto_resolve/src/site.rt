@@ -1,4 +1,5 @@
 // The names that stand in a file.
+use crate::place::Scopes;
 use proto_facts::Name;
 use proto_syntax::{Items, Span};
 
@@ -16,7 +17,7 @@ pub struct Component {
     pub span: Span,
 }
 
-// A name that stands in a file, with its scopes, innermost first.
+// A name that stands in a file.
 #[derive(Debug, Drop)]
 pub struct NameSite {
     // The whole name, its leading dot included.
@@ -24,6 +25,7 @@ pub struct NameSite {
     // Whether a dot stands before the first component.
     pub is_absolute: bool,
     pub components: Items<Component>,
-    pub scopes: Items<Name>,
+    // Innermost first.
+    pub scopes: Scopes,
     pub needs: Needs,
 }

@@ -2,9 +2,10 @@
 ghost use Rattle.std.specs.Prelude.{◌≡◌, ◌++◌, ◌∷◌, length, map, OnOk, IfOk};
 ghost use Rattle.proto_resolve.specs.Sites as spec;
 
-use crate::full_names::{copied, joined, text_at};
+use crate::full_names::copied;
+use crate::place::{Place, Scopes};
 use crate::site::{Component, NameSite, Needs};
-use proto_facts::{FileFacts, Name, PackageFact, SyntaxFact};
+use proto_facts::{FileFacts, PackageFact, SyntaxFact, text_at};
 use proto_syntax::{Items, Node, Span, TypeName};
 use std::alloc::{AllocError, Global};
 
@@ -21,26 +22,12 @@ fn components(alloc: Global, text: &str, spans: &[Span]) -> Result<Items<Compone
     Ok(found)
 }
 
-fn copied_scopes(alloc: Global, scopes: &[Name], found: &mut Items<Name>) -> Result<(), AllocError>
-    ensures { OnOk result (found.new ≡ found.old ++ scopes.now) }
-{
-    'scopes: for scope in scopes {
-        found.push(scope.copy(alloc)?)?;
-    }
-    Ok(())
-}
-
-fn inner(alloc: Global, text: &str, name: Span, scopes: &[Name]) -> Result<Items<Name>, AllocError>
+// The scopes in a body with this name, which stands in these scopes.
+fn inner(alloc: Global, text: &str, name: Span, scopes: &Scopes) -> Result<Scopes, AllocError>
     ensures { IfOk result (λ found. found ≡ spec.inner text.now name scopes.now) }
 {
-    let outer = match scopes.first() {
-        Some(scope) => scope.as_str(),
-        None => "",
-    };
-    let mut found = Items::new(alloc);
-    found.push(joined(alloc, outer, text_at(text, name))?)?;
-    copied_scopes(alloc, scopes, &mut found)?;
-    Ok(found)
+    let place = scopes.place().copy(alloc)?;
+    Scopes::of(alloc, place.inside(text_at(text, name))?)
 }
 
 fn site(
@@ -48,17 +35,15 @@ fn site(
     text: &str,
     needs: Needs,
     name: &TypeName,
-    scopes: &[Name],
+    scopes: &Scopes,
 ) -> Result<NameSite, AllocError>
     ensures { IfOk result (λ s. s ≡ spec.site text.now needs name.now scopes.now) }
 {
-    let mut copies = Items::new(alloc);
-    copied_scopes(alloc, scopes, &mut copies)?;
     Ok(NameSite {
         span: name.span,
         is_absolute: name.is_absolute,
         components: components(alloc, text, name.components.as_slice())?,
-        scopes: copies,
+        scopes: scopes.share()?,
         needs,
     })
 }
@@ -99,7 +84,7 @@ fn push_type(
     alloc: Global,
     text: &str,
     name: &TypeName,
-    scopes: &[Name],
+    scopes: &Scopes,
     found: &mut Items<NameSite>,
 ) -> Result<(), AllocError>
     ensures { OnOk result (found.new ≡ found.old ++ spec.type_names text.now name.now scopes.now) }
@@ -116,7 +101,7 @@ pub fn push_names(
     alloc: Global,
     text: &str,
     nodes: &[Node],
-    scopes: &[Name],
+    scopes: &Scopes,
     found: &mut Items<NameSite>,
 ) -> Result<(), AllocError>
     ensures { OnOk result (found.new ≡ found.old ++ spec.names_in text.now nodes.now scopes.now) }
@@ -132,7 +117,7 @@ fn push_names_of(
     alloc: Global,
     text: &str,
     node: &Node,
-    scopes: &[Name],
+    scopes: &Scopes,
     found: &mut Items<NameSite>,
 ) -> Result<(), AllocError>
     ensures { OnOk result (found.new ≡ found.old ++ spec.names_of text.now node.now scopes.now) }
@@ -140,11 +125,11 @@ fn push_names_of(
     match node {
         Node::Message { name, items, .. } => {
             let inside = inner(alloc, text, *name, scopes)?;
-            push_names(alloc, text, items.as_slice(), inside.as_slice(), found)
+            push_names(alloc, text, items.as_slice(), &inside, found)
         }
         Node::Service { name, items, .. } => {
             let inside = inner(alloc, text, *name, scopes)?;
-            push_names(alloc, text, items.as_slice(), inside.as_slice(), found)
+            push_names(alloc, text, items.as_slice(), &inside, found)
         }
         Node::Oneof { items, .. } => push_names(alloc, text, items.as_slice(), scopes, found),
         Node::Extend { target, items, .. } => {
@@ -169,29 +154,26 @@ fn package_scopes(
     alloc: Global,
     text: &str,
     package: &Option<PackageFact>,
-) -> Result<Items<Name>, AllocError>
+) -> Result<Scopes, AllocError>
     ensures { IfOk result (λ scopes. scopes ≡ spec.package_scopes text.now «package».now) }
 {
-    let mut scopes = Items::new(alloc);
-    scopes.push(copied(alloc, "")?)?;
+    let place = Place::outermost(alloc)?;
     match package {
-        None => Ok(scopes),
-        Some(package) => scopes_after(alloc, text, scopes, package.components.as_slice()),
+        None => Scopes::of(alloc, place),
+        Some(package) => Scopes::of(
+            alloc,
+            scopes_after(text, place, package.components.as_slice())?,
+        ),
     }
 }
 
-fn scopes_after(
-    alloc: Global,
-    text: &str,
-    mut scopes: Items<Name>,
-    components: &[Span],
-) -> Result<Items<Name>, AllocError>
-    ensures { IfOk result (λ found. found ≡ spec.scopes_after text.now scopes components.now) }
+fn scopes_after(text: &str, mut place: Place, components: &[Span]) -> Result<Place, AllocError>
+    ensures { IfOk result (λ found. found ≡ spec.scopes_after text.now place components.now) }
 {
     'components: for &component in components {
-        scopes = inner(alloc, text, component, scopes.as_slice())?;
+        place = place.inside(text_at(text, component))?;
     }
-    Ok(scopes)
+    Ok(place)
 }
 
 // The names of a file, by offset.
@@ -208,7 +190,7 @@ pub fn names_of_file(
         SyntaxFact::Opaque => Ok(found),
         SyntaxFact::Proto3 => {
             let scopes = package_scopes(alloc, text, &facts.package)?;
-            push_names(alloc, text, nodes, scopes.as_slice(), &mut found)?;
+            push_names(alloc, text, nodes, &scopes, &mut found)?;
             Ok(found)
         }
     }

@@ -1,4 +1,4 @@
-// An index that holds its files, for tests.
+// An index that holds its files.
 ghost use Rattle.std.specs.Prelude.{◌≡◌, ◌++◌, ℕ, List, filter, length, IfOk, OnOk, bytes_eq};
 ghost use Rattle.std.specs.List.{enumerate_from};
 ghost use Rattle.import_graph.specs.Paths.{IsInPathOrder};
@@ -14,11 +14,12 @@ use std::alloc::{AllocError, Global};
 use std::collections::BTreeMap;
 use std::marker::Model;
 
-// Files with their graph, and with their declarations by name.
+/// Files with their graph, all their declarations, and those of each name. Contracts see it as the list of the files.
 #[derive(Drop)]
 pub struct Table {
     files: Vec<NamedFacts>,
     graph: Graph,
+    decls: Items<DeclRef>,
     names: BTreeMap<String, Vec<DeclRef>>,
 }
 
@@ -26,14 +27,14 @@ impl Model for Table {
     ghost use Rattle.std.specs.Prelude.{◌≡◌, ℕ, List};
     ghost use Rattle.import_graph.specs.declared.paths.NamedFacts.{NamedFacts};
     ghost use Rattle.import_graph.specs.Links.{graph_of};
-    ghost use Rattle.proto_resolve.specs.Files.{all_named};
+    ghost use Rattle.proto_resolve.specs.Files.{all_decls, all_named};
     ghost use Rattle.proto_resolve.specs.Tables.{listed};
 
     ghost Value = { List NamedFacts };
 
     ghost view = { λ t. t.files.items };
 
-    ghost invariant = { λ t. (t.graph ≡ graph_of t.files.items) × ((q : List ℕ) → listed t.names q ≡ all_named t.files.items q) };
+    ghost invariant = { λ t. (t.graph ≡ graph_of t.files.items) × (t.decls ≡ all_decls t.files.items) × ((q : List ℕ) → listed t.names q ≡ all_named t.files.items q) };
 }
 
 fn push_decls(file: usize, decls: &[Decl], found: &mut Items<DeclRef>) -> Result<(), AllocError>
@@ -83,7 +84,7 @@ fn by_name(
 }
 
 impl Table {
-    // The table of these files, which are in the order of their paths.
+    /// The table of these files, which are in the order of their paths. An `Err` comes only where memory was refused.
     pub fn of(alloc: Global, files: Vec<NamedFacts>) -> Result<Table, AllocError>
         requires { IsInPathOrder files.items }
         ensures { IfOk result (λ t. t ≡ files.items) }
@@ -94,11 +95,19 @@ impl Table {
         Ok(Table {
             files,
             graph,
+            decls,
             names,
         })
     }
 
-    // How many files there are.
+    /// All declarations, by path, then offset.
+    pub fn decls(&self) -> &[DeclRef]
+        ensures { result.now ≡ all_decls self.now }
+    {
+        self.decls.as_slice()
+    }
+
+    /// How many files there are.
     pub fn len(&self) -> usize
         ensures { result ≡ length self.now }
     {

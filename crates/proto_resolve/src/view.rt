@@ -1,11 +1,9 @@
 // What a file sees.
-ghost use Rattle.std.specs.Prelude.{◌≡◌};
+ghost use Rattle.std.specs.Prelude.{◌≡◌, ◌∷◌, [], ◌++◌, nat_eq};
 ghost use Rattle.std.specs.List.Sorted.{IsStrictlyIncreasing};
-ghost use Rattle.std.specs.List.{list_any};
-ghost use Rattle.proto_resolve.specs.Files.{begins, ends_component};
 ghost use Rattle.proto_resolve.specs.Names.{is_seen};
 
-use proto_facts::Name;
+use crate::packages::Packages;
 use proto_syntax::Items;
 
 // A file, the files that it sees, and their packages.
@@ -15,25 +13,9 @@ pub struct View {
     pub file: usize,
     // The files that it sees, ascending.
     pub files: Items<usize>,
-    // The full names of their packages, each once.
-    pub packages: Items<Name>,
+    // Their packages.
+    pub packages: Packages,
     ghost ascending: { IsStrictlyIncreasing files },
-}
-
-// Whether the first components of a name are these.
-fn begins(full_name: &[u8], name: &[u8]) -> bool
-    ensures { result ≡ begins full_name.now name.now }
-{
-    full_name.starts_with(name) && ends_component(&full_name[name.len()..])
-}
-
-fn ends_component(rest: &[u8]) -> bool
-    ensures { result ≡ ends_component rest.now }
-{
-    match rest {
-        [] => true,
-        [c, ..] => *c == b'.',
-    }
 }
 
 impl View {
@@ -42,15 +24,5 @@ impl View {
         ensures { result ≡ is_seen self.now.files file }
     {
         self.files.as_slice().binary_search(&file).is_ok()
-    }
-
-    // Whether a file of the view has the package.
-    pub fn has_package(&self, name: &str) -> bool
-        ensures { result ≡ list_any (λ p. begins p name.now) self.now.packages }
-    {
-        self.packages.as_slice().iter().any(|package| begins(
-            package.as_str().as_bytes(),
-            name.as_bytes(),
-        ))
     }
 }

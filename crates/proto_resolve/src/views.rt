@@ -1,55 +1,52 @@
 // The view of a file.
-ghost use Rattle.std.specs.Prelude.{◌≡◌, ◌||◌, ◌<◌, ℕ, List, length, All, IfOk, OnOk, bytes_eq};
-ghost use Rattle.std.specs.List.{list_any};
+ghost use Rattle.std.specs.Prelude.{◌≡◌, ◌||◌, ◌<◌, ◌++◌, ◌∷◌, [], ℕ, List, length, map, All, IfOk, OnOk, string_bytes};
 ghost use Rattle.import_graph.specs.Links.{graph_of};
 ghost use Rattle.import_graph.specs.Closures.{view_of};
-ghost use Rattle.proto_resolve.specs.Files.{begins, is_within};
-ghost use Rattle.proto_resolve.specs.Views.{ArePackagesOf, IsView};
+ghost use Rattle.proto_resolve.specs.Files.{dot, is_within};
+ghost use Rattle.proto_resolve.specs.Views.{have, ArePackagesOf, IsView};
 
 use crate::index::Index;
+use crate::packages::Packages;
 use crate::view::View;
 use proto_facts::{Name, PackageFact};
 use proto_syntax::Items;
 use std::alloc::{AllocError, Global};
 
-fn is_listed(name: &Name, names: &[Name]) -> bool
-    ensures { result ≡ list_any (λ p. bytes_eq p name.now) names.now }
+// The full name of a package with a dot behind it.
+fn with_dot(alloc: Global, name: &Name) -> Result<String, AllocError>
+    ensures { IfOk result (λ s. string_bytes s ≡ name.now ++ dot ∷ []) }
 {
-    names.iter().any(|other| other.as_str() == name.as_str())
+    let mut text = String::from_str(alloc, name.as_str())?;
+    text.push('.')?;
+    Ok(text)
 }
 
-// Adds a package, unless it is there.
+// Adds the package, if there is one.
 fn push_package(
     alloc: Global,
     package: &Option<PackageFact>,
-    found: &mut Items<Name>,
+    found: &mut Vec<String>,
 ) -> Result<(), AllocError>
-    ensures { OnOk result ((q : List ℕ) → list_any (λ p. begins p q) found.new ≡ (is_within q «package».now || list_any (λ p. begins p q) found.old)) }
+    ensures { OnOk result ((q : List ℕ) → have q (map string_bytes found.new.items) ≡ (have q (map string_bytes found.old.items) || is_within q «package».now)) }
 {
     match package {
         None => Ok(()),
         Some(package) => {
-            if is_listed(&package.full_name, found.as_slice()) {
-                return Ok(());
-            }
-            found.push(package.full_name.copy(alloc)?)
+            found.push(with_dot(alloc, &package.full_name)?)?;
+            Ok(())
         }
     }
 }
 
-fn packages_of<I: Index>(
-    alloc: Global,
-    index: &I,
-    files: &[usize],
-) -> Result<Items<Name>, AllocError>
+fn packages_of<I: Index>(alloc: Global, index: &I, files: &[usize]) -> Result<Packages, AllocError>
     requires { All (λ g. g < length (I.files index.now)) files.now }
     ensures { IfOk result (λ found. ArePackagesOf (I.files index.now) files.now found) }
 {
-    let mut found = Items::new(alloc);
+    let mut found = Vec::new(alloc);
     for &file in files {
         push_package(alloc, &index.facts(file).package, &mut found)?;
     }
-    Ok(found)
+    Ok(Packages::of(found))
 }
 
 // The files that a file sees, with their packages.
@@ -59,7 +56,7 @@ pub fn view_of<I: Index>(alloc: Global, index: &I, file: usize) -> Result<View, 
     ensures files { IfOk result (λ v. v.files ≡ view_of (graph_of (I.files index.now)) file) }
     ensures is_view { IfOk result (IsView (I.files index.now)) }
 {
-    let files = Items::from_vec(index.graph().visible(alloc, file)?);
+    let files = Items::from_vec(index.graph().visible(file)?);
     let packages = packages_of(alloc, index, files.as_slice())?;
     Ok(View {
         file,

@@ -344,7 +344,7 @@ gives-number false ts a rest e = last _ _ (IsNumber false) (gives-word_at w.Int)
 -- ---- what ends a statement
 
 -- the last token, and what is before it
-last_token : (it : Word) (ts : List Lexeme) → ends_in it ts ≡ true → (t : Lexeme) × (ts ≡ but_last 1 ts ++ t ∷ []) × (t.word ≡ it)
+pub last_token : (it : Word) (ts : List Lexeme) → ends_in it ts ≡ true → (t : Lexeme) × (ts ≡ but_last 1 ts ++ t ∷ []) × (t.word ≡ it)
 last_token it [] e = absurd (false≢true e)
 last_token it (t ∷ []) e = (t, refl, same_true the_type (search refl) t.word it e)
 last_token it (t ∷ u ∷ ts) e =

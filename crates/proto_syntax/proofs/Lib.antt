@@ -10,3 +10,4 @@ pub mod FormLemmas
 pub mod ItemsLaw
 pub mod SizeLaw
 pub mod BracketsLaw
+pub mod NameOrder

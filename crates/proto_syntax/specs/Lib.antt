@@ -6,3 +6,4 @@ pub mod Forms
 pub mod Read
 pub mod Grammar
 pub mod Skips
+pub mod Names

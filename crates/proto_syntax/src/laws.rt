@@ -1,11 +1,15 @@
 // Laws of the definitions. Each is proved for all texts, and its function does nothing.
-ghost use Rattle.std.specs.Prelude.{◌≡◌, ◌↔◌, ◌<◌, ◌≤◌, ℕ, IsTrue, List, [], length};
+ghost use Rattle.std.specs.List.Sorted.{IsStrictlyIncreasing};
+ghost use Rattle.std.specs.Prelude.{◌≡◌, ◌↔◌, ◌<◌, ◌≤◌, ℕ, IsTrue, List, [], length, map};
 ghost use Rattle.proto_syntax.specs.Cut.{items, AreItems};
 ghost use Rattle.proto_syntax.specs.Grammar.{HeadersAreSpelled, StatementsAreSpelled};
+ghost use Rattle.proto_syntax.specs.Names.{names_in};
 ghost use Rattle.proto_syntax.specs.Parts.{IsBalanced, is_balanced};
 ghost use Rattle.proto_syntax.specs.Read.{empty_tree, read, value_tree};
 ghost use Rattle.proto_syntax.specs.declared.lexeme.Body.{Body};
 ghost use Rattle.proto_syntax.specs.declared.lexeme.Lexeme.{Lexeme};
+
+use proto_lex::ordered_tokens;
 
 /// A law: the statements of a body are its tokens joined, each up to the least place at which it ends, and no other
 /// list of them is.
@@ -36,3 +40,11 @@ pub fn size_law()
     ensures over { (text : List ℕ) → 16777216 < length text → value_tree text ≡ empty_tree }
     ensures within { (text : List ℕ) → length text ≤ 16777216 → value_tree text ≡ read text }
 {}
+
+/// A law: the names that the statements of a text declare, each before those inside its braces, start at ascending
+/// offsets.
+pub fn names_law()
+    ensures { (text : List ℕ) → IsStrictlyIncreasing (map (λ s. s.start) (names_in (read text).nodes)) }
+{
+    ordered_tokens();
+}

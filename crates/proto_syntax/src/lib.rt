@@ -9,7 +9,8 @@
 //! to the least place at which it ends. `brackets_law`: the test for brackets in pairs passes what their grammar has.
 //! `headers_law` and `statements_law`: what is read as a header, or as a statement without a block, is spelled as
 //! specs/Grammar.antt says. That all that is spelled so is read, no law says. `size_law`: a text of over 16,777,216
-//! bytes has the tree of the empty text.
+//! bytes has the tree of the empty text. `names_law`: the names that statements declare, those inside a block behind the
+//! block's own, start at ascending offsets.
 #![tactic(auto)]
 
 mod cut;
@@ -23,7 +24,7 @@ mod read;
 mod scan;
 mod skips;
 
-pub use laws::{brackets_law, headers_law, items_law, size_law, statements_law};
+pub use laws::{brackets_law, headers_law, items_law, names_law, size_law, statements_law};
 pub use node::{
     Fault, Field, FileTree, Literal, MapField, Node, Number, Problem, RangeEnd, ReservedList,
     ReservedRange, Span, TypeName,

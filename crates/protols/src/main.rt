@@ -1,4 +1,5 @@
-//! `protols`, a language server for proto3: `protols serve` serves an editor on standard input and output.
+//! `protols`, a language server and checker for proto3: `protols serve` serves an editor on standard input and output,
+//! `protols check` lists what is wrong in a folder of files.
 #![tactic(auto)]
 
 mod folder;
@@ -9,7 +10,7 @@ mod words;
 use crate::folder::{FolderFault, read_folder};
 use crate::root::root_url;
 use lsp_frame::{FrameReader, FromRead, ToWrite};
-use lsp_session::{Config, Ended, ServeFault, serve};
+use lsp_session::{Config, Ended, ServeFault, check, serve};
 use std::alloc::{AllocError, AllocFailed};
 use std::env::{self, Env};
 use std::io::{self, BufReader, ErrorKind};
@@ -20,6 +21,7 @@ use std::sync::Wait;
 const NOT_UTF8: &str = "error: a word of the command line isn't UTF-8
 
 Usage: protols serve [--root DIR] [--stdio] [--clientProcessId ID]
+       protols check [--root DIR]
 
 For more information, try '--help'.";
 
@@ -96,6 +98,21 @@ fn serve_editor<R: Wait + Files + Input + Print + Eprint + AllocGlobal>(
     Ok(serve(rt, alloc, &mut reader, &mut writer, config)?)
 }
 
+// Writes a line for each fault in the files of the folder to standard output, and answers whether one is an error. With
+// no folder it is the current one. The root of the files is that of all paths.
+fn check_files<R: Files + Print + Eprint + AllocGlobal>(
+    rt: &R,
+    dirs: &[&str],
+) -> Result<bool, Failure> {
+    let alloc = rt.alloc();
+    let mut roots = Vec::new(alloc);
+    roots.push(root_url(alloc, "/")?)?;
+    let files = read_folder(rt, 0, dirs.first().copied().unwrap_or("."))?;
+    let config = Config::make(alloc, roots, files)?;
+    let mut writer = ToWrite::new(io::writer(rt));
+    Ok(check(alloc, &mut writer, config)?)
+}
+
 // Says on standard error which fault it was. A closed standard error changes nothing of the status.
 fn fail(rt: &impl Eprint, fault: u32) -> ExitCode {
     let _told = eprintln!(rt; "protols: fault {fault}");
@@ -108,14 +125,29 @@ fn fail_folder(rt: &impl Eprint) -> ExitCode {
     ExitCode::from(3)
 }
 
+// The status that says why nothing else came of it.
+fn failed(rt: &impl Eprint, failure: Failure) -> ExitCode {
+    match failure {
+        Failure::Folder => fail_folder(rt),
+        Failure::Fault(code) => fail(rt, code),
+    }
+}
+
+// The status that says whether an error was found.
+fn status_of_check(rt: &impl Eprint, checked: Result<bool, Failure>) -> ExitCode {
+    match checked {
+        Ok(found) => ExitCode::from(if found { 1 } else { 0 }),
+        Err(failure) => failed(rt, failure),
+    }
+}
+
 // The status that says how the session ended.
 fn status_of(rt: &impl Eprint, ended: Result<Ended, Failure>) -> ExitCode {
     match ended {
         Ok(Ended::Exit { after_shutdown }) => ExitCode::from(if after_shutdown { 0 } else { 1 }),
         Ok(Ended::InputEnd) => ExitCode::from(1),
         Ok(Ended::BadFrame(code)) => fail(rt, code),
-        Err(Failure::Folder) => fail_folder(rt),
-        Err(Failure::Fault(code)) => fail(rt, code),
+        Err(failure) => failed(rt, failure),
     }
 }
 
@@ -154,6 +186,7 @@ fn main(rt: HostRuntime) -> ExitCode {
         Err(status) => return status,
     };
     match options::options(rt.alloc(), words.as_slice()) {
+        Ok(asked) if asked.check => status_of_check(&rt, check_files(&rt, asked.dirs.as_slice())),
         Ok(asked) => status_of(&rt, serve_editor(&rt, asked.dirs.as_slice())),
         Err(error) => explain(&rt, &error),
     }

@@ -3,7 +3,7 @@ use borrow.Author.Tests.{tests}
 use Rattle.std.proofs.lemmas.Iterator.{YieldsList-from_slice}
 use Rattle.std.proofs.lemmas.Iterator.Search.{position_from_yields_List}
 use Rattle.lsp_session.specs.Configuration.{is_good_file}
-use Rattle.lsp_session.specs.FileView.{disk_view}
+use Rattle.lsp_workspace.specs.Disk.{disk_view}
 use Rattle.lsp_session.proofs.config.first_bad.Goals as goal
 
 pub returns : goal.returns

@@ -1,4 +1,3 @@
-use Rattle.std.proofs.Common.{◌∙◌}
 use Rattle.proto_facts.specs.Checks.{range_twice}
 use Rattle.proto_facts.proofs.OverlapLemmas.{no_interval}
 use Rattle.proto_facts.proofs.Places.{diags-next, judged-end}

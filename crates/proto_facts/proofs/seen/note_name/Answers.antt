@@ -1,4 +1,4 @@
-use Rattle.std.proofs.Common.{true, ◌∙◌}
+use Rattle.std.proofs.Common.{◌∙◌}
 use Rattle.std.specs.Str.{bytes_eq}
 use Rattle.proto_facts.specs.Seen.{has_name}
 use Rattle.proto_facts.proofs.Places.{or-is}

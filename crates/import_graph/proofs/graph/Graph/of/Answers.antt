@@ -7,23 +7,26 @@ use Rattle.import_graph.proofs.Linked.{graph_within}
 use Rattle.import_graph.proofs.Views.{imports_within}
 use Rattle.import_graph.proofs.graph.Graph.of.Goals as goal
 
-pub components-requires : goal.components-requires
-components-requires c =
+pub components_of-requires : goal.components_of-requires
+components_of-requires c =
     let whole : c.loop-file.linked.items ≡ graph_of c.args.files.now = c.loop-file.invariant.linked
     ∙ ap (λ (fs : List NamedFacts). map (λ f. links_of c.args.files.now f.facts) fs) (take_all _ c.args.files.now c.loop-file-test.false) in
-    let listed : c.as_slice.result.now ≡ map targets (graph_of c.args.files.now) = c.as_slice.ensures.value ∙ (c.loop-file.invariant.imports ∙ ap (λ (g : List LinkedFile). map targets g) whole) in
+    let listed : c.as_slice-2.result.now ≡ map targets (graph_of c.args.files.now) = c.as_slice-2.ensures.value ∙ (c.loop-file.invariant.imports ∙ ap (λ (g : List LinkedFile). map targets g) whole) in
     rw listed (imports_within (graph_of c.args.files.now) (graph_within c.args.files.now))
 
 pub invariant_of-result : goal.invariant_of-result
 invariant_of-result c =
     let whole : c.loop-file.linked.items ≡ graph_of c.args.files.now = c.loop-file.invariant.linked
     ∙ ap (λ (fs : List NamedFacts). map (λ f. links_of c.args.files.now f.facts) fs) (take_all _ c.args.files.now c.loop-file-test.false) in
-    let listed : c.as_slice.result.now ≡ map targets c.loop-file.linked.items = c.as_slice.ensures.value ∙ c.loop-file.invariant.imports in
-    let long : length c.as_slice.result.now ≡ length c.loop-file.linked.items = rw (listed, length-map) refl in
+    let listed : c.as_slice-2.result.now ≡ map targets c.loop-file.linked.items = c.as_slice-2.ensures.value ∙ c.loop-file.invariant.imports in
+    let long : length c.as_slice-2.result.now ≡ length c.loop-file.linked.items = rw (listed, length-map) refl in
     record {
       within = rw whole (graph_within c.args.files.now);
+      complete = rw c.as_slice.ensures.value at c.in_ok-complete.ensures;
       imports = c.loop-file.invariant.imports;
       public = c.loop-file.invariant.public;
-      numbered = omega (arith, long, c.in_ok-components.ensures.length, c.in_ok-components.components.ok);
+      numbered = omega (arith, long, c.in_ok-components.ensures.numbered);
+      flagged = omega (arith, long, c.in_ok-components.ensures.flagged);
+      tied = rw listed at c.in_ok-components.ensures.tied;
       descends = rw listed at c.in_ok-components.ensures.descends;
     }

@@ -1,0 +1,129 @@
+#!/usr/bin/env python3
+"""Times `protols check` on workspaces of 1,000 and 4,000 files, and an editor's change of one file among 1,000.
+
+Each file has 8 messages with messages and enums inside, a package and 5 imports, and names that refer to declarations of its
+own and of the files that it imports. Four times the files may take at most 4.8 times the time. Where `protoc` is on the PATH,
+it is timed on the same files (`--descriptor_set_out=/dev/null`), and `check` may take at most 3 times its time and at most
+its memory. After a change of one file its diagnostics may take at most 0.25 of the time of the first analysis. The status is
+1 where a limit is passed.
+
+A time is the best of 5. The program is crates/protols/out/protols, or the one that PROTOLS names."""
+import os
+import pathlib
+import shutil
+import subprocess
+import sys
+import tempfile
+import time
+
+HERE = pathlib.Path(__file__).resolve().parent
+sys.path[:0] = [str(HERE.parent), str(HERE.parent.parent / "tests")]
+import lab
+import stream
+from trees import ordinary, path
+
+SIZES = [1_000, 4_000]
+TIMES = 5
+
+# The most that four times the files may take, as a multiple of the time.
+GROWTH = 4.8
+
+# The most that a check may take, as a multiple of protoc's time.
+PROTOC = 3
+
+# The most that the diagnostics of a changed file may take, as a part of the time of the first analysis.
+CHANGED = 0.25
+
+
+def put_tree(folder, size):
+    """Writes the files of a workspace, and gives their paths."""
+    paths = [path(n) for n in range(size)]
+    for n, place in enumerate(paths):
+        file = folder / place
+        file.parent.mkdir(parents=True, exist_ok=True)
+        file.write_text(ordinary(n))
+    return paths
+
+
+def cost(command, cwd):
+    """The seconds of a run, and the most memory that it took, in megabytes."""
+    start = time.perf_counter()
+    run = subprocess.Popen(command, cwd=cwd, stdin=subprocess.DEVNULL, stdout=subprocess.DEVNULL, stderr=subprocess.PIPE)
+    told = run.stderr.read()
+    _, status, usage = os.wait4(run.pid, 0)
+    taken = time.perf_counter() - start
+    if status != 0:
+        raise SystemExit(f"{command[0]} ended with status {os.waitstatus_to_exitcode(status)}: {told[-500:]!r}")
+    return taken, usage.ru_maxrss / 1024
+
+
+def least(command, cwd):
+    runs = [cost(command, cwd) for _ in range(TIMES)]
+    return min(taken for taken, _ in runs), min(memory for _, memory in runs)
+
+
+def checked(size):
+    """The cost of a check, and that of protoc, if it is there."""
+    with tempfile.TemporaryDirectory() as holder:
+        paths = put_tree(pathlib.Path(holder), size)
+        ours = least([*stream.command(("check",)), "--root", "."], holder)
+        if shutil.which("protoc") is None:
+            return ours, None
+        with open(pathlib.Path(holder) / "files", "w") as files:
+            files.write("\n".join(paths))
+        return ours, least(["protoc", "--descriptor_set_out=/dev/null", "@files"], holder)
+
+
+def answer_times(size):
+    """The seconds of the first answer about a file of a workspace, and of the answer after a change of it."""
+    with tempfile.TemporaryDirectory() as holder:
+        put_tree(pathlib.Path(holder), size)
+        place = path(size // 2)
+        uri = f"file://{holder}/{place}"
+        with subprocess.Popen([*stream.command(), "--root", holder], stdin=subprocess.PIPE, stdout=subprocess.PIPE) as server:
+            def ask(*bodies):
+                start = time.perf_counter()
+                server.stdin.write(stream.frames(bodies))
+                server.stdin.flush()
+                length = int(server.stdout.readline().split(b":")[1])
+                server.stdout.readline()
+                reply = server.stdout.read(length)
+                if b'"items":[]' not in reply and b'"capabilities"' not in reply:
+                    raise SystemExit(f"the reply is {reply[:300]!r}")
+                return time.perf_counter() - start
+
+            question = f'{{"jsonrpc":"2.0","id":2,"method":"textDocument/diagnostic","params":{{"textDocument":{{"uri":"{uri}"}}}}}}'
+            text = ordinary(size // 2).replace("\n", "\\n").replace('"', '\\"').replace("\\\\n", "\\n")
+            opened = f'{{"jsonrpc":"2.0","method":"textDocument/didOpen","params":{{"textDocument":{{"uri":"{uri}","version":1,"text":"{text}"}}}}}}'
+            change = f'{{"jsonrpc":"2.0","method":"textDocument/didChange","params":{{"textDocument":{{"uri":"{uri}","version":2}},"contentChanges":[{{"range":{{"start":{{"line":0,"character":0}},"end":{{"line":0,"character":0}}}},"text":" "}}]}}}}'
+            ask('{"jsonrpc":"2.0","id":1,"method":"initialize","params":{}}')
+            first = ask(opened, question)
+            changed = min(ask(change, question) for _ in range(TIMES))
+            server.stdin.close()
+        return first, changed
+
+
+def main():
+    print(lab.machine())
+    kept = True
+    before = None
+    for size in SIZES:
+        (ours, memory), other = checked(size)
+        line = f"check of {size:,} files: {ours:.2f} s, {memory:.0f} MB"
+        if before is not None:
+            line += f" ({ours / before:.2f} times as long)"
+            kept = kept and ours <= GROWTH * before
+        if other is not None:
+            line += f"; protoc {other[0]:.2f} s, {other[1]:.0f} MB ({ours / other[0]:.2f} times its time)"
+            kept = kept and ours <= PROTOC * other[0] and memory <= other[1]
+        print(line)
+        before = ours
+    first, changed = answer_times(SIZES[0])
+    print(f"an editor's file among {SIZES[0]:,}: first answer {first:.2f} s, after a change {changed:.3f} s ({changed / first:.2f} of it)")
+    kept = kept and changed <= CHANGED * first
+    print("kept" if kept else "NOT kept")
+    return 0 if kept else 1
+
+
+if __name__ == "__main__":
+    sys.exit(main())

@@ -1,0 +1,51 @@
+"""Workspaces of any size, which the benchmarks measure."""
+
+# How many messages a file has.
+MESSAGES = 8
+
+# The imported files, counted back from the importing one.
+STEPS = [1, 2, 3, 7, 40]
+
+# How many files are of one package.
+TOGETHER = 20
+
+
+def path(n):
+    return f"area{n // TOGETHER:04}/file{n:05}.proto"
+
+
+def package(n):
+    return f"shop.area{n // TOGETHER}.v1"
+
+
+def imported(n):
+    """The files that a file imports: earlier ones, near and far."""
+    return [n - step for step in STEPS if step <= n]
+
+
+def message(n, m):
+    """A message with types inside, and fields whose types are its own, its neighbours and imported ones."""
+    others = imported(n)
+    far = [f"  {package(o)}.Order{o}M{m}.Item.Kind far{k} = {10 + k};\n" for k, o in enumerate(others)]
+    near = [f"  .{package(o)}.Order{o}M{(m + 1) % MESSAGES} near{k} = {20 + k};\n" for k, o in enumerate(others)]
+    return (
+        f"message Order{n}M{m} {{\n  message Item {{\n    enum Kind {{ KIND_NONE = 0; KIND_ONE = 1; }}\n"
+        f"    Kind kind = 1;\n    string name = 2;\n  }}\n  Item item = 1;\n  map<string, Item.Kind> kinds = 2;\n"
+        f"  Order{n}M{(m + 3) % MESSAGES} next = 3;\n  oneof choice {{ Item.Kind one = 4; int64 two = 5; }}\n"
+        + "".join(far) + "".join(near) + "}\n"
+    )
+
+
+def imports(n):
+    return "".join(f'import "{path(o)}";\n' for o in imported(n))
+
+
+def ordinary(n):
+    messages = "".join(message(n, m) for m in range(MESSAGES))
+    return f'syntax = "proto3";\npackage {package(n)};\n{imports(n)}{messages}'
+
+
+def same_name(n):
+    """A file that refers to `M`, which it declares itself or imports."""
+    messages = "".join(f"message A{n}M{m} {{ message M {{ }} .M m = 1; M n = 2; }}\n" for m in range(MESSAGES))
+    return f'syntax = "proto3";\n{imports(n)}{"" if n % 2 else "message M { }"}\n{messages}'

@@ -1,0 +1,9 @@
+use Rattle.std.proofs.Common.{◌≡◌, rules, string_bytes}
+use Rattle.lsp_rpc.proofs.WritingLemmas.{one, ◌▹◌}
+use Rattle.lsp_rpc.proofs.workspace.write_document.Goals as goal
+
+pub returns : goal.returns
+returns c =
+    let uri : c.as_str.result.now ≡ string_bytes c.args.report.now.uri = search rules in
+    one c.in_ok-begin_object.ensures ▹ one c.in_ok-key.ensures ▹ (rw c.as_slice.ensures.value at c.in_ok-write_items.ensures) ▹ one c.in_ok-key-2.ensures ▹ one c.in_ok-string.ensures
+    ▹ one c.in_ok-key-3.ensures ▹ (rw uri at (one c.in_ok-string-2.ensures)) ▹ one c.in_ok-key-4.ensures ▹ c.in_ok-write_version.ensures ▹ one c.in_ok-end_object.ensures

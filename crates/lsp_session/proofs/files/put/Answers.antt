@@ -1,5 +1,0 @@
-use Rattle.lsp_session.proofs.FilesLemmas.{view-insert}
-use Rattle.lsp_session.proofs.files.put.Goals as goal
-
-pub returns : goal.returns
-returns c = rw c.in_ok-insert.ensures.entries (view-insert c.args.files.now.entries c.args.path c.args.file)

@@ -1,5 +1,0 @@
-use Rattle.lsp_session.proofs.WorkspaceLemmas.{text_of_workspace}
-use Rattle.lsp_session.proofs.laws.texts_are_of_the_workspace.Goals as goal
-
-pub returns : goal.returns
-returns c = text_of_workspace

@@ -1,0 +1,10 @@
+use Rattle.std.proofs.Common.{◌≡◌, map, subst}
+use Rattle.lsp_rpc.specs.Diagnostic.{diagnostic_view}
+use Rattle.work_index.specs.Workspace.{Workspace, analysis, diags_at}
+use Rattle.lsp_workspace.specs.Diagnostics.{placed}
+use Rattle.lsp_session.proofs.session.Session.found_in.Goals as goal
+
+pub returns : goal.returns
+returns c =
+    let P : Workspace → Type 0 = λ w. map diagnostic_view c.in_ok-found.found.items ≡ placed c.args.text.now (diags_at (analysis w) c.args.path.now) in
+    subst P c.requires c.in_ok-found.ensures

@@ -1,0 +1,4 @@
+mod Ascending
+mod FilesLemmas
+mod DiagnosticsLemmas
+mod WorkspaceLemmas

@@ -1,0 +1,85 @@
+// Diagnostics at their positions.
+ghost use Rattle.std.specs.Prelude.{◌≡◌, [], ◌∷◌, ◌++◌, IfOk, OnOk, map};
+ghost use Rattle.doc_text.specs.Positions.{position_of};
+ghost use Rattle.lsp_rpc.specs.Diagnostic.{diagnostic_view};
+ghost use Rattle.lsp_workspace.specs.Diagnostics.{severity_of, diagnostic_between, diagnostic_at, placed};
+
+use doc_text::{Encoding, Position, Range, Text};
+use lsp_rpc::{Diagnostic, Severity};
+use proto_facts::Diag;
+use std::alloc::{AllocError, Global};
+
+fn severity_of(number: u32) -> Severity
+    ensures { result ≡ severity_of number }
+{
+    if number == 3 {
+        Severity::Information
+    } else {
+        Severity::Error
+    }
+}
+
+fn start_offsets(alloc: Global, diags: &[Diag]) -> Result<Vec<usize>, AllocError>
+    ensures { IfOk result (λ offsets. offsets.items ≡ map (λ d. d.start) diags.now) }
+{
+    diags.iter().map(|d| d.start).collect(alloc)
+}
+
+fn end_offsets(alloc: Global, diags: &[Diag]) -> Result<Vec<usize>, AllocError>
+    ensures { IfOk result (λ offsets. offsets.items ≡ map (λ d. d.end) diags.now) }
+{
+    diags.iter().map(|d| d.end).collect(alloc)
+}
+
+// Puts a diagnostic between these positions at the end.
+fn push_diagnostic(
+    found: &mut Vec<Diagnostic<'static>>,
+    diag: Diag,
+    start: Position,
+    end: Position,
+) -> Result<(), AllocError>
+    ensures { OnOk result (map diagnostic_view found.new.items ≡ map diagnostic_view found.old.items ++ diagnostic_between start end diag.message ∷ []) }
+{
+    found.push(Diagnostic {
+        range: Range { start, end },
+        severity: severity_of(diag.message.severity()),
+        code: diag.message.code(),
+        message: diag.message.text(),
+    })?;
+    Ok(())
+}
+
+// Some diagnostics of a text at their positions.
+pub(crate) fn placed(
+    alloc: Global,
+    text: &Text,
+    diags: &[Diag],
+) -> Result<Vec<Diagnostic<'static>>, AllocError>
+    ensures { IfOk result (λ found. map diagnostic_view found.items ≡ placed text.now diags.now) }
+{
+    let start_offsets = start_offsets(alloc, diags)?;
+    let end_offsets = end_offsets(alloc, diags)?;
+    let starts = text.positions_of(alloc, start_offsets.as_slice(), Encoding::Utf16)?;
+    let ends = text.positions_of(alloc, end_offsets.as_slice(), Encoding::Utf16)?;
+    let found = between(alloc, text, diags, starts.as_slice(), ends.as_slice())?;
+    Ok(found)
+}
+
+// Some diagnostics of a text, at whose ends these positions stand.
+fn between(
+    alloc: Global,
+    text: &Text,
+    diags: &[Diag],
+    starts: &[Position],
+    ends: &[Position],
+) -> Result<Vec<Diagnostic<'static>>, AllocError>
+    requires starts { starts.now ≡ map (position_of Encoding.Utf16 text.now) (map (λ d. d.start) diags.now) }
+    requires ends { ends.now ≡ map (position_of Encoding.Utf16 text.now) (map (λ d. d.end) diags.now) }
+    ensures { IfOk result (λ found. map diagnostic_view found.items ≡ map (diagnostic_at text.now) diags.now) }
+{
+    let mut found = Vec::with_capacity(alloc, diags.len())?;
+    for i in 0..diags.len() {
+        push_diagnostic(&mut found, diags[i], starts[i], ends[i])?;
+    }
+    Ok(found)
+}

@@ -1,0 +1,158 @@
+// What is wrong in a workspace, as a command line shows it.
+ghost use Rattle.std.specs.Prelude.{◌≡◌, ◌<◌, ◌++◌, length, map, decimal, IfOk, OnOk};
+ghost use Rattle.std.specs.List.{enumerate_from, flat_map, list_any};
+ghost use Rattle.doc_text.specs.Positions.{position_of};
+ghost use Rattle.doc_text.specs.declared.encoding.Encoding.TheVariants.{Utf16};
+ghost use Rattle.work_index.specs.Pieces.{workspace_of};
+ghost use Rattle.work_index.specs.Workspace.{analysis};
+ghost use Rattle.lsp_workspace.specs.Listing.{place_of, words_of, line_at, line_of, lines_of, listing, is_error, has_errors};
+
+use crate::linked::Linked;
+use doc_text::{Encoding, Position, Text};
+use itoa::Buffer;
+use piece_collector::Piece;
+use proto_facts::{Diag, Message};
+use proto_syntax::Items;
+use std::alloc::{AllocError, Global};
+use work_index::FileWork;
+
+fn push_number(out: &mut Vec<u8>, number: u128) -> Result<(), AllocError>
+    ensures { OnOk result (out.new.items ≡ out.old.items ++ decimal number) }
+{
+    let mut digits = Buffer::new();
+    out.extend_from_slice(digits.format(number).as_bytes())?;
+    Ok(())
+}
+
+// Adds where a diagnostic stands.
+fn push_place(out: &mut Vec<u8>, path: &str, place: Position) -> Result<(), AllocError>
+    ensures { OnOk result (out.new.items ≡ out.old.items ++ place_of path.now place) }
+{
+    out.extend_from_slice(path.as_bytes())?;
+    out.extend_from_slice(b":")?;
+    push_number(out, place.line as u128 + 1)?;
+    out.extend_from_slice(b":")?;
+    push_number(out, place.character as u128 + 1)?;
+    Ok(())
+}
+
+// Adds what a diagnostic says, and the line's end.
+fn push_message(out: &mut Vec<u8>, message: Message) -> Result<(), AllocError>
+    ensures { OnOk result (out.new.items ≡ out.old.items ++ words_of message) }
+{
+    out.extend_from_slice(b": ")?;
+    push_number(out, message.code() as u128)?;
+    out.extend_from_slice(b" ")?;
+    out.extend_from_slice(message.text().as_bytes())?;
+    out.extend_from_slice(b"\n")?;
+    Ok(())
+}
+
+// Adds the line of a diagnostic of a file at a position.
+fn push_line(
+    out: &mut Vec<u8>,
+    path: &str,
+    place: Position,
+    message: Message,
+) -> Result<(), AllocError>
+    ensures { OnOk result (out.new.items ≡ out.old.items ++ line_at path.now place message) }
+{
+    push_place(out, path, place)?;
+    push_message(out, message)?;
+    Ok(())
+}
+
+fn start_offsets(alloc: Global, diags: &[Diag]) -> Result<Vec<usize>, AllocError>
+    ensures { IfOk result (λ offsets. offsets.items ≡ map (λ d. d.start) diags.now) }
+{
+    diags.iter().map(|d| d.start).collect(alloc)
+}
+
+// Adds the lines of some diagnostics of a file, which start at these positions.
+fn push_lines_at(
+    out: &mut Vec<u8>,
+    path: &str,
+    text: &str,
+    diags: &[Diag],
+    places: &[Position],
+) -> Result<(), AllocError>
+    requires { places.now ≡ map (position_of Encoding.Utf16 text.now) (map (λ d. d.start) diags.now) }
+    ensures { OnOk result (out.new.items ≡ out.old.items ++ flat_map (line_of path.now text.now) diags.now) }
+{
+    for number in 0..diags.len() {
+        push_line(out, path, places[number], diags[number].message)?;
+    }
+    Ok(())
+}
+
+// Adds the lines of some diagnostics of a file.
+fn push_lines(
+    alloc: Global,
+    out: &mut Vec<u8>,
+    path: &str,
+    text: &str,
+    diags: &[Diag],
+) -> Result<(), AllocError>
+    ensures { OnOk result (out.new.items ≡ out.old.items ++ flat_map (line_of path.now text.now) diags.now) }
+{
+    if diags.is_empty() {
+        return Ok(());
+    }
+    let offsets = start_offsets(alloc, diags)?;
+    let whole = Text::new(String::from_str(alloc, text)?);
+    let places = whole.positions_of(alloc, offsets.as_slice(), Encoding::Utf16)?;
+    push_lines_at(out, path, text, diags, places.as_slice())?;
+    Ok(())
+}
+
+// Adds the lines of the files of the workspace, which are these.
+fn push_all_lines(
+    alloc: Global,
+    out: &mut Vec<u8>,
+    linked: &Linked,
+    pieces: &[Piece<FileWork>],
+) -> Result<(), AllocError>
+    requires { workspace_of pieces.now ≡ linked.now }
+    ensures { OnOk result (out.new.items ≡ out.old.items ++ flat_map (lines_of (analysis linked.now)) (enumerate_from 0 (workspace_of pieces.now))) }
+{
+    for (number, piece) in pieces.iter().enumerate() {
+        push_lines(
+            alloc,
+            out,
+            piece.path(),
+            piece.text(),
+            linked.diagnostics(number),
+        )?;
+    }
+    Ok(())
+}
+
+/// A line for each diagnostic of the workspace: the path, the line and the column where it starts, both from 1 and columns
+/// in UTF-16 units, its number and what it says, as `a.proto:3:24: 401 unresolved name`. An `Err` comes only where
+/// memory was refused.
+pub fn listing(alloc: Global, linked: &Linked) -> Result<Vec<u8>, AllocError>
+    ensures { IfOk result (λ lines. lines.items ≡ listing linked.now) }
+{
+    let mut out = Vec::new(alloc);
+    push_all_lines(alloc, &mut out, linked, linked.pieces())?;
+    Ok(out)
+}
+
+fn is_error(diag: &Diag) -> bool
+    ensures { result ≡ is_error diag.now }
+{
+    diag.message.severity() == 1
+}
+
+fn any_error(diags: &Items<Diag>) -> bool
+    ensures { result ≡ list_any is_error diags.now }
+{
+    diags.as_slice().iter().any(is_error)
+}
+
+/// Whether one of the diagnostics of the workspace is an error, and not an information. Takes no memory.
+pub fn has_errors(linked: &Linked) -> bool
+    ensures { result ≡ has_errors linked.now }
+{
+    linked.analysis().all_diagnostics().iter().any(any_error)
+}

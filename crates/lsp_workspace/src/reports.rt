@@ -1,0 +1,144 @@
+// The diagnostics of documents, as the editor gets them.
+ghost use Rattle.std.specs.Prelude.{◌≡◌, ◌<◌, ◌++◌, [], ◌∷◌, length, map, option_map, string_bytes, IfOk, OnOk};
+ghost use Rattle.std.specs.List.{enumerate_from, slice_get};
+ghost use Rattle.lsp_rpc.specs.Diagnostic.{diagnostic_view};
+ghost use Rattle.lsp_rpc.specs.Workspace.{document_view};
+ghost use Rattle.work_index.specs.Pieces.{workspace_of};
+ghost use Rattle.work_index.specs.Workspace.{analysis, diags_at};
+ghost use Rattle.workspace_uri.specs.View.{root_text};
+ghost use Rattle.lsp_workspace.specs.Diagnostics.{placed};
+ghost use Rattle.lsp_workspace.specs.Files.{workspace, file_at};
+ghost use Rattle.lsp_workspace.specs.Reports.{uri_of, version_of, report_of, numbered_report, workspace_reports};
+ghost use Rattle.lsp_workspace.specs.View.{file_view, files_view};
+
+use crate::diagnostics::placed;
+use crate::files::{self, FileEntry, Files};
+use crate::linked::Linked;
+use doc_text::Text;
+use lsp_rpc::{Diagnostic, DocumentReport};
+use piece_collector::Piece;
+use proto_facts::Diag;
+use std::alloc::{AllocError, Global};
+use work_index::FileWork;
+use workspace_uri::Root;
+
+/// The diagnostics of the document of a path, which has this text, by start, end, number and words. An `Err` comes only
+/// where memory was refused.
+pub fn document_diagnostics(
+    alloc: Global,
+    linked: &Linked,
+    path: &str,
+    text: &Text,
+) -> Result<Vec<Diagnostic<'static>>, AllocError>
+    ensures { IfOk result (λ found. map diagnostic_view found.items ≡ placed text.now (diags_at (analysis linked.now) path.now)) }
+{
+    placed(alloc, text, linked.analysis().diagnostics_at(path))
+}
+
+// Some diagnostics of a text at their positions.
+pub(crate) fn placed_in(
+    alloc: Global,
+    text: &str,
+    diags: &[Diag],
+) -> Result<Vec<Diagnostic<'static>>, AllocError>
+    ensures { IfOk result (λ found. map diagnostic_view found.items ≡ placed text.now diags.now) }
+{
+    if diags.is_empty() {
+        return Ok(Vec::new(alloc));
+    }
+    let text = Text::new(String::from_str(alloc, text)?);
+    let found = placed(alloc, &text, diags)?;
+    Ok(found)
+}
+
+// The URI of the last open of a file, or else that of the path below the root.
+fn uri_of(
+    alloc: Global,
+    root: &Root,
+    path: &str,
+    file: Option<&FileEntry>,
+) -> Result<String, AllocError>
+    ensures { IfOk result (λ uri. string_bytes uri ≡ uri_of (root_text root.now) path.now (option_map (λ f. file_view f.now) file.entry)) }
+{
+    if let Some(file) = file {
+        if let Some(uri) = &file.uri {
+            return String::from_str(alloc, uri.as_str());
+        }
+    }
+    root.uri_of(alloc, path)
+}
+
+// The version of the document of a file, if one is open.
+fn version_of(file: Option<&FileEntry>) -> Option<i64>
+    ensures { result ≡ version_of (option_map (λ f. file_view f.now) file.entry) }
+{
+    match &file?.document {
+        Some(document) => Some(document.version),
+        None => None,
+    }
+}
+
+// The report of a file, given what is wrong in it.
+fn report_of(
+    alloc: Global,
+    root: &Root,
+    files: &Files,
+    piece: &Piece<FileWork>,
+    diags: &[Diag],
+) -> Result<DocumentReport<'static>, AllocError>
+    ensures { IfOk result (λ report. document_view report ≡ report_of (root_text root.now) (files_view files.now.entries) diags.now (piece.now.path, piece.now.text)) }
+{
+    let file = files::get(files, piece.path());
+    Ok(DocumentReport {
+        diagnostics: placed_in(alloc, piece.text(), diags)?,
+        uri: uri_of(alloc, root, piece.path(), file)?,
+        version: version_of(file),
+    })
+}
+
+// The report of a file of the workspace, given its number.
+fn numbered_report(
+    alloc: Global,
+    root: &Root,
+    files: &Files,
+    linked: &Linked,
+    number: usize,
+    piece: &Piece<FileWork>,
+) -> Result<DocumentReport<'static>, AllocError>
+    requires { number < length linked.now }
+    ensures { IfOk result (λ report. document_view report ≡ numbered_report (root_text root.now) (files_view files.now.entries) (analysis linked.now) (number, (piece.now.path, piece.now.text))) }
+{
+    report_of(alloc, root, files, piece, linked.diagnostics(number))
+}
+
+// The reports of the files of the workspace, which are these.
+fn all_reports(
+    alloc: Global,
+    root: &Root,
+    files: &Files,
+    linked: &Linked,
+    pieces: &[Piece<FileWork>],
+) -> Result<Vec<DocumentReport<'static>>, AllocError>
+    requires { workspace_of pieces.now ≡ linked.now }
+    ensures { IfOk result (λ reports. map document_view reports.items
+        ≡ map (numbered_report (root_text root.now) (files_view files.now.entries) (analysis linked.now)) (enumerate_from 0 linked.now)) }
+{
+    let mut reports = Vec::new(alloc);
+    for (number, piece) in pieces.iter().enumerate() {
+        reports.push(numbered_report(alloc, root, files, linked, number, piece)?)?;
+    }
+    Ok(reports)
+}
+
+/// The reports of all files of the workspace, by path. An `Err` comes only where memory was refused.
+pub fn workspace_reports(
+    alloc: Global,
+    root: &Root,
+    files: &Files,
+    linked: &Linked,
+) -> Result<Vec<DocumentReport<'static>>, AllocError>
+    requires { linked.now ≡ workspace (files_view files.now.entries) }
+    ensures { IfOk result (λ reports. map document_view reports.items ≡ workspace_reports (root_text root.now) (files_view files.now.entries)) }
+{
+    all_reports(alloc, root, files, linked, linked.pieces())
+}

@@ -1,0 +1,11 @@
+mod Current
+mod Histories
+mod Index
+mod Lends
+mod Listed
+mod Next
+mod Same
+mod Search
+mod Standing
+mod Stands
+mod Writes

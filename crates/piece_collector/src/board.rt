@@ -1,0 +1,216 @@
+// The texts of the known paths, each with its stamp, and the pieces that were made of them.
+ghost use Rattle.std.specs.Prelude.{◌≡◌, ℕ, ◌+◌, ◌↔◌, List, [], ◌∷◌, Bool, true, false, IfOk, OnOk, OnErr, Err, Some, None, option_map, string_bytes, is_some, IsTrue, IfSome};
+ghost use Rattle.piece_collector.specs.Events.{Event, SetText, Remove, NextJob, Offer, Fail};
+ghost use Rattle.piece_collector.specs.History.{verdict_on, failure_on, stands_at, first_wanted, history};
+ghost use Rattle.piece_collector.specs.Board.{Stands, IsFirstWanted, IsComplete, IsFull, IsTextsOf, IsTextsIn, text_at};
+ghost use Rattle.piece_collector.specs.Views.{slot_of};
+ghost use Rattle.piece_collector.specs.declared.fault.BoardFault.TheVariants.{Exhausted};
+
+use crate::fault::BoardFault;
+use crate::job::Job;
+use crate::lent::Lent;
+use crate::piece::{Piece, Work};
+use crate::slot::Slot;
+use crate::slots;
+use crate::verdict::Verdict;
+use std::alloc::{AllocError, Global};
+use std::collections::{BTreeMap, BTreeSet};
+use std::marker::Model;
+
+/// A text for each known path, with its stamp, and the pieces that were made of the texts.
+///
+/// A path is known from [`set_text`](Board::set_text) to [`remove`](Board::remove). It is wanted, out or held: wanted
+/// until a job for it is given, out until the job fails or a piece is taken, and held from then on. A new text makes
+/// it wanted again, whatever became of the job. While the pieces are lent only `take_back` and `is_lent` may be called.
+///
+/// Contracts speak of what was done to a board as a list of events, the latest first. A board that stands for a list
+/// stands after each call for that list and the call's event, unless the call was refused.
+///
+/// Each path that has no piece is among `unheld`, so that the search for the next job passes over no held path.
+#[derive(Drop)]
+pub struct Board<W: Work> {
+    alloc: Global,
+    last: u64,
+    slots: BTreeMap<String, Slot<W>>,
+    unheld: BTreeSet<String>,
+    is_lent: bool,
+}
+
+impl<W: Work> Model for Board<W> {
+    ghost use Rattle.piece_collector.specs.Views.{BoardView, seen, IsKept};
+
+    ghost Value = { BoardView };
+
+    ghost view = { λ b. seen b.last b.slots b.is_lent };
+
+    ghost invariant = { λ b. IsKept b.slots b.unheld b.is_lent };
+}
+
+impl<W: Work> Board<W> {
+    /// A board that knows no path, for pieces of this work. Its first stamp is 1. It keeps the allocator, and takes no
+    /// memory yet.
+    pub fn new(alloc: Global, work: W) -> Board<W>
+        ensures stands { Stands 0 result [] }
+        ensures here { result.is_lent ≡ false }
+    {
+        Board::counting_from(alloc, work, 0)
+    }
+
+    /// A board that knows no path, for pieces of this work. Its first stamp is the one after `stamp`. It keeps the
+    /// allocator, and takes no memory yet.
+    pub fn counting_from(alloc: Global, _work: W, stamp: u64) -> Board<W>
+        ensures stands { Stands stamp result [] }
+        ensures here { result.is_lent ≡ false }
+    {
+        Board {
+            alloc,
+            last: stamp,
+            slots: BTreeMap::new(alloc),
+            unheld: BTreeSet::new(alloc),
+            is_lent: false,
+        }
+    }
+
+    /// Sets the text of a path, which is wanted from then on, also where it had this text before. Gives its stamp: one
+    /// more than the last that was given.
+    ///
+    /// Refused with 502 where the last stamp was `u64::MAX`, and with 501 where memory was; the board is as before.
+    pub fn set_text(&mut self, path: String, text: String) -> Result<u64, BoardFault>
+        requires { self.old.is_lent ≡ false }
+        ensures stands { OnOk result ((opening : ℕ) (events : List Event) → Stands opening self.old events → Stands opening self.new (SetText (string_bytes path) (string_bytes text) ∷ events)) }
+        ensures stamp { IfOk result (λ stamp. (stamp ≡ self.old.last + 1) × (stamp ≡ self.new.last)) }
+        ensures here { self.new.is_lent ≡ false }
+
+        // Only where the last stamp was given is there none left, whatever memory there is.
+        ensures exhausted { (result ≡ Err BoardFault.Exhausted) ↔ (self.old.last ≡ 18446744073709551615) }
+        ensures err { OnErr result (self.new ≡ self.old) }
+    {
+        if self.last == u64::MAX {
+            return Err(BoardFault::Exhausted);
+        }
+        let stamp = self.last + 1;
+        self.unheld.insert(path.clone()?)?;
+        self.slots.insert(path, Slot::new(text, stamp))?;
+        self.last = stamp;
+        Ok(stamp)
+    }
+
+    /// Forgets a path, with its text and its piece. Answers whether it was known; where it wasn't, nothing changes.
+    pub fn remove(&mut self, path: &str) -> bool
+        requires { self.old.is_lent ≡ false }
+        ensures stands { (opening : ℕ) (events : List Event) → Stands opening self.old events → Stands opening self.new (Remove path.now ∷ events) }
+        ensures known { result ≡ is_some (slot_of path.now self.old) }
+        ensures here { self.new.is_lent ≡ false }
+    {
+        self.unheld.remove(path);
+        self.slots.remove(path).is_some()
+    }
+
+    /// Gives a job for the first wanted path, in path order, which is out from then on; none only where no path is
+    /// wanted. Where memory is refused the board is as before.
+    pub fn next_job(&mut self) -> Result<Option<Job>, AllocError>
+        requires { self.old.is_lent ≡ false }
+        ensures stands { OnOk result ((opening : ℕ) (events : List Event) → Stands opening self.old events → Stands opening self.new (NextJob ∷ events)) }
+        ensures first { IfOk result (λ job. (opening : ℕ) (events : List Event) → Stands opening self.old events → IsFirstWanted opening events (option_map (λ j. j.path) job)) }
+
+        // The job has the path's current stamp and text.
+        ensures text { IfOk result (λ job. (opening : ℕ) (events : List Event) → Stands opening self.old events → IfSome job (λ j. option_map (text_at j.path) (stands_at opening events j.path) ≡ Some j)) }
+        ensures here { self.new.is_lent ≡ false }
+        ensures err { OnErr result (self.new ≡ self.old) }
+    {
+        let Some(job) = slots::first_job(&self.slots, &self.unheld)? else {
+            return Ok(None);
+        };
+        slots::set_out(&mut self.slots, job.path(), true);
+        Ok(Some(job))
+    }
+
+    /// Brings a piece, whether or not its job was given. It is taken where its path is known and has no piece yet, and
+    /// the piece has the path's current stamp and text; the path is held from then on. Any other piece is dropped, and
+    /// the verdict says why.
+    pub fn offer(&mut self, piece: Piece<W>) -> Verdict
+        requires { self.old.is_lent ≡ false }
+        ensures stands { (opening : ℕ) (events : List Event) → Stands opening self.old events → Stands opening self.new (Offer piece.path piece.stamp piece.text ∷ events) }
+        ensures verdict { (opening : ℕ) (events : List Event) → Stands opening self.old events → result ≡ verdict_on piece.stamp piece.text (stands_at opening events piece.path) }
+        ensures here { self.new.is_lent ≡ false }
+    {
+        let verdict = slots::judge_piece(&self.slots, &piece);
+        if verdict != Verdict::Taken {
+            return verdict;
+        }
+        self.unheld.remove(piece.path());
+        slots::keep(&mut self.slots, piece);
+        verdict
+    }
+
+    /// Brings the failure of a job by its path and stamp, whether or not the job was given. It is taken where the path
+    /// is known and has no piece yet, and the stamp is the current one; the path is wanted from then on.
+    pub fn fail(&mut self, path: &str, stamp: u64) -> Verdict
+        requires { self.old.is_lent ≡ false }
+        ensures stands { (opening : ℕ) (events : List Event) → Stands opening self.old events → Stands opening self.new (Fail path.now stamp ∷ events) }
+        ensures verdict { (opening : ℕ) (events : List Event) → Stands opening self.old events → result ≡ failure_on stamp (stands_at opening events path.now) }
+        ensures here { self.new.is_lent ≡ false }
+    {
+        let verdict = slots::judge(&self.slots, path, stamp);
+        if verdict != Verdict::Taken {
+            return verdict;
+        }
+        slots::set_out(&mut self.slots, path, false);
+        verdict
+    }
+
+    /// Whether each known path is held.
+    pub fn is_complete(&self) -> bool
+        requires { self.now.is_lent ≡ false }
+        ensures full { IsTrue result ↔ IsFull self.now }
+        ensures complete { (opening : ℕ) (events : List Event) → Stands opening self.now events → (IsTrue result ↔ IsComplete opening events) }
+    {
+        slots::are_held(&self.slots, &self.unheld)
+    }
+
+    /// Whether the pieces are lent.
+    pub fn is_lent(&self) -> bool
+        ensures { result ≡ self.now.is_lent }
+    {
+        self.is_lent
+    }
+
+    /// Lends the pieces of a complete board, in path order: they are of the current texts of all known paths. The
+    /// board is lent until [`take_back`](Board::take_back). Where memory is refused it is as before.
+    pub fn lend_all(&mut self) -> Result<Lent<W>, AllocError>
+        requires here { self.old.is_lent ≡ false }
+        requires full { IsFull self.old }
+        ensures texts { IfOk result (λ lent. (opening : ℕ) (events : List Event) → Stands opening self.old events → IsTextsOf opening events lent) }
+
+        // These are what `take_back` asks for.
+        ensures back { IfOk result (λ lent. IsTextsIn self.new lent) }
+
+        // Lending is no event.
+        ensures stands { OnOk result ((opening : ℕ) (events : List Event) → Stands opening self.old events → Stands opening self.new events) }
+        ensures lent { OnOk result (self.new ≡ record self.old { is_lent = true }) }
+        ensures err { OnErr result (self.new ≡ self.old) }
+    {
+        let paths = slots::paths(self.alloc, &self.slots)?;
+        let mut pieces = Vec::with_capacity(self.alloc, paths.len())?;
+        slots::take_all(&mut self.slots, paths, &mut pieces);
+        self.is_lent = true;
+        Ok(Lent::by_board(pieces))
+    }
+
+    /// Takes the lent pieces back, or others with the same paths, stamps and texts, in order. The board is as before
+    /// they were lent.
+    pub fn take_back(&mut self, lent: Lent<W>)
+        requires lent { self.old.is_lent ≡ true }
+        requires texts { IsTextsIn self.old lent }
+        ensures stands { (opening : ℕ) (events : List Event) → Stands opening self.old events → Stands opening self.new events }
+        ensures here { self.new ≡ record self.old { is_lent = false } }
+    {
+        slots::restore_all(&mut self.slots, lent.into_pieces());
+        self.is_lent = false;
+    }
+
+    /// The allocator that the board was made with.
+    pub(crate) fn alloc(&self) -> Global {
+        self.alloc
+    }
+}

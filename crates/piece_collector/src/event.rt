@@ -1,0 +1,99 @@
+// A list of events, done on a board one after the other.
+ghost use Rattle.std.specs.Prelude.{◌≡◌, ℕ, List, ◌∷◌, ◌++◌, false, map, IfOk, OnOk, OnErr, Err};
+ghost use Rattle.piece_collector.specs.Events.{Event};
+ghost use Rattle.piece_collector.specs.History.{answer};
+ghost use Rattle.piece_collector.specs.Board.{Stands};
+ghost use Rattle.piece_collector.specs.Runs.{event_of, Ran, Stopped};
+ghost use Rattle.piece_collector.specs.declared.fault.BoardFault.TheVariants.{Exhausted};
+
+use crate::board::Board;
+use crate::fault::BoardFault;
+use crate::piece::{Piece, Work};
+use crate::verdict::Verdict;
+
+/// What can be done to a board that isn't lent.
+#[derive(Drop)]
+pub enum BoardEvent<W: Work> {
+    /// [`Board::set_text`].
+    SetText {
+        /// The path.
+        path: String,
+        /// Its new text.
+        text: String,
+    },
+    /// [`Board::remove`].
+    Remove {
+        /// The path.
+        path: String,
+    },
+    /// [`Board::next_job`]; the job is dropped.
+    NextJob,
+    /// [`Board::offer`].
+    Offer(Piece<W>),
+    /// [`Board::fail`].
+    Fail {
+        /// The path of the job.
+        path: String,
+        /// Its stamp.
+        stamp: u64,
+    },
+}
+
+/// Does the events in turn. Gives the verdicts of the offers and failures, in their order.
+///
+/// Refused with 502 where the last stamp was `u64::MAX` at a `SetText`, and with 501 where memory was; the board is
+/// then as the events before the refused one leave it.
+pub fn run_events<W: Work>(
+    board: &mut Board<W>,
+    events: Vec<BoardEvent<W>>,
+) -> Result<Vec<Verdict>, BoardFault>
+    requires { board.old.is_lent ≡ false }
+    ensures ok { IfOk result (λ verdicts. (opening : ℕ) (earlier : List Event) → Stands opening board.old earlier → Ran opening earlier (map event_of events.items) board.new verdicts.items) }
+    ensures err { OnErr result ((opening : ℕ) (earlier : List Event) → Stands opening board.old earlier → Stopped opening earlier (map event_of events.items) board.new) }
+    ensures exhausted { (result ≡ Err BoardFault.Exhausted) → (board.new.last ≡ 18446744073709551615) }
+    ensures here { board.new.is_lent ≡ false }
+{
+    let mut verdicts = Vec::new(board.alloc());
+    for event in events {
+        step(board, event, &mut verdicts)?;
+    }
+    Ok(verdicts)
+}
+
+/// Does one event, and notes its verdict.
+fn step<W: Work>(
+    board: &mut Board<W>,
+    event: BoardEvent<W>,
+    verdicts: &mut Vec<Verdict>,
+) -> Result<(), BoardFault>
+    requires { board.old.is_lent ≡ false }
+    ensures stands { OnOk result ((opening : ℕ) (earlier : List Event) → Stands opening board.old earlier → Stands opening board.new (event_of event ∷ earlier)) }
+    ensures answer { OnOk result ((opening : ℕ) (earlier : List Event) → Stands opening board.old earlier → verdicts.new.items ≡ verdicts.old.items ++ answer opening earlier (event_of event)) }
+    ensures err { OnErr result (board.new ≡ board.old) }
+    ensures exhausted { (result ≡ Err BoardFault.Exhausted) → (board.new.last ≡ 18446744073709551615) }
+    ensures here { board.new.is_lent ≡ false }
+{
+    verdicts.reserve(1)?;
+    match event {
+        BoardEvent::SetText { path, text } => {
+            board.set_text(path, text)?;
+            Ok(())
+        }
+        BoardEvent::Remove { path } => {
+            board.remove(path.as_str());
+            Ok(())
+        }
+        BoardEvent::NextJob => {
+            board.next_job()?;
+            Ok(())
+        }
+        BoardEvent::Offer(piece) => {
+            verdicts.push_reserved(board.offer(piece));
+            Ok(())
+        }
+        BoardEvent::Fail { path, stamp } => {
+            verdicts.push_reserved(board.fail(path.as_str(), stamp));
+            Ok(())
+        }
+    }
+}

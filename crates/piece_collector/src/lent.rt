@@ -1,0 +1,52 @@
+// The pieces that a board lends.
+ghost use Rattle.std.specs.Prelude.{◌≡◌};
+ghost use Rattle.piece_collector.specs.Board.{Ascends};
+
+use crate::piece::{Piece, Work};
+use std::marker::Model;
+
+/// Pieces in path order, each path once: those that a board lent, or others in their place.
+#[derive(Drop)]
+pub struct Lent<W: Work> {
+    pieces: Vec<Piece<W>>,
+}
+
+impl<W: Work> Model for Lent<W> {
+    ghost use Rattle.std.specs.Prelude.{List};
+    ghost use Rattle.piece_collector.specs.Views.{TextAt};
+
+    ghost Value = { List TextAt };
+
+    ghost view = { λ l. l.pieces.items };
+}
+
+impl<W: Work> Lent<W> {
+    /// These pieces, whose paths ascend strictly.
+    pub fn of(pieces: Vec<Piece<W>>) -> Lent<W>
+        requires { Ascends pieces.items }
+        ensures { result ≡ pieces.items }
+    {
+        Lent::by_board(pieces)
+    }
+
+    /// The pieces that a board lends.
+    pub(crate) fn by_board(pieces: Vec<Piece<W>>) -> Lent<W>
+        ensures { result ≡ pieces.items }
+    {
+        Lent { pieces }
+    }
+
+    /// The pieces, in path order.
+    pub fn into_pieces(self) -> Vec<Piece<W>>
+        ensures { result.items ≡ self }
+    {
+        self.pieces
+    }
+
+    /// The pieces, in path order, which stay where they are.
+    pub fn pieces(&self) -> &[Piece<W>]
+        ensures { result.now ≡ self.now }
+    {
+        self.pieces.as_slice()
+    }
+}

@@ -1,0 +1,69 @@
+-- What is known of a workspace.
+use Rattle.std.specs.Prelude.{ℕ, List, ◌++◌, map, filter, slice_index_or, bytes_eq, [], position}
+use Rattle.std.specs.Option.{option_map_or}
+use Rattle.std.specs.List.{enumerate_from}
+use Rattle.proto_syntax.specs.Read.{value_tree}
+use Rattle.proto_facts.specs.declared.diagnostic.Diag.{Diag}
+use Rattle.proto_facts.specs.declared.fact.Decl.{Decl}
+use Rattle.proto_facts.specs.declared.fact.FileFacts.{FileFacts}
+use Rattle.proto_facts.specs.Facts.{facts_of}
+use Rattle.proto_facts.specs.Order.{in_order}
+use Rattle.import_graph.specs.declared.paths.NamedFacts.{NamedFacts}
+use Rattle.proto_resolve.specs.declared.target.DeclRef.{DeclRef}
+use Rattle.proto_resolve.specs.declared.resolve.Links.{Links}
+use Rattle.proto_resolve.specs.Files.{all_decls, no_facts, no_decl}
+use Rattle.proto_resolve.specs.Resolved.{resolved}
+
+-- a workspace: the paths of its files, by their bytes, each with its text
+abbrev pub Workspace : Type 0
+Workspace = List (List ℕ × List ℕ)
+
+-- a file, and what its text says by itself
+abbrev pub named_facts : List ℕ × List ℕ → NamedFacts
+named_facts file = record { path = file.0; facts = facts_of file.1 }
+
+abbrev pub all_facts : Workspace → List NamedFacts
+all_facts w = map named_facts w
+
+-- the uses of names in a file, given its number, and what is wrong by what it sees
+abbrev pub links_of : Workspace → ℕ × (List ℕ × List ℕ) → Links
+links_of w file = resolved (all_facts w) file.0 file.1.1 (value_tree file.1.1)
+
+-- what is wrong by itself and by what is seen: each once, in order
+abbrev pub listed : FileFacts → Links → List Diag
+listed facts links = in_order (facts.diags ++ links.diags)
+
+-- all that is wrong in a file
+abbrev pub diagnostics_of : Workspace → ℕ × (List ℕ × List ℕ) → List Diag
+diagnostics_of w file = listed (facts_of file.1.1) (links_of w file)
+
+-- The analysis of a workspace: its paths; the facts of each file; all declarations, by path, then offset; the uses of
+-- names in each file; and what is wrong in each file.
+pub record AnalysisData : Type 0 where
+  pub paths : List (List ℕ)
+  pub facts : List FileFacts
+  pub decls : List DeclRef
+  pub links : List Links
+  pub diagnostics : List (List Diag)
+
+abbrev pub analysis : Workspace → AnalysisData
+analysis w = record {
+  paths = map (λ file. file.0) w;
+  facts = map (λ file. facts_of file.1) w;
+  decls = all_decls (all_facts w);
+  links = map (links_of w) (enumerate_from 0 w);
+  diagnostics = map (diagnostics_of w) (enumerate_from 0 w);
+}
+
+-- ---- reading it
+
+abbrev pub decl_in : List FileFacts → DeclRef → Decl
+decl_in facts r = slice_index_or (let file = slice_index_or facts r.file no_facts in file.decls) r.number no_decl
+
+-- the declarations of a full name, by path, then offset
+abbrev pub decls_named : AnalysisData → List ℕ → List DeclRef
+decls_named a name = filter (λ r. bytes_eq (let found = decl_in a.facts r in found.full_name) name) a.decls
+
+-- what is wrong in the file with a path; nothing where there is none
+abbrev pub diags_at : AnalysisData → List ℕ → List Diag
+diags_at a path = option_map_or (λ file. slice_index_or a.diagnostics file []) (position (λ p. bytes_eq p path) a.paths) []

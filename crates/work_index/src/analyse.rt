@@ -1,0 +1,110 @@
+// The analysis of a workspace.
+ghost use Rattle.std.specs.Prelude.{◌≡◌, ◌<◌, ◌++◌, [], ◌∷◌, length, map, IfOk, OnOk};
+ghost use Rattle.std.specs.List.{enumerate_from};
+ghost use Rattle.proto_facts.specs.Facts.{facts_of};
+ghost use Rattle.piece_collector.specs.Board.{Ascends};
+ghost use Rattle.work_index.specs.Pieces.{workspace_of};
+ghost use Rattle.work_index.specs.Workspace.{Workspace, all_facts, analysis, links_of, listed, diagnostics_of};
+
+use crate::analysis::Analysis;
+use crate::file_work::{FileWork, facts_in, tree_in};
+use crate::index::table_of;
+use piece_collector::Piece;
+use proto_facts::{Diag, Name, in_order};
+use proto_resolve::{Links, Table, resolve_file};
+use proto_syntax::Items;
+use std::alloc::{AllocError, Global};
+
+// The paths of pieces.
+fn paths_of(alloc: Global, pieces: &[Piece<FileWork>]) -> Result<Items<Name>, AllocError>
+    ensures { IfOk result (λ paths. paths ≡ map (λ p. p.path) pieces.now) }
+{
+    let mut paths = Items::new(alloc);
+    'pieces: for piece in pieces {
+        paths.push(Name::of(String::from_str(alloc, piece.path())?))?;
+    }
+    Ok(paths)
+}
+
+// What the names of a file of the table mean, and what is wrong in it by what it sees.
+fn links_of(
+    alloc: Global,
+    table: &Table,
+    file: usize,
+    piece: &Piece<FileWork>,
+) -> Result<Links, AllocError>
+    requires { file < length table.now }
+    ensures { (w : Workspace) → table.now ≡ all_facts w → IfOk result (λ links. links ≡ links_of w (file, (piece.now.path, piece.now.text))) }
+{
+    resolve_file(alloc, table, file, piece.text(), tree_in(piece))
+}
+
+// All that is wrong in a file, by itself and by what it sees.
+fn diagnostics_of(
+    alloc: Global,
+    piece: &Piece<FileWork>,
+    links: &Links,
+) -> Result<Items<Diag>, AllocError>
+    ensures { IfOk result (λ diags. diags ≡ listed (facts_of piece.now.text) links.now) }
+{
+    let mut found = Items::from_slice(alloc, facts_in(piece).diags.as_slice())?;
+    'links: for diag in links.diags.as_slice() {
+        found.push(*diag)?;
+    }
+    in_order(alloc, found.as_slice())
+}
+
+// Adds what is known of a file beside its facts.
+fn push_linked(
+    alloc: Global,
+    table: &Table,
+    file: usize,
+    piece: &Piece<FileWork>,
+    links: &mut Items<Links>,
+    diagnostics: &mut Items<Items<Diag>>,
+) -> Result<(), AllocError>
+    requires { file < length table.now }
+    ensures links { (w : Workspace) → table.now ≡ all_facts w → OnOk result (links.new ≡ links.old ++ links_of w (file, (piece.now.path, piece.now.text)) ∷ []) }
+    ensures diagnostics { (w : Workspace) → table.now ≡ all_facts w → OnOk result (diagnostics.new ≡ diagnostics.old ++ diagnostics_of w (file, (piece.now.path, piece.now.text)) ∷ []) }
+{
+    let found = links_of(alloc, table, file, piece)?;
+    diagnostics.push(diagnostics_of(alloc, piece, &found)?)?;
+    links.push(found)
+}
+
+// Adds the same of all files.
+fn push_all_linked(
+    alloc: Global,
+    table: &Table,
+    pieces: &[Piece<FileWork>],
+    links: &mut Items<Links>,
+    diagnostics: &mut Items<Items<Diag>>,
+) -> Result<(), AllocError>
+    requires { table.now ≡ all_facts (workspace_of pieces.now) }
+    ensures links { OnOk result (links.new ≡ links.old ++ map (links_of (workspace_of pieces.now)) (enumerate_from 0 (workspace_of pieces.now))) }
+    ensures diagnostics { OnOk result (diagnostics.new ≡ diagnostics.old ++ map (diagnostics_of (workspace_of pieces.now)) (enumerate_from 0 (workspace_of pieces.now))) }
+{
+    for (file, piece) in pieces.iter().enumerate() {
+        push_linked(alloc, table, file, piece, links, diagnostics)?;
+    }
+    Ok(())
+}
+
+/// The analysis of the workspace of some pieces, which are in the order of their paths, no path twice: it is that of their
+/// paths and texts. An `Err` comes only where memory was refused.
+pub fn analyse_here(alloc: Global, pieces: &[Piece<FileWork>]) -> Result<Analysis, AllocError>
+    requires { Ascends pieces.now }
+    ensures { IfOk result (λ found. found ≡ analysis (workspace_of pieces.now)) }
+{
+    let table = table_of(alloc, pieces)?;
+    let paths = paths_of(alloc, pieces)?;
+    let mut links = Items::new(alloc);
+    let mut diagnostics = Items::new(alloc);
+    push_all_linked(alloc, &table, pieces, &mut links, &mut diagnostics)?;
+    Ok(Analysis {
+        table,
+        paths,
+        links,
+        diagnostics,
+    })
+}

@@ -1,0 +1,84 @@
+// The work on one file.
+ghost use Rattle.std.specs.Prelude.{◌≡◌, IfOk};
+ghost use Rattle.proto_facts.specs.Facts.{facts_of};
+ghost use Rattle.proto_syntax.specs.Read.{read, value_tree};
+
+use piece_collector::{Piece, Work};
+use proto_facts::{FileFacts, facts};
+use proto_lex::lex;
+use proto_syntax::{FileTree, parse};
+use std::alloc::{AllocError, Global};
+
+// How long a text may be that is analysed, in bytes.
+const MAX_ANALYSED: usize = 16_777_216;
+
+/// What is made of a file's text by itself.
+#[derive(Drop)]
+pub struct FileOut {
+    /// The tree of the text; that of the empty text where the text has more than 16,777,216 bytes.
+    pub tree: FileTree,
+    /// What the text says by itself.
+    pub facts: FileFacts,
+}
+
+/// The work on one file: its tokens, its tree and its facts.
+#[derive(Drop)]
+pub struct FileWork {
+    alloc: Global,
+}
+
+impl FileWork {
+    /// Work that takes its memory from this allocator.
+    pub fn new(alloc: Global) -> FileWork {
+        FileWork { alloc }
+    }
+}
+
+impl Work for FileWork {
+    ghost use Rattle.std.specs.Prelude.{◌≡◌};
+    ghost use Rattle.proto_facts.specs.Facts.{facts_of};
+    ghost use Rattle.proto_syntax.specs.Read.{value_tree};
+
+    type Out = FileOut;
+
+    ghost stands = { λ out text. (out.tree ≡ value_tree text) × (out.facts ≡ facts_of text) };
+
+    fn work(&self, text: &str) -> Result<FileOut, AllocError> {
+        let tree = tree_of(self.alloc, text)?;
+        let facts = facts(self.alloc, text, &tree)?;
+        Ok(FileOut { tree, facts })
+    }
+}
+
+// The tree of a text, of whatever length.
+fn read(alloc: Global, text: &str) -> Result<FileTree, AllocError>
+    ensures { IfOk result (λ tree. tree ≡ read text.now) }
+{
+    let tokens = lex(alloc, text)?;
+    parse(alloc, text, tokens.as_slice())
+}
+
+// The tree of a text. A text that is too long has the tree of the empty text.
+fn tree_of(alloc: Global, text: &str) -> Result<FileTree, AllocError>
+    ensures { IfOk result (λ tree. tree ≡ value_tree text.now) }
+{
+    if MAX_ANALYSED < text.len() {
+        read(alloc, "")
+    } else {
+        read(alloc, text)
+    }
+}
+
+// The tree of a piece's text.
+pub(crate) fn tree_in(piece: &Piece<FileWork>) -> &FileTree
+    ensures { result.now ≡ value_tree piece.now.text }
+{
+    &piece.out().tree
+}
+
+// The facts of a piece's text.
+pub(crate) fn facts_in(piece: &Piece<FileWork>) -> &FileFacts
+    ensures { result.now ≡ facts_of piece.now.text }
+{
+    &piece.out().facts
+}

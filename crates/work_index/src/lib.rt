@@ -1,0 +1,15 @@
+//! What is known of a whole workspace: its files' texts in, their facts, names and diagnostics out.
+//!
+//! [`FileWork`] is the work on one file, whose product depends on its text alone; [`analyse_here`] links the products of all
+//! files. What the analysis of a workspace is, is defined in specs/Workspace.antt as a function of the list of paths and
+//! texts; the products save time and take no part in it.
+#![tactic(auto)]
+
+mod analyse;
+mod analysis;
+mod file_work;
+mod index;
+
+pub use analyse::analyse_here;
+pub use analysis::Analysis;
+pub use file_work::{FileOut, FileWork};
