@@ -73,7 +73,7 @@ impl Placing {
 pub struct Components {
     // A number for each file. No import leads to a higher one, so files that lead to one another have the same.
     pub numbers: Vec<usize>,
-    // Files of one number lead to one another, where both are flagged here. The tour is ordered so that all are; nothing but
+    // Files of one number lead to one another, where both are flagged here. The tour is meant to flag all; nothing but
     // time depends on that.
     pub tied: Vec<bool>,
 }

@@ -142,7 +142,7 @@ impl Graph {
         if self.components.tied[target] && self.components.tied[file] {
             return Ok(true);
         }
-        // Never so after the tour that gave the numbers; a search would tell.
+        // The tour that gave the numbers is meant to leave no such case; a search tells.
         self.reaches(target, file)
     }
 

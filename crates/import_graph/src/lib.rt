@@ -6,8 +6,8 @@
 //! Links.antt says what imports name, Views.antt what is seen and reached as walks from file to file, and Closures.antt
 //! gives the same as functions of the graph; the laws say that both agree.
 //!
-//! Which files lead to one another is found once, when the graph is made, so that whether an import closes a cycle is
-//! looked up. What a file sees is searched when it is asked for, in time that grows with what the search meets.
+//! Which files lead to one another is found once, when the graph is made; that tells whether an import closes a cycle, and
+//! where it could not, a search would. What a file sees is searched when it is asked for, in time that grows with what the search meets.
 #![tactic(auto)]
 
 mod components;

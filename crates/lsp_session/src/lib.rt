@@ -2,7 +2,8 @@
 //!
 //! A [`Core`] takes the bodies of messages and gives the bodies of replies; it knows no streams. [`serve`] reads the
 //! messages from a stream of frames and writes the replies to another, until the editor ends the session or the
-//! stream ends. [`run_core`] does the same over a list of events.
+//! stream ends. [`run_core`] does the same over a list of events. [`check`] lists what is wrong in the files of a
+//! configuration, without an editor.
 #![tactic(auto)]
 
 mod checking;

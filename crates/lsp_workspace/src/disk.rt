@@ -1,6 +1,6 @@
 // Files on disk.
 
-/// A file that was found on disk when the server started.
+/// A file that was found on disk.
 #[derive(Debug, Drop)]
 pub struct DiskFile {
     /// The number of its root in the list of roots, from 0.

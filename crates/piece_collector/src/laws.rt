@@ -7,7 +7,7 @@ pub fn last_changes()
     ensures { LastChangeIsTheLatest }
 {}
 
-/// A law: a path is out where a job was given for it and no failure of it with its stamp came after.
+/// A law: by some entries a path is out where a job of it is among them and no failure of it with its stamp came after.
 pub fn jobs_out()
     ensures { OutIsGivenAndNotFailed }
 {}

@@ -4,7 +4,7 @@
 //! statements, numbers and names that are used, reserved or declared twice, and the like. Which values these are is
 //! defined in specs/Facts.antt. Each kind of diagnostic has one definition: 201 to 204 in specs/Diags.antt, 312 to 317
 //! in specs/Facts.antt, the others in specs/Checks.antt. `in_order` puts diagnostics of whatever source into the order in
-//! which a file lists them. The declarations of a text stand in the order of their names, as the law `decls_in_order` says.
+//! which a file lists them. The declarations of a text stand by the offsets of their names, as the law `decls_in_order` says.
 #![tactic(auto)]
 
 mod bodies;

@@ -38,7 +38,7 @@ abbrev pub diagnostics_of : Workspace → ℕ × (List ℕ × List ℕ) → List
 diagnostics_of w file = listed (facts_of file.1.1) (links_of w file)
 
 -- The analysis of a workspace: its paths; the facts of each file; all declarations, by path, then offset; the uses of
--- names in each file; and what is wrong in each file.
+-- names in each file, with what is wrong by what it sees; and all that is wrong in each file.
 pub record AnalysisData : Type 0 where
   pub paths : List (List ℕ)
   pub facts : List FileFacts
