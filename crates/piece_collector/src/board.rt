@@ -20,8 +20,9 @@ use std::marker::Model;
 /// A text for each known path, with its stamp, and the pieces that were made of the texts.
 ///
 /// A path is known from [`set_text`](Board::set_text) to [`remove`](Board::remove). It is wanted, out or held: wanted
-/// until a job for it is given, out until the job fails or a piece is taken, and held from then on. A new text makes
-/// it wanted again, whatever became of the job. While the pieces are lent only `take_back` and `is_lent` may be called.
+/// until a job for it is given, out until the job fails, and held once a piece is taken, whether it was out or not. A
+/// new text makes it wanted again, whatever became of the job. While the pieces are lent only `take_back` and `is_lent`
+/// may be called.
 ///
 /// Contracts speak of what was done to a board as a list of events, the latest first. A board that stands for a list
 /// stands after each call for that list and the call's event, unless the call was refused.

@@ -41,8 +41,8 @@ pub enum BoardEvent<W: Work> {
 
 /// Does the events in turn. Gives the verdicts of the offers and failures, in their order.
 ///
-/// Refused with 502 where the last stamp was `u64::MAX` at a `SetText`, and with 501 where memory was; the board is
-/// then as the events before the refused one leave it.
+/// Refused with 501 where memory was, and with 502 only where the last stamp is `u64::MAX`, at a `SetText`; the board is then
+/// as the events before the refused one leave it.
 pub fn run_events<W: Work>(
     board: &mut Board<W>,
     events: Vec<BoardEvent<W>>,

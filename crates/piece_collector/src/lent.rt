@@ -5,7 +5,8 @@ ghost use Rattle.piece_collector.specs.Board.{Ascends};
 use crate::piece::{Piece, Work};
 use std::marker::Model;
 
-/// Pieces in path order, each path once: those that a board lent, or others in their place.
+/// Pieces that a board lent, or others in their place. Both ways to make one want the paths in order, each once; that is no
+/// part of what contracts see.
 #[derive(Drop)]
 pub struct Lent<W: Work> {
     pieces: Vec<Piece<W>>,

@@ -9,7 +9,7 @@ pub enum Verdict {
     Taken,
     /// Its stamp is below the current one of its path.
     Stale,
-    /// Its path is unknown, no such stamp was given to its path, or its text is another than that of the stamp.
+    /// Its path is unknown, its stamp is above the current one of its path, or its text is another than the current one.
     Foreign,
     /// Its stamp is the current one of its path, and a piece of it is held.
     Doubled,
