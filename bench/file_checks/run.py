@@ -137,7 +137,7 @@ def main():
     kept &= judge_growth("values of an enum", values, many, none)
     kept &= judge_growth("reserved beside fields", reservations, many, none)
     kept &= judge_growth("declarations of one name", declarations, many, lambda count: count - 1)
-    kept &= judge_growth("imports", imports, many, none)
+    kept &= judge_growth("imports", imports, many, lambda count: count)
     print("kept" if kept else "NOT kept")
     return 0 if kept else 1
 
