@@ -1,13 +1,11 @@
 // The check of a workspace, without an editor.
 ghost use Rattle.std.specs.Prelude.{◌≡◌, IfOk, IfErr, OnOk, OnErr};
 ghost use Rattle.std.specs.Io.KnownBytes.{Appends};
-ghost use Rattle.lsp_frame.specs.Counts.{NoneFell, HasFailed};
+ghost use Rattle.lsp_frame.specs.Counts.{HasFailed};
 ghost use Rattle.lsp_workspace.specs.Files.{workspace};
 ghost use Rattle.lsp_workspace.specs.Listing.{listing, has_errors};
-ghost use Rattle.lsp_workspace.specs.View.{files_view};
 ghost use Rattle.lsp_session.specs.Checking.{files_of};
 ghost use Rattle.lsp_session.specs.Fault.{ComesWhileServing};
-ghost use Rattle.lsp_session.specs.Steps.{IsWriteOrMemory};
 ghost use Rattle.lsp_session.specs.Stream.{SendsPrefix};
 
 use crate::config::Config;

@@ -10,7 +10,7 @@ use Rattle.import_graph.specs.declared.paths.NamedFacts.{NamedFacts}
 use Rattle.proto_resolve.specs.declared.resolve.Links.{Links}
 use Rattle.proto_resolve.specs.Files.{all_decls}
 use Rattle.work_index.specs.Pieces.{workspace_of}
-use Rattle.work_index.specs.Workspace.{AnalysisData, analysis, named_facts, all_facts, links_of, diagnostics_of}
+use Rattle.work_index.specs.Workspace.{analysis, named_facts, all_facts, links_of, diagnostics_of}
 
 -- what f makes of each of the files from n on
 abbrev pub made_from : {X : Type 0} → (ℕ × (List ℕ × List ℕ) → X) → ℕ → List TextAt → List X
