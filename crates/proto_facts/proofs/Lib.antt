@@ -1,7 +1,9 @@
 pub mod DeclOrder
 pub mod DiagOrder
 pub mod FactsLaws
+pub mod IdentifierLaws
 pub mod MessageOrder
+pub mod Nesting
 pub mod Ordered
 pub mod OverlapLemmas
 pub mod Places

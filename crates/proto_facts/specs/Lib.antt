@@ -9,4 +9,6 @@ pub mod Members
 pub mod Checks
 pub mod Seen
 pub mod Facts
+pub mod IdentifierLaws
 pub mod Reach
+pub mod Nesting

@@ -7,9 +7,10 @@ ghost use Rattle.proto_facts.specs.declared.fact.FileFacts.{FileFacts};
 ghost use Rattle.proto_facts.specs.declared.message.Message.{Message};
 ghost use Rattle.proto_facts.specs.Facts.{AreFacts, facts_in, facts_of};
 ghost use Rattle.proto_facts.specs.Messages.{message_order, variant_order};
+ghost use Rattle.proto_facts.specs.Nesting.{NamesNest};
 ghost use Rattle.proto_facts.specs.Order.{IsListOf, in_order as ordered};
 
-use proto_syntax::names_law;
+use proto_syntax::{identifiers_law, names_law, size_law};
 
 /// A law: the variants of `Message` stand in the order of their numbers, and those of one number in that of their words.
 pub fn messages_in_order()
@@ -33,4 +34,13 @@ pub fn decls_in_order()
     ensures { (text : List ℕ) → IsStrictlyIncreasing (map (λ d. d.name_span.start) (facts_of text).decls) }
 {
     names_law();
+}
+
+/// A law: the declarations of a text nest. Each full name that a declaration lies in is declared too, or is the package or one
+/// that the package lies in.
+pub fn names_nest()
+    ensures { (text : List ℕ) → NamesNest (facts_of text) }
+{
+    identifiers_law();
+    size_law();
 }

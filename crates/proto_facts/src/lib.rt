@@ -5,6 +5,7 @@
 //! defined in specs/Facts.antt. Each kind of diagnostic has one definition: 201 to 204 in specs/Diags.antt, 312 to 317
 //! in specs/Facts.antt, the others in specs/Checks.antt. `in_order` puts diagnostics of whatever source into the order in
 //! which a file lists them. The declarations of a text stand by the offsets of their names, as the law `decls_in_order` says.
+//! Names are made of bytes without a dot, as the law `names_are_identifiers` says.
 #![tactic(auto)]
 
 mod bodies;
@@ -13,6 +14,7 @@ mod decls;
 mod diagnostic;
 mod fact;
 mod file;
+mod identifier_laws;
 mod laws;
 mod members;
 mod message;
@@ -29,7 +31,10 @@ mod walk;
 
 pub use diagnostic::{Diag, in_order};
 pub use fact::{Decl, DeclKind, FileFacts, ImportFact, PackageFact, SyntaxFact};
-pub use laws::{decls_in_order, messages_in_order, one_list_in_order, one_value_of_facts};
+pub use identifier_laws::names_are_identifiers;
+pub use laws::{
+    decls_in_order, messages_in_order, names_nest, one_list_in_order, one_value_of_facts,
+};
 pub use message::Message;
 pub use name::Name;
 pub use report::facts;

@@ -1,10 +1,11 @@
 // What `facts` finds in texts, with the real lexer and parser.
 use proto_facts::{
     Diag, FileFacts, Message, Name, SyntaxFact, decls_in_order, facts, in_order, joined,
-    messages_in_order, one_list_in_order, one_value_of_facts, text_at,
+    messages_in_order, names_are_identifiers, names_nest, one_list_in_order, one_value_of_facts,
+    text_at,
 };
 use proto_lex::lex;
-use proto_syntax::{Span, names_law, parse};
+use proto_syntax::{Span, identifiers_law, names_law, parse, type_names_law};
 use std::test::Fail;
 
 // The facts of a text.
@@ -250,7 +251,11 @@ fn diagnostics_in_order(rt: HostRuntime) -> Result<(), Fail> {
     one_list_in_order();
     one_value_of_facts();
     names_law();
+    type_names_law();
+    identifiers_law();
+    names_are_identifiers();
     decls_in_order();
+    names_nest();
     Ok(())
 }
 

@@ -7,3 +7,4 @@ pub mod Read
 pub mod Grammar
 pub mod Skips
 pub mod Names
+pub mod Identifiers

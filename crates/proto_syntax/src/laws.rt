@@ -3,13 +3,14 @@ ghost use Rattle.std.specs.List.Sorted.{IsStrictlyIncreasing};
 ghost use Rattle.std.specs.Prelude.{◌≡◌, ◌↔◌, ◌<◌, ◌≤◌, ℕ, IsTrue, List, [], length, map};
 ghost use Rattle.proto_syntax.specs.Cut.{items, AreItems};
 ghost use Rattle.proto_syntax.specs.Grammar.{HeadersAreSpelled, StatementsAreSpelled};
-ghost use Rattle.proto_syntax.specs.Names.{names_in};
+ghost use Rattle.proto_syntax.specs.Identifiers.{NamesAreIdentifiers};
+ghost use Rattle.proto_syntax.specs.Names.{names_in, type_components_in, type_names_in};
 ghost use Rattle.proto_syntax.specs.Parts.{IsBalanced, is_balanced};
 ghost use Rattle.proto_syntax.specs.Read.{empty_tree, read, value_tree};
 ghost use Rattle.proto_syntax.specs.declared.lexeme.Body.{Body};
 ghost use Rattle.proto_syntax.specs.declared.lexeme.Lexeme.{Lexeme};
 
-use proto_lex::ordered_tokens;
+use proto_lex::{cut_tokens, one_token_list, ordered_tokens};
 
 /// A law: the statements of a body are its tokens joined, each up to the least place at which it ends, and no other
 /// list of them is.
@@ -47,4 +48,21 @@ pub fn names_law()
     ensures { (text : List ℕ) → IsStrictlyIncreasing (map (λ s. s.start) (names_in (read text).nodes)) }
 {
     ordered_tokens();
+}
+
+/// A law: the names of types in a text start at ascending offsets, and so do their components, put in one list.
+pub fn type_names_law()
+    ensures names { (text : List ℕ) → IsStrictlyIncreasing (map (λ t. t.span.start) (type_names_in (read text).nodes)) }
+    ensures components { (text : List ℕ) → IsStrictlyIncreasing (map (λ s. s.start) (type_components_in (read text).nodes)) }
+{
+    ordered_tokens();
+}
+
+/// A law: the names of a text, those that statements declare and the components of types and of packages, are identifiers:
+/// some bytes without a dot, and UTF-8 text may be cut at their ends.
+pub fn identifiers_law()
+    ensures { NamesAreIdentifiers }
+{
+    one_token_list();
+    cut_tokens();
 }

@@ -10,7 +10,8 @@
 //! `headers_law` and `statements_law`: what is read as a header, or as a statement without a block, is spelled as
 //! specs/Grammar.antt says. That all that is spelled so is read, no law says. `size_law`: a text of over 16,777,216
 //! bytes has the tree of the empty text. `names_law`: the names that statements declare, those inside a block behind the
-//! block's own, start at ascending offsets.
+//! block's own, start at ascending offsets. `type_names_law`: so do the names of types, and their components.
+//! `identifiers_law`: declared names, and the components of types and packages, are some bytes of the text without a dot.
 #![tactic(auto)]
 
 mod cut;
@@ -24,7 +25,10 @@ mod read;
 mod scan;
 mod skips;
 
-pub use laws::{brackets_law, headers_law, items_law, names_law, size_law, statements_law};
+pub use laws::{
+    brackets_law, headers_law, identifiers_law, items_law, names_law, size_law, statements_law,
+    type_names_law,
+};
 pub use node::{
     Fault, Field, FileTree, Literal, MapField, Node, Number, Problem, RangeEnd, ReservedList,
     ReservedRange, Span, TypeName,

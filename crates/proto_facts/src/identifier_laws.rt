@@ -1,0 +1,14 @@
+// The law of what the names of a text are made of. It is proved for all texts, and its function does nothing.
+ghost use Rattle.proto_facts.specs.IdentifierLaws.{NamesAreIdentifiers, PackagesAreIdentifiers};
+
+use proto_syntax::{identifiers_law, size_law};
+
+/// A law: in UTF-8 text an identifier, some bytes without a dot, stands at each name that a statement declares, and at each
+/// component of a type and of a package.
+pub fn names_are_identifiers()
+    ensures names { NamesAreIdentifiers }
+    ensures packages { PackagesAreIdentifiers }
+{
+    identifiers_law();
+    size_law();
+}
