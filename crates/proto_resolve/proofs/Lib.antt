@@ -7,7 +7,15 @@ pub mod Order
 pub mod Firsts
 pub mod Members
 pub mod Meets
+pub mod NamesOrder
+pub mod Nesting
 pub mod Outers
+pub mod Components
 pub mod LastUse
 pub mod Places
+pub mod UsesByName
 pub mod UsesOf
+pub mod Alike
+pub mod Told
+pub mod SeenAlone
+pub mod Outlines

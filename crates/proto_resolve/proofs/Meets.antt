@@ -73,11 +73,15 @@ there_from n (x ∷ files) = All-append (IsThereFrom n (x ∷ files)) (refs (n, 
 abbrev has_name : List NamedFacts → List ℕ → DeclRef → Bool
 has_name files name r = bytes_eq (let d = decl_at files r in d.full_name) name
 
-named_in : (files : List NamedFacts) (f : ℕ) (name : List ℕ) (r : DeclRef) → IsSeenAs files f name r → In r (all_named files name)
-named_in files f name r seen = in_filter (has_name files name) r (all_decls files)
-    ((bytes_eq-Decides (let d = decl_at files r in d.full_name) name).1 seen.named) (in_files 0 r.file r files (omega arith) seen.there)
+pub in_all_named : (files : List NamedFacts) (name : List ℕ) (r : DeclRef) → r.number < length (decls_at files r.file) → (let d = decl_at files r in d.full_name) ≡ name
+    → In r (all_named files name)
+in_all_named files name r there named =
+    in_filter (has_name files name) r (all_decls files) ((bytes_eq-Decides (let d = decl_at files r in d.full_name) name).1 named) (in_files 0 r.file r files (omega arith) there)
 
-in_named : (files : List NamedFacts) (name : List ℕ) (r : DeclRef) → In r (all_named files name)
+named_in : (files : List NamedFacts) (f : ℕ) (name : List ℕ) (r : DeclRef) → IsSeenAs files f name r → In r (all_named files name)
+named_in files f name r seen = in_all_named files name r seen.there seen.named
+
+pub in_named : (files : List NamedFacts) (name : List ℕ) (r : DeclRef) → In r (all_named files name)
     → (r.number < length (decls_at files r.file)) × ((let d = decl_at files r in d.full_name) ≡ name)
 in_named files name r there =
     let both = from_filter (has_name files name) r (all_decls files) there in
@@ -130,7 +134,7 @@ from_within : (name : List ℕ) (o : Option PackageFact) → is_within name o �
 from_within name None e = absurd (cc (e))
 from_within name (Some p) e = (p, refl, begins_split p.full_name name e)
 
-begins_so : (whole name : List ℕ) → (whole ≡ name) ⊎ ((rest : List ℕ) × (whole ≡ name ++ dot ∷ rest)) → begins whole name ≡ true
+pub begins_so : (whole name : List ℕ) → (whole ≡ name) ⊎ ((rest : List ℕ) × (whole ≡ name ++ dot ∷ rest)) → begins whole name ≡ true
 begins_so whole name (inl equal) = subst (λ w. begins w name ≡ true) (append_nothing name ∙ sym equal) (begins_itself name [])
 begins_so whole name (inr longer) = subst (λ w. begins w name ≡ true) (sym longer.1) (begins_itself name (dot ∷ longer.0))
 

@@ -1,6 +1,6 @@
 -- Where something is found, something is found at each full name that it lies in.
 use Rattle.std.proofs.Common.{◌≡◌, ◌||◌, ◌&&◌, ◌==◌, inl, inr, ℕ, List, [], ◌∷◌, ◌++◌, Bool, true, false, length, take, drop, Option, Some, None, find, refl, subst, sym, ◌∙◌}
-use Rattle.std.specs.Prelude.{◌≢◌, ◌⊎◌, IsSome, is_some, option_map, nat_eq}
+use Rattle.std.specs.Prelude.{◌≢◌, ◌⊎◌, All, IsSome, is_some, option_map, nat_eq}
 use Rattle.std.specs.List.{list_any, starts_with}
 use Rattle.std.specs.Option.{option_or}
 use Rattle.std.proofs.lemmas.Bool.{cases_Bool}
@@ -10,12 +10,13 @@ use Rattle.std.proofs.lemmas.Slice.Eq.{bytes_eq-Decides}
 use Rattle.std.proofs.Math.Seq.{drop-append_seam, take-append_seam}
 use Rattle.import_graph.specs.declared.paths.NamedFacts.{NamedFacts}
 use Rattle.proto_facts.specs.declared.fact.PackageFact.{PackageFact}
+use Rattle.proto_facts.specs.Nesting.{NamesNest}
 use Rattle.proto_facts.specs.Text.{joined}
 use Rattle.proto_resolve.specs.declared.target.DeclRef.{DeclRef}
 use Rattle.proto_resolve.specs.declared.target.Target.TheVariants.{Declared}
 use Rattle.proto_resolve.specs.Files.{all_named, begins, ends_component, facts_at, has_package, is_within}
-use Rattle.proto_resolve.specs.Laws.{AreHeld, declares}
 use Rattle.proto_resolve.specs.Names.{first_declared, found, is_seen, package_found}
+use Rattle.proto_resolve.proofs.Nesting.{declares, outer_has}
 
 -- ---- tests
 
@@ -133,9 +134,9 @@ module _ (files : List NamedFacts) (view : List ℕ) where
     seen_found name (inl declared) = rw (found_is name) (or_left (any_own name || any_seen name) (list_any (has_package files name) view) (or_right (any_own name) (any_seen name) declared))
     seen_found name (inr there) = rw (found_is name) (or_right (any_own name || any_seen name) (list_any (has_package files name) view) there)
 
-    outer_seen : AreHeld files → (outer name : List ℕ) → outer ≢ [] → (g : ℕ) → is_seen view g ≡ true → declares files (joined outer name) g ≡ true
+    outer_seen : All (λ file. NamesNest file.facts) files → (outer name : List ℕ) → outer ≢ [] → (g : ℕ) → is_seen view g ≡ true → declares files (joined outer name) g ≡ true
         → (any_seen outer ≡ true) ⊎ (list_any (has_package files outer) view ≡ true)
-    outer_seen held outer name some g seen there = elim (held g outer name some there) [
+    outer_seen nest outer name some g seen there = elim (outer_has files nest g outer name some there) [
       | inl declared ↦ inl (any_more (λ r. r.file == g) (λ r. is_seen view r.file) (λ r e. let same : r.file ≡ g = same_file g r e in subst (λ h. is_seen view h ≡ true) (sym same) seen) (all_named files outer) declared)
       | inr there_as_package ↦ inr (passes (has_package files outer) g seen there_as_package)
     ]
@@ -143,14 +144,14 @@ module _ (files : List NamedFacts) (view : List ℕ) where
 abbrev pub AreOutersFound : List NamedFacts → ℕ → List ℕ → Type 0
 AreOutersFound files f view = (outer name : List ℕ) → outer ≢ [] → IsSome (found files f view (joined outer name)) → IsSome (found files f view outer)
 
-pub outers_found : (files : List NamedFacts) (f : ℕ) (view : List ℕ) → AreHeld files → is_seen view f ≡ true → AreOutersFound files f view
-outers_found files f view held own outer name some there =
+pub outers_found : (files : List NamedFacts) (f : ℕ) (view : List ℕ) → All (λ file. NamesNest file.facts) files → is_seen view f ≡ true → AreOutersFound files f view
+outers_found files f view nest own outer name some there =
     elim (or_cases (any_own files view f (joined outer name) || any_seen files view f (joined outer name)) (list_any (has_package files (joined outer name)) view) (rw (found_is files view f (joined outer name)) at there)) [
       | inl declared ↦ elim (or_cases (any_own files view f (joined outer name)) (any_seen files view f (joined outer name)) declared) [
-        | inl here ↦ seen_found files view f outer (outer_seen files view f held outer name some f own here)
+        | inl here ↦ seen_found files view f outer (outer_seen files view f nest outer name some f own here)
         | inr elsewhere ↦
             let at = seen_file files view (all_named files (joined outer name)) elsewhere in
-            seen_found files view f outer (outer_seen files view f held outer name some at.0 at.1 at.2)
+            seen_found files view f outer (outer_seen files view f nest outer name some at.0 at.1 at.2)
       ]
       | inr there_as_package ↦
           seen_found files view f outer (inr (any_more (has_package files (joined outer name)) (has_package files outer)

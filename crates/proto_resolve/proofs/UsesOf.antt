@@ -75,9 +75,9 @@ module _ (files : List NamedFacts) (f : ℕ) (view : List ℕ) (i : ℕ) where
 pub uses_law : UsesLaw
 uses_law files f view i site = (
   none files f view i site (scope_of files f view site),
-  λ s t held own named scope means.
+  λ s t nest own named scope means.
       let whole : found files f view (joined_all s (texts_of site)) ≡ Some t = rw scope at means in
-      let all = all_found files f view i (outers_found files f view held own) s site.components named (rw whole refl) in
+      let all = all_found files f view i (outers_found files f view nest own) s site.components named (rw whole refl) in
       let uses : uses_of files f view i site ≡ uses_in files f view i s site.components = rw scope (some files f view i site s t whole) in
       rw uses (record { numbers = numbers files f view i s site.components all; spans = spans files f view i s site.components all; targets = targets files f view i s site.components all }),
 )

@@ -1,12 +1,11 @@
 -- Laws of the definitions.
-use Rattle.std.specs.Prelude.{◌≡◌, ◌≢◌, ◌↔◌, ◌⊎◌, ◌==◌, ℕ, suc, Bool, List, [], All, IsTrue, Some, None, true, false, map, length, take}
-use Rattle.std.specs.List.{list_any, range_with_len}
+use Rattle.std.specs.Prelude.{◌≡◌, ◌≢◌, ◌↔◌, ℕ, suc, List, [], All, IsTrue, Some, None, true, false, map, length, take}
+use Rattle.std.specs.List.{range_with_len}
 use Rattle.import_graph.specs.declared.paths.NamedFacts.{NamedFacts}
-use Rattle.proto_facts.specs.Text.{joined}
+use Rattle.proto_facts.specs.Nesting.{NamesNest}
 use Rattle.proto_resolve.specs.declared.site.NameSite.{NameSite}
 use Rattle.proto_resolve.specs.declared.target.Target.{Target}
 use Rattle.proto_resolve.specs.declared.uses.NameUse.{NameUse}
-use Rattle.proto_resolve.specs.Files.{all_named, has_package}
 use Rattle.proto_resolve.specs.Names.{found, is_seen, joined_all, meaning, scope_of, settles_at, texts_of, IsInnermost}
 use Rattle.proto_resolve.specs.Uses.{uses_of}
 
@@ -16,15 +15,6 @@ abbrev pub ScopeLaw : Type 0
 ScopeLaw = (files : List NamedFacts) (f : ℕ) (view : List ℕ) (site : NameSite) → site.is_absolute ≡ false
     → ((s : List ℕ) → (scope_of files f view site ≡ Some s) ↔ IsInnermost (λ x. settles_at files f view site x ≡ true) site.scopes s)
     × ((scope_of files f view site ≡ None) ↔ All (λ x. settles_at files f view site x ≡ false) site.scopes)
-
--- whether a file declares a full name
-abbrev pub declares : List NamedFacts → List ℕ → ℕ → Bool
-declares files name g = list_any (λ r. r.file == g) (all_named files name)
-
--- A file that declares a full name inside an outer one declares the outer one too, or has it as a package.
-abbrev pub AreHeld : List NamedFacts → Type 0
-AreHeld files = (g : ℕ) (outer name : List ℕ) → outer ≢ [] → IsTrue (declares files (joined outer name) g)
-    → IsTrue (declares files outer g) ⊎ IsTrue (has_package files outer g)
 
 -- the full name of a name's first components, up to the one of the number k, in the scope s
 abbrev pub up_to : List ℕ → NameSite → ℕ → List ℕ
@@ -36,10 +26,10 @@ pub record AreUsesOf (files : List NamedFacts) (f : ℕ) (view : List ℕ) (i : 
   pub spans : map (λ u. u.span) uses ≡ map (λ c. c.span) site.components
   pub targets : map (λ u. Some u.target) uses ≡ map (λ k. found files f view (up_to s site k)) (range_with_len 0 (length site.components))
 
--- A name without a meaning has no uses. A name with a meaning has one for each component, where the files declare what their
--- declarations lie in, the file sees itself, and no component is empty.
+-- A name without a meaning has no uses. A name with a meaning has one for each component, where the names of each file nest,
+-- the file sees itself, and no component is empty.
 abbrev pub UsesLaw : Type 0
 UsesLaw = (files : List NamedFacts) (f : ℕ) (view : List ℕ) (i : ℕ) (site : NameSite)
     → (meaning files f view site ≡ None → uses_of files f view i site ≡ [])
-    × ((s : List ℕ) (t : Target) → AreHeld files → IsTrue (is_seen view f) → All (λ c. c ≢ []) (texts_of site)
+    × ((s : List ℕ) (t : Target) → All (λ file. NamesNest file.facts) files → IsTrue (is_seen view f) → All (λ c. c ≢ []) (texts_of site)
     → scope_of files f view site ≡ Some s → meaning files f view site ≡ Some t → AreUsesOf files f view i s site (uses_of files f view i site))

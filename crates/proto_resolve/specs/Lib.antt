@@ -7,6 +7,9 @@ pub mod Places
 pub mod Sites
 pub mod Resolved
 pub mod Laws
+pub mod OrderLaws
 pub mod Tables
 pub mod Finding
 pub mod FindingLaws
+pub mod Seen
+pub mod Outlines

@@ -1,5 +1,6 @@
 // Laws of the definitions. Each is proved for all files and names, and its function does nothing.
 ghost use Rattle.proto_resolve.specs.Laws.{ScopeLaw, UsesLaw};
+ghost use Rattle.proto_resolve.specs.Seen.{SeenLaw};
 
 /// A law: a name without a leading dot has as its scope the innermost one that settles it, and none where no scope does.
 pub fn scope_law()
@@ -7,7 +8,14 @@ pub fn scope_law()
 {}
 
 /// A law: a name without a meaning has no uses, and a name with a meaning has one for each of its components, in order, of what
-/// is found at the full name up to that component. It asks that each file declares what its declarations lie in.
+/// is found at the full name up to that component. It asks that the names of each file nest.
 pub fn uses_law()
     ensures { UsesLaw }
+{}
+
+/// A law: what is known of a file by what it sees depends on no more than that. It is the same in two lists of files that import
+/// each other alike, where the file says the same by itself, and where each file that it sees has the same kinds and full names
+/// of declarations, in order, and the same package.
+pub fn seen_law()
+    ensures { SeenLaw }
 {}

@@ -5,7 +5,9 @@
 //! at a full name, and what a name means in its scopes, stands in specs/Names.antt; which names a file has in
 //! specs/Sites.antt; the diagnostics 401 to 406 in specs/ViewFaults.antt. The law `finding_law` says what is found at a full
 //! name as the relation in specs/Finding.antt, without a search; `scope_law` says that a name is looked for in the innermost
-//! scope that settles it, and `uses_law` that each component of a name with a meaning has one use.
+//! scope that settles it, and `uses_law` that each component of a name with a meaning has one use. `seen_law` says that what is
+//! known of a file by what it sees depends on no more than that. `names_in_order` and `uses_in_order`: names, their components
+//! and their uses stand by their offsets.
 #![tactic(auto)]
 
 mod faults;
@@ -14,6 +16,8 @@ mod finding_laws;
 mod full_names;
 mod index;
 mod laws;
+mod order_laws;
+mod outline;
 mod packages;
 mod place;
 mod resolve;
@@ -30,7 +34,9 @@ mod views;
 
 pub use finding_laws::finding_law;
 pub use index::Index;
-pub use laws::{scope_law, uses_law};
+pub use laws::{scope_law, seen_law, uses_law};
+pub use order_laws::{names_in_order, uses_in_order};
+pub use outline::{import_alike, tell_alike};
 pub use resolve::{Links, resolve_file};
 pub use table::Table;
 pub use target::{DeclRef, Target};

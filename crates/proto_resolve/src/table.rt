@@ -1,8 +1,10 @@
 // An index that holds its files.
-ghost use Rattle.std.specs.Prelude.{◌≡◌, ◌++◌, ℕ, List, filter, length, IfOk, OnOk, bytes_eq};
+ghost use Rattle.std.specs.Prelude.{◌≡◌, ◌<◌, ◌++◌, ℕ, List, filter, length, IfOk, OnOk, bytes_eq};
 ghost use Rattle.std.specs.List.{enumerate_from};
 ghost use Rattle.import_graph.specs.Paths.{IsInPathOrder};
-ghost use Rattle.proto_resolve.specs.Files.{all_decls, decl_at, refs_of};
+ghost use Rattle.proto_resolve.specs.Files.{all_decls, decl_at, facts_at, refs_of};
+ghost use Rattle.proto_resolve.specs.Outlines.{import_outline, with_facts};
+ghost use Rattle.proto_resolve.specs.Seen.{told};
 ghost use Rattle.proto_resolve.specs.Tables.{listed};
 
 use crate::index::Index;
@@ -98,6 +100,16 @@ impl Table {
             decls,
             names,
         })
+    }
+
+    /// Puts other facts of a file in the place of its facts, which say the same to the other files. Takes no memory.
+    pub fn set_facts(&mut self, file: usize, facts: FileFacts)
+        requires within { file < length self.old }
+        requires imports { import_outline facts ≡ import_outline (facts_at self.old file) }
+        requires told { told facts ≡ told (facts_at self.old file) }
+        ensures { self.new ≡ with_facts self.old file facts }
+    {
+        self.files[file].facts = facts;
     }
 
     /// All declarations, by path, then offset.

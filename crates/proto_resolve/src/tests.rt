@@ -2,12 +2,15 @@
 //
 // In the texts below a `|` is a line feed, and `S|` at the front is the line `syntax = "proto3";`.
 use crate::finding_laws::finding_law;
-use crate::laws::scope_law;
+use crate::index::Index;
+use crate::laws::{scope_law, seen_law};
+use crate::order_laws::{names_in_order, uses_in_order};
+use crate::outline::{import_alike, tell_alike};
 use crate::resolve::{Links, resolve_file};
 use crate::table::Table;
 use crate::target::Target;
 use import_graph::{NamedFacts, are_in_path_order};
-use proto_facts::{Name, facts};
+use proto_facts::{FileFacts, Name, facts};
 use proto_lex::lex;
 use proto_syntax::{FileTree, parse};
 use std::alloc::{AllocError, Global};
@@ -348,6 +351,101 @@ fn chain(rt: HostRuntime) -> Result<(), Fail> {
 fn laws(rt: HostRuntime) -> Result<(), Fail> {
     let none: Vec<NamedFacts> = Vec::new(rt.alloc());
     scope_law();
+    seen_law();
     finding_law(none.as_slice());
+    names_in_order();
+    uses_in_order();
+    Ok(())
+}
+
+fn facts_of(alloc: Global, row: &str) -> Result<FileFacts, AllocError> {
+    let text = text_of(alloc, row)?;
+    let tree = tree_of(alloc, text.as_str())?;
+    facts(alloc, text.as_str(), &tree)
+}
+
+// A text, and whether its facts say the same as those of the first one to the files that see it, and of imports.
+const OUTLINES: &[(&str, bool, bool)] = &[
+    (
+        "S|package p;|import \"a.proto\";|message M { M m = 1; }|",
+        true,
+        true,
+    ),
+    (
+        "S||import  \"a.proto\";|package  p;|message M { string m = 2; }|",
+        true,
+        true,
+    ),
+    (
+        "S|package q;|import \"a.proto\";|message M { M m = 1; }|",
+        false,
+        true,
+    ),
+    ("S|import \"a.proto\";|message M { M m = 1; }|", false, true),
+    (
+        "S|package p;|import \"a.proto\";|message M { M n = 1; }|",
+        false,
+        true,
+    ),
+    (
+        "S|package p;|import \"a.proto\";|message M { oneof m { } }|",
+        false,
+        true,
+    ),
+    (
+        "S|package p;|import \"a.proto\";|message M { M m = 1; }|message N { }|",
+        false,
+        true,
+    ),
+    (
+        "S|package p;|import public \"a.proto\";|message M { M m = 1; }|",
+        true,
+        false,
+    ),
+    (
+        "S|package p;|import \"b.proto\";|message M { M m = 1; }|",
+        true,
+        false,
+    ),
+    ("S|package p;|message M { M m = 1; }|", true, false),
+    (
+        "package p;|import \"a.proto\";|message M { M m = 1; }|",
+        false,
+        false,
+    ),
+];
+
+#[test]
+fn outlines(rt: HostRuntime) -> Result<(), Fail> {
+    let alloc = rt.alloc();
+    let first = facts_of(alloc, OUTLINES[0].0)?;
+    for (row, tells, imports) in OUTLINES {
+        let other = facts_of(alloc, row)?;
+        assert!(&rt; tell_alike(&first, &other) == *tells, "{row}");
+        assert!(&rt; import_alike(&first, &other) == *imports, "{row}");
+    }
+    Ok(())
+}
+
+/// Other facts that say the same are the table's own from then on.
+#[test]
+fn facts_are_replaced(rt: HostRuntime) -> Result<(), Fail> {
+    let alloc = rt.alloc();
+    let mut files = Vec::new(alloc);
+    files.push(NamedFacts {
+        path: Name::of(String::from_str(alloc, "a.proto")?),
+        facts: facts_of(alloc, "S|message M { }|")?,
+    })?;
+    assert!(&rt; are_in_path_order(files.as_slice()));
+    let mut table = Table::of(alloc, files)?;
+    let other = facts_of(alloc, "S|||message M { }|")?;
+    assert!(&rt; table.len() == 1);
+    assert!(&rt; tell_alike(&other, table.facts(0)));
+    assert!(&rt; import_alike(&other, table.facts(0)));
+    table.set_facts(0, other);
+    assert!(&rt; table.len() == 1);
+    let decls = table.facts(0).decls.as_slice();
+    assert!(&rt; decls.len() == 1 && decls[0].name_span.start == 29);
+    assert!(&rt; table.named("M").len() == 1);
     Ok(())
 }

@@ -1,0 +1,126 @@
+-- What the graph and the names of files are made from: what the files say to one another.
+use Rattle.std.proofs.Common.{◌≡◌, ℕ, zero, suc, ◌+◌, ◌<◌, List, [], ◌∷◌, ◌++◌, Bool, Option, None, if◌then◌else◌, length, get_or, set, map, filter, bytes_eq, nat_eq, not, refl, sym, ap, ap₂, ◌∙◌, arith}
+use Rattle.std.specs.Prelude.{position}
+use Rattle.std.specs.List.{enumerate_from, flat_map, prefix_len, starts_with}
+use Rattle.std.proofs.Math.ListN as math
+use Rattle.std.proofs.Math.Path.{fun_ext}
+use Rattle.std.proofs.Math.Seq.{map-set_same}
+use Rattle.std.proofs.lemmas.List.{length-map, get_or-map}
+use Rattle.std.proofs.lemmas.Simd.{map-map}
+use Rattle.proto_facts.specs.declared.fact.Decl.{Decl}
+use Rattle.proto_facts.specs.declared.fact.DeclKind.{DeclKind}
+use Rattle.proto_facts.specs.declared.fact.FileFacts.{FileFacts}
+use Rattle.import_graph.specs.declared.links.Link.{Link}
+use Rattle.import_graph.specs.declared.links.LinkedFile.{LinkedFile}
+use Rattle.import_graph.specs.declared.paths.NamedFacts.{NamedFacts}
+use Rattle.import_graph.specs.Links.{graph_of, links_of, linked}
+use Rattle.import_graph.specs.Paths.{slash}
+use Rattle.proto_resolve.specs.declared.target.DeclRef.{DeclRef}
+use Rattle.proto_resolve.specs.Files.{all_decls, all_named, decl_at, facts_at, no_decl, no_facts}
+use Rattle.proto_resolve.specs.Outlines.{declared, imported, import_outline}
+use Rattle.proto_resolve.specs.Seen.{told}
+use Rattle.proto_resolve.proofs.Order.{numbered, refs}
+
+-- elements at one place of lists that say the same
+pub alike_at : {X Y : Type 0} (k : X → Y) (a b : List X) (i : ℕ) (x y : X) → i < length a → i < length b → x ≡ get_or a i x → y ≡ get_or b i y → map k a ≡ map k b → k x ≡ k y
+alike_at k [] b i x y there there' is is' same = absurd (omega (arith, there))
+alike_at k (u ∷ a) [] i x y there there' is is' same = absurd (omega (arith, there'))
+alike_at k (u ∷ a) (v ∷ b) zero x y there there' is is' same = let heads : k u ≡ k v = cc in ap k is ∙ heads ∙ sym (ap k is')
+alike_at k (u ∷ a) (v ∷ b) (suc i) x y there there' is is' same = let tails : map k a ≡ map k b = cc in alike_at k a b i x y (omega (arith, there)) (omega (arith, there')) is is' tails
+
+-- ---- the graph
+
+prefix_len-map : {X Y : Type 0} (q : Y → Bool) (f : X → Y) (xs : List X) → prefix_len q (map f xs) ≡ prefix_len (λ x. q (f x)) xs
+prefix_len-map q f [] = refl
+prefix_len-map q f (x ∷ xs) = rw (prefix_len-map q f xs) refl
+
+position-map : {X Y : Type 0} (q : Y → Bool) (f : X → Y) (xs : List X) → position q (map f xs) ≡ position (λ x. q (f x)) xs
+position-map q f xs = rw (prefix_len-map (λ y. not (q y)) f xs, length-map xs f) refl
+
+-- what a file says to the graph of imports
+abbrev Asking : Type 0
+Asking = List ℕ × (Bool × List (List ℕ × Bool))
+
+abbrev pub asking : NamedFacts → Asking
+asking file = (file.path, import_outline file.facts)
+
+abbrev named : List Asking → List ℕ → Option ℕ
+named all path = if starts_with nat_eq path (slash ∷ []) then None else position (λ a. bytes_eq a.0 path) all
+
+abbrev link : List Asking → List ℕ × Bool → Link
+link all i = record { target = named all i.0; is_public = i.1 }
+
+abbrev links : List Asking → Asking → LinkedFile
+links all a = record { links = map (link all) a.1.1; is_opaque = a.1.0 }
+
+one_link : (files : List NamedFacts) → linked files ≡ (λ i. link (map asking files) (imported i))
+one_link files = fun_ext (λ i. ap (λ found. record { target = if starts_with nat_eq i.path (slash ∷ []) then None else found; is_public = i.is_public }) (sym (position-map (λ a. bytes_eq a.0 i.path) asking files)))
+
+one_file : (files : List NamedFacts) (file : NamedFacts) → links_of files file.facts ≡ links (map asking files) (asking file)
+one_file files file =
+    let imports = let facts = file.facts in facts.imports in
+    let opaque = (import_outline file.facts).0 in
+    ap (λ ls. record { links = ls; is_opaque = opaque }) (ap (λ f. map f imports) (one_link files) ∙ sym (map-map (link (map asking files)) imported imports))
+
+graph_is : (files : List NamedFacts) → graph_of files ≡ map (links (map asking files)) (map asking files)
+graph_is files = ap (λ f. map f files) (fun_ext (one_file files)) ∙ sym (map-map (links (map asking files)) asking files)
+
+-- files that say the same to the graph have one graph
+pub same_graph : (old new : List NamedFacts) → map asking old ≡ map asking new → graph_of old ≡ graph_of new
+same_graph old new same = graph_is old ∙ ap (λ all. map (links all) all) same ∙ sym (graph_is new)
+
+-- ---- the names
+
+-- what a file says to those that see it
+abbrev pub telling : NamedFacts → List (DeclKind × List ℕ) × Option (List ℕ)
+telling file = told file.facts
+
+same_refs : (f n : ℕ) (a b : List Decl) → map declared a ≡ map declared b → map (numbered f) (enumerate_from n a) ≡ map (numbered f) (enumerate_from n b)
+same_refs f n [] [] same = refl
+same_refs f n [] (y ∷ b) same = absurd (cc)
+same_refs f n (x ∷ a) [] same = absurd (cc)
+same_refs f n (x ∷ a) (y ∷ b) same = let tails : map declared a ≡ map declared b = cc in rw (same_refs f (n + 1) a b tails) refl
+
+decls_from : (n : ℕ) (old new : List NamedFacts) → map telling old ≡ map telling new → flat_map refs (enumerate_from n old) ≡ flat_map refs (enumerate_from n new)
+decls_from n [] [] same = refl
+decls_from n [] (y ∷ new) same = absurd (cc)
+decls_from n (x ∷ old) [] same = absurd (cc)
+decls_from n (x ∷ old) (y ∷ new) same =
+    let heads : telling x ≡ telling y = cc in
+    let tails : map telling old ≡ map telling new = cc in
+    ap₂ (λ a b. a ++ b) (same_refs n 0 (let facts = x.facts in facts.decls) (let facts = y.facts in facts.decls) (ap (λ t. t.0) heads)) (decls_from (n + 1) old new tails)
+
+pub same_decls : (old new : List NamedFacts) → map telling old ≡ map telling new → all_decls old ≡ all_decls new
+same_decls old new same = decls_from 0 old new same
+
+told_is : (files : List NamedFacts) (g : ℕ) → told (facts_at files g) ≡ get_or (map telling files) g (told no_facts)
+told_is files g = sym (ap (λ all. get_or all g (told no_facts)) (sym (map-map told (λ file. file.facts) files)) ∙ math.get_or-map told (map (λ file. file.facts) files) g no_facts)
+
+-- at each place they tell the same
+pub told_at : (old new : List NamedFacts) → map telling old ≡ map telling new → (g : ℕ) → told (facts_at old g) ≡ told (facts_at new g)
+told_at old new same g = told_is old g ∙ ap (λ all. get_or all g (told no_facts)) same ∙ sym (told_is new g)
+
+declared_at : (a b : List Decl) (n : ℕ) → map declared a ≡ map declared b → declared (get_or a n no_decl) ≡ declared (get_or b n no_decl)
+declared_at a b n same = sym (math.get_or-map declared a n no_decl) ∙ ap (λ all. get_or all n (declared no_decl)) same ∙ math.get_or-map declared b n no_decl
+
+same_name : (old new : List NamedFacts) → map telling old ≡ map telling new → (r : DeclRef) → (let d = decl_at old r in d.full_name) ≡ (let d = decl_at new r in d.full_name)
+same_name old new same r =
+    ap (λ d. d.1) (declared_at (let facts = facts_at old r.file in facts.decls) (let facts = facts_at new r.file in facts.decls) r.number (ap (λ t. t.0) (told_at old new same r.file)))
+
+-- files that tell the same have the same declarations of each name
+pub same_named : (old new : List NamedFacts) → map telling old ≡ map telling new → (name : List ℕ) → all_named old name ≡ all_named new name
+same_named old new same name =
+    ap₂ (λ (test : DeclRef → Bool) (all : List DeclRef). filter test all) (fun_ext (λ r. ap (λ n. bytes_eq n name) (same_name old new same r))) (same_decls old new same)
+
+-- ---- other facts of a file
+
+here : (files : List NamedFacts) (f : ℕ) (file : NamedFacts) → f < length files → file ≡ get_or files f file → facts_at files f ≡ file.facts
+here files f file there is = get_or-map (λ x. x.facts) files f file no_facts there ∙ sym (ap (λ x. x.facts) is)
+
+module _ (files : List NamedFacts) (f : ℕ) (file : NamedFacts) (facts : FileFacts) (there : f < length files) (is : file ≡ get_or files f file) where
+  pub keeps_asking : import_outline facts ≡ import_outline (facts_at files f) → map asking (set files f (record { path = file.path; facts = facts })) ≡ map asking files
+  keeps_asking same = map-set_same asking files f (record { path = file.path; facts = facts }) file
+      (ap (λ o. (file.path, o)) (same ∙ ap import_outline (here files f file there is)) ∙ ap asking is)
+
+  pub keeps_telling : told facts ≡ told (facts_at files f) → map telling (set files f (record { path = file.path; facts = facts })) ≡ map telling files
+  keeps_telling same = map-set_same telling files f (record { path = file.path; facts = facts }) file (same ∙ ap told (here files f file there is) ∙ ap telling is)

@@ -1,0 +1,17 @@
+use Rattle.std.proofs.Common.{◌≡◌, ◌<◌, List, ◌∙◌, sym, length, map, set, get_or}
+use Rattle.import_graph.specs.declared.paths.NamedFacts.{NamedFacts}
+use Rattle.proto_resolve.proofs.Outlines.{asking, telling, keeps_asking, keeps_telling, same_graph, same_decls, same_named}
+use Rattle.proto_resolve.proofs.table.Table.set_facts.Goals as goal
+
+pub invariant_of-self : goal.invariant_of-self
+invariant_of-self c =
+    let files : List NamedFacts = c.self.inside.files.items in
+    let seen : c.args.self.now ≡ files = cc in
+    let f = c.args.file in
+    let file = c.index_mut.result.now in
+    let new : List NamedFacts = set files f (record { path = file.path; facts = c.args.facts }) in
+    let there : f < length files = rw seen at c.requires.within in
+    let is : file ≡ get_or files f file = c.index_mut.ensures.value in
+    let asks : map asking files ≡ map asking new = sym (keeps_asking files f file c.args.facts there is (rw seen at c.requires.imports)) in
+    let tells : map telling files ≡ map telling new = sym (keeps_telling files f file c.args.facts there is (rw seen at c.requires.told)) in
+    (c.self.invariant.0 ∙ same_graph files new asks, c.self.invariant.1 ∙ same_decls files new tells, λ q. c.self.invariant.2 q ∙ same_named files new tells q)

@@ -1,0 +1,26 @@
+-- What is known of a file by what it sees depends on no more than that.
+use Rattle.std.specs.Prelude.{◌≡◌, ℕ, ◌<◌, List, Option, All, length, map, option_map}
+use Rattle.proto_syntax.specs.declared.node.FileTree.{FileTree}
+use Rattle.proto_facts.specs.declared.fact.FileFacts.{FileFacts}
+use Rattle.proto_facts.specs.declared.fact.DeclKind.{DeclKind}
+use Rattle.import_graph.specs.declared.paths.NamedFacts.{NamedFacts}
+use Rattle.import_graph.specs.Links.{graph_of}
+use Rattle.import_graph.specs.Closures.{view_of}
+use Rattle.proto_resolve.specs.Files.{facts_at}
+use Rattle.proto_resolve.specs.Resolved.{resolved}
+
+-- What a file's facts say to the files that see it: the kinds and full names of its declarations, in order, and its package's
+-- full name.
+abbrev pub told : FileFacts → List (DeclKind × List ℕ) × Option (List ℕ)
+told facts = (map (λ d. (d.kind, d.full_name)) facts.decls, option_map (λ p. p.full_name) facts.«package»)
+
+-- the files import each other alike, f says the same by itself, and each file that f sees says the same to it
+pub record SeesTheSame (old new : List NamedFacts) (f : ℕ) : Type 0 where
+  pub graph : graph_of old ≡ graph_of new
+  pub own : facts_at old f ≡ facts_at new f
+  pub seen : All (λ g. told (facts_at old g) ≡ told (facts_at new g)) (view_of (graph_of new) f)
+
+-- where a file sees the same, the same is known of it
+abbrev pub SeenLaw : Type 0
+SeenLaw = (old new : List NamedFacts) (f : ℕ) → f < length new → SeesTheSame old new f → (text : List ℕ) (tree : FileTree)
+    → resolved old f text tree ≡ resolved new f text tree
