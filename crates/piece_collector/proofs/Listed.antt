@@ -1,11 +1,12 @@
 -- A run of listed events, event by event
-use Rattle.std.proofs.Common.{◌≡◌, ℕ, ◌<◌, List, [], ◌∷◌, ◌++◌, length, take, map, refl, sym, ap, ◌∙◌, subst, arith, Result, Ok, Err, OnErr}
+use Rattle.std.proofs.Common.{◌≡◌, ℕ, List, [], ◌∷◌, ◌++◌, map, refl, sym, ap, ◌∙◌, subst}
+use Rattle.piece_collector.specs.declared.fault.BoardFault.{BoardFault}
 use Rattle.piece_collector.specs.declared.verdict.Verdict.{Verdict}
 use Rattle.piece_collector.specs.Events.{Event}
 use Rattle.piece_collector.specs.History.{verdicts, answer}
 use Rattle.piece_collector.specs.Views.{BoardView}
 use Rattle.piece_collector.specs.Board.{Stands}
-use Rattle.piece_collector.specs.Runs.{followed, Ran, Stopped}
+use Rattle.piece_collector.specs.Runs.{followed, IsRefusedWith, Ran, Stopped}
 
 pub joined : {X : Type 0} (xs ys zs : List X) → (xs ++ ys) ++ zs ≡ xs ++ (ys ++ zs)
 joined [] ys zs = refl
@@ -14,14 +15,6 @@ joined (x ∷ xs) ys zs = ap (λ l. x ∷ l) (joined xs ys zs)
 followed_more : {X : Type 0} (f : X → Event) (h : List Event) (xs : List X) (x : X) → followed h (map f (xs ++ x ∷ [])) ≡ f x ∷ followed h (map f xs)
 followed_more f h [] x = refl
 followed_more f h (y ∷ xs) x = followed_more f (f y ∷ h) xs x
-
-followed_part : {X : Type 0} (f : X → Event) (h : List Event) (xs : List X) (x : X) (ys : List X) → followed h (take (length xs) (map f (xs ++ x ∷ ys))) ≡ followed h (map f xs)
-followed_part f h [] x ys = refl
-followed_part f h (y ∷ xs) x ys = followed_part f (f y ∷ h) xs x ys
-
-shorter : {X : Type 0} (f : X → Event) (xs : List X) (x : X) (ys : List X) → length xs < length (map f (xs ++ x ∷ ys))
-shorter f [] x ys = omega arith
-shorter f (y ∷ xs) x ys = let r = shorter f xs x ys in omega (arith, r)
 
 -- one more event was done
 pub ran_more : {X : Type 0} (f : X → Event) (o : ℕ) (h : List Event) (xs : List X) (x : X) (b b' : BoardView) (vs vs' : List Verdict) → Ran o h (map f xs) b vs
@@ -35,14 +28,14 @@ ran_more f o h xs x b b' vs vs' r step answers =
           ∙ (joined (verdicts o h) vs (answer o (followed h (map f xs)) (f x)) ∙ ap (λ l. verdicts o h ++ l) (sym (answers o (followed h (map f xs)) r.stands))));
     }
 
--- the next event was refused
-pub stopped_at : {X : Type 0} (f : X → Event) (o : ℕ) (h : List Event) (all xs : List X) (x : X) (ys : List X) (b b' : BoardView) (vs : List Verdict) → xs ++ x ∷ ys ≡ all → b' ≡ b → Ran o h (map f xs) b vs → Stopped o h (map f all) b'
-stopped_at {X} f o h all xs x ys b b' vs is same r =
-    let P : List X → Type 0 = λ l. Stopped o h (map f l) b' in
-    let Q : BoardView → Type 0 = λ w. Stands o w (followed h (map f xs)) in
-    let S : List Event → Type 0 = λ l. Stands o b' l in
-    subst P is (record { count = length xs; refused = shorter f xs x ys; stands = subst S (sym (followed_part f h xs x ys)) (subst Q (sym same) r.stands) })
+map_parts : {X : Type 0} (f : X → Event) (xs : List X) (x : X) (ys : List X) → map f (xs ++ x ∷ ys) ≡ map f xs ++ f x ∷ map f ys
+map_parts f [] x ys = refl
+map_parts f (y ∷ xs) x ys = ap (λ l. f y ∷ l) (map_parts f xs x ys)
 
-pub on_err : {T E : Type 0} (r : Result T E) (Q : Type 0) → Q → OnErr r Q
-on_err (Ok x) Q q = tt
-on_err (Err e) Q q = q
+-- the next event was refused
+pub stopped_at : {X : Type 0} (f : X → Event) (o : ℕ) (h : List Event) (all xs : List X) (x : X) (ys : List X) (b b' : BoardView) (vs : List Verdict) (fault : BoardFault) → xs ++ x ∷ ys ≡ all → b' ≡ b
+    → IsRefusedWith b.last (f x) fault → Ran o h (map f xs) b vs → Stopped o h (map f all) b' fault
+stopped_at f o h all xs x ys b b' vs fault is same refused r =
+    let S : BoardView → Type 0 = λ w. Stands o w (followed h (map f xs)) in
+    let R : BoardView → Type 0 = λ w. IsRefusedWith w.last (f x) fault in
+    record { before = map f xs; event = f x; later = map f ys; parts = ap (map f) (sym is) ∙ map_parts f xs x ys; stands = subst S (sym same) r.stands; refused = subst R (sym same) refused }

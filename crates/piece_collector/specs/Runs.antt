@@ -1,7 +1,9 @@
 -- Runs of events that a caller lists, the earliest first.
-use Rattle.std.specs.Prelude.{◌≡◌, ℕ, ◌<◌, List, [], ◌∷◌, ◌++◌, length, take, string_bytes}
+use Rattle.std.specs.Prelude.{◌≡◌, ◌↔◌, ℕ, List, [], ◌∷◌, ◌++◌, string_bytes}
 use Rattle.piece_collector.specs.declared.event.BoardEvent.{BoardEvent}
 use Rattle.piece_collector.specs.declared.event.BoardEvent.TheVariants as listed
+use Rattle.piece_collector.specs.declared.fault.BoardFault.{BoardFault}
+use Rattle.piece_collector.specs.declared.fault.BoardFault.TheVariants.{Memory, Exhausted}
 use Rattle.piece_collector.specs.declared.verdict.Verdict.{Verdict}
 use Rattle.piece_collector.specs.Events.{Event, SetText, Remove, NextJob, Offer, Fail}
 use Rattle.piece_collector.specs.History.{verdicts}
@@ -26,8 +28,20 @@ pub record Ran (o : ℕ) (h es : List Event) (b : BoardView) (vs : List Verdict)
   pub stands : Stands o b (followed h es)
   pub answers : verdicts o (followed h es) ≡ verdicts o h ++ vs
 
--- an event was refused: the board stands for h and the listed events before it
-pub record Stopped (o : ℕ) (h es : List Event) (b : BoardView) : Type 0 where
-  pub count : ℕ
-  pub refused : count < length es
-  pub stands : Stands o b (followed h (take count es))
+-- An event can be refused with this fault, at a board with this last stamp: a text with 502 exactly where no stamp is
+-- left, and else with 501; a removal never; any other event with 501.
+abbrev pub IsRefusedWith : ℕ → Event → BoardFault → Type 0
+IsRefusedWith last (SetText p t) fault = (fault ≡ Exhausted) ↔ (last ≡ 18446744073709551615)
+IsRefusedWith last (Remove p) fault = ⊥
+IsRefusedWith last NextJob fault = fault ≡ Memory
+IsRefusedWith last (Offer p s t) fault = fault ≡ Memory
+IsRefusedWith last (Fail p s) fault = fault ≡ Memory
+
+-- one of the listed events was refused with this fault: the board stands for h and those before it
+pub record Stopped (o : ℕ) (h es : List Event) (b : BoardView) (fault : BoardFault) : Type 0 where
+  pub before : List Event
+  pub event : Event
+  pub later : List Event
+  pub parts : es ≡ before ++ event ∷ later
+  pub stands : Stands o b (followed h before)
+  pub refused : IsRefusedWith b.last event fault

@@ -195,7 +195,7 @@ impl<W: Work> Board<W> {
         let mut pieces = Vec::with_capacity(self.alloc, paths.len())?;
         slots::take_all(&mut self.slots, paths, &mut pieces);
         self.is_lent = true;
-        Ok(Lent::by_board(pieces))
+        Ok(Lent::of(pieces))
     }
 
     /// Takes the lent pieces back, or others with the same paths, stamps and texts, in order. The board is as before

@@ -1,9 +1,9 @@
 // A list of events, done on a board one after the other.
-ghost use Rattle.std.specs.Prelude.{◌≡◌, ℕ, List, ◌∷◌, ◌++◌, false, map, IfOk, OnOk, OnErr, Err};
+ghost use Rattle.std.specs.Prelude.{◌≡◌, ℕ, List, ◌∷◌, ◌++◌, false, map, IfOk, IfErr, OnOk, OnErr, Err};
 ghost use Rattle.piece_collector.specs.Events.{Event};
 ghost use Rattle.piece_collector.specs.History.{answer};
 ghost use Rattle.piece_collector.specs.Board.{Stands};
-ghost use Rattle.piece_collector.specs.Runs.{event_of, Ran, Stopped};
+ghost use Rattle.piece_collector.specs.Runs.{event_of, IsRefusedWith, Ran, Stopped};
 ghost use Rattle.piece_collector.specs.declared.fault.BoardFault.TheVariants.{Exhausted};
 
 use crate::board::Board;
@@ -41,15 +41,15 @@ pub enum BoardEvent<W: Work> {
 
 /// Does the events in turn. Gives the verdicts of the offers and failures, in their order.
 ///
-/// Refused with 501 where memory was, and with 502 only where the last stamp is `u64::MAX`, at a `SetText`; the board is then
-/// as the events before the refused one leave it.
+/// Refused with 502 where no stamp is left for a `SetText`, and with 501 where memory was refused; the board is then as
+/// the events before the refused one leave it. A removal is never refused.
 pub fn run_events<W: Work>(
     board: &mut Board<W>,
     events: Vec<BoardEvent<W>>,
 ) -> Result<Vec<Verdict>, BoardFault>
     requires { board.old.is_lent ≡ false }
     ensures ok { IfOk result (λ verdicts. (opening : ℕ) (earlier : List Event) → Stands opening board.old earlier → Ran opening earlier (map event_of events.items) board.new verdicts.items) }
-    ensures err { OnErr result ((opening : ℕ) (earlier : List Event) → Stands opening board.old earlier → Stopped opening earlier (map event_of events.items) board.new) }
+    ensures err { IfErr result (λ fault. (opening : ℕ) (earlier : List Event) → Stands opening board.old earlier → Stopped opening earlier (map event_of events.items) board.new fault) }
     ensures exhausted { (result ≡ Err BoardFault.Exhausted) → (board.new.last ≡ 18446744073709551615) }
     ensures here { board.new.is_lent ≡ false }
 {
@@ -70,10 +70,9 @@ fn step<W: Work>(
     ensures stands { OnOk result ((opening : ℕ) (earlier : List Event) → Stands opening board.old earlier → Stands opening board.new (event_of event ∷ earlier)) }
     ensures answer { OnOk result ((opening : ℕ) (earlier : List Event) → Stands opening board.old earlier → verdicts.new.items ≡ verdicts.old.items ++ answer opening earlier (event_of event)) }
     ensures err { OnErr result (board.new ≡ board.old) }
-    ensures exhausted { (result ≡ Err BoardFault.Exhausted) → (board.new.last ≡ 18446744073709551615) }
+    ensures refused { IfErr result (IsRefusedWith board.old.last (event_of event)) }
     ensures here { board.new.is_lent ≡ false }
 {
-    verdicts.reserve(1)?;
     match event {
         BoardEvent::SetText { path, text } => {
             board.set_text(path, text)?;
@@ -88,10 +87,12 @@ fn step<W: Work>(
             Ok(())
         }
         BoardEvent::Offer(piece) => {
+            verdicts.reserve(1)?;
             verdicts.push_reserved(board.offer(piece));
             Ok(())
         }
         BoardEvent::Fail { path, stamp } => {
+            verdicts.reserve(1)?;
             verdicts.push_reserved(board.fail(path.as_str(), stamp));
             Ok(())
         }

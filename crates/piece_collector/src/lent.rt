@@ -5,8 +5,7 @@ ghost use Rattle.piece_collector.specs.Board.{Ascends};
 use crate::piece::{Piece, Work};
 use std::marker::Model;
 
-/// Pieces that a board lent, or others in their place. Both ways to make one want the paths in order, each once; that is no
-/// part of what contracts see.
+/// Pieces that a board lent, or others in their place. Their paths ascend strictly.
 #[derive(Drop)]
 pub struct Lent<W: Work> {
     pieces: Vec<Piece<W>>,
@@ -15,10 +14,13 @@ pub struct Lent<W: Work> {
 impl<W: Work> Model for Lent<W> {
     ghost use Rattle.std.specs.Prelude.{List};
     ghost use Rattle.piece_collector.specs.Views.{TextAt};
+    ghost use Rattle.piece_collector.specs.Board.{Ascends};
 
     ghost Value = { List TextAt };
 
     ghost view = { λ l. l.pieces.items };
+
+    ghost invariant = { λ l. Ascends l.pieces.items };
 }
 
 impl<W: Work> Lent<W> {
@@ -27,26 +29,21 @@ impl<W: Work> Lent<W> {
         requires { Ascends pieces.items }
         ensures { result ≡ pieces.items }
     {
-        Lent::by_board(pieces)
-    }
-
-    /// The pieces that a board lends.
-    pub(crate) fn by_board(pieces: Vec<Piece<W>>) -> Lent<W>
-        ensures { result ≡ pieces.items }
-    {
         Lent { pieces }
     }
 
     /// The pieces, in path order.
     pub fn into_pieces(self) -> Vec<Piece<W>>
-        ensures { result.items ≡ self }
+        ensures pieces { result.items ≡ self }
+        ensures ascends { Ascends result.items }
     {
         self.pieces
     }
 
     /// The pieces, in path order, which stay where they are.
     pub fn pieces(&self) -> &[Piece<W>]
-        ensures { result.now ≡ self.now }
+        ensures pieces { result.now ≡ self.now }
+        ensures ascends { Ascends result.now }
     {
         self.pieces.as_slice()
     }

@@ -1,4 +1,4 @@
-use Rattle.std.proofs.Common.{sym, subst, map, List, string_bytes, true, false}
+use Rattle.std.proofs.Common.{rules, sym, subst, map, List, string_bytes, true, false}
 use Rattle.std.specs.BTreeMap.{get_by_text}
 use Rattle.piece_collector.specs.Views.{TextAt}
 use Rattle.piece_collector.specs.Lending.{TakesAll}
@@ -19,12 +19,19 @@ returns-clause-lent g c =
     seen_as c.self.inside.slots c.take_all.new.slots c.self.inside.last c.self.inside.is_lent false true _ c.self.view_is c.requires.here c.take_all.ensures.keys c.self.invariant.ordered
     (lent_same c.self.inside.slots c.take_all.new.slots c.self.inside.last c.self.inside.is_lent _ c.self.view_is c.requires.here c.take_all.ensures.rest c.requires.full c.self.invariant.current)
 
+pub of-requires : goal.of-requires
+of-requires g c =
+    let Q : List TextAt → Type 0 = λ old. TakesAll (get_by_text c.self.inside.slots) (map string_bytes c.in_ok-paths.paths.items) old c.take_all.new.pieces.items in
+    let texts = lent_texts c.self.inside.slots (map string_bytes c.in_ok-paths.paths.items) c.take_all.new.pieces.items c.self.inside.last c.self.inside.is_lent _ c.self.view_is c.requires.here c.in_ok-paths.ensures.ordered c.in_ok-paths.ensures.paths
+    (subst Q c.in_ok-pieces.ensures.items c.take_all.ensures.taken) c.requires.full c.self.invariant.current in
+    (search rules, texts.ascends)
+
 pub returns-clause-back : goal.returns-clause-back
 returns-clause-back g c =
     let P : List TextAt → Type 0 = λ w. IsTextsIn c.args.self.now w in
     let Q : List TextAt → Type 0 = λ old. TakesAll (get_by_text c.self.inside.slots) (map string_bytes c.in_ok-paths.paths.items) old c.take_all.new.pieces.items in
     texts_lent _ _ true _ (returns-clause-lent g c)
-    (subst P (sym c.by_board.ensures)
+    (subst P (sym c.of.ensures)
     (lent_texts c.self.inside.slots (map string_bytes c.in_ok-paths.paths.items) c.take_all.new.pieces.items c.self.inside.last c.self.inside.is_lent _ c.self.view_is c.requires.here c.in_ok-paths.ensures.ordered c.in_ok-paths.ensures.paths
     (subst Q c.in_ok-pieces.ensures.items c.take_all.ensures.taken) c.requires.full c.self.invariant.current))
 
