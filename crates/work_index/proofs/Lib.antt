@@ -1,2 +1,4 @@
 mod Ascending
+mod Uses
 pub mod Steps
+pub mod Changed

@@ -43,3 +43,7 @@ is_analysis ts index paths links diagnostics all are linked wrong =
     let w = workspace_of ts in
     rw (all, are, linked, wrong) (ap₂ (λ ps fs. record { paths = ps; facts = fs; decls = all_decls (all_facts w); links = made_from (links_of w) 0 ts; diagnostics = made_from (diagnostics_of w) 0 ts })
     (sym (map-map (λ file. file.0) (λ t. (t.path, t.text)) ts)) (map-map (λ file. file.facts) named_facts w))
+
+pub paths_are : (ts : List TextAt) (paths : List (List ℕ)) (index : List NamedFacts) → paths ≡ map (λ t. t.path) ts → index ≡ all_facts (workspace_of ts) → paths ≡ map (λ file. file.path) index
+paths_are ts paths index are all =
+    are ∙ sym (map-map (λ f. f.0) (λ t. (t.path, t.text)) ts) ∙ sym (map-map (λ file. file.path) named_facts (workspace_of ts)) ∙ ap (map (λ file. file.path)) (sym all)

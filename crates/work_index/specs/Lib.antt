@@ -1,2 +1,4 @@
 pub mod Workspace
 pub mod Pieces
+pub mod Changes
+pub mod Laws

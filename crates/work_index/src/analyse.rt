@@ -27,7 +27,7 @@ fn paths_of(alloc: Global, pieces: &[Piece<FileWork>]) -> Result<Items<Name>, Al
 }
 
 // What the names of a file of the table mean, and what is wrong in it by what it sees.
-fn links_of(
+pub(crate) fn links_of(
     alloc: Global,
     table: &Table,
     file: usize,
@@ -40,7 +40,7 @@ fn links_of(
 }
 
 // All that is wrong in a file, by itself and by what it sees.
-fn diagnostics_of(
+pub(crate) fn diagnostics_of(
     alloc: Global,
     piece: &Piece<FileWork>,
     links: &Links,

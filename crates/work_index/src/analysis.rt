@@ -34,7 +34,7 @@ impl Model for Analysis {
       diagnostics = a.diagnostics;
     } };
 
-    ghost invariant = { λ a. (length a.paths ≡ length a.table) × (length a.links ≡ length a.table) × (length a.diagnostics ≡ length a.table) };
+    ghost invariant = { λ a. (length a.paths ≡ length a.table) × (length a.links ≡ length a.table) × (length a.diagnostics ≡ length a.table) × (a.paths ≡ map (λ file. file.path) a.table) };
 }
 
 impl Analysis {

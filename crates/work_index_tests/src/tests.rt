@@ -10,7 +10,7 @@ use proto_resolve::DeclRef;
 use std::alloc::{AllocError, Global};
 use std::process::Abort;
 use std::test::Fail;
-use work_index::{Analysis, FileWork, analyse_here};
+use work_index::{Analysis, FileWork, analyse_here, uses_of_names};
 
 fn text_of(alloc: Global, row: &str) -> Result<String, AllocError> {
     let mut text = String::new(alloc);
@@ -285,6 +285,7 @@ const NAMES: &[Workspace] = &[
 
 #[test]
 fn names(rt: HostRuntime) -> Result<(), Fail> {
+    uses_of_names();
     check_all(&rt, rt.alloc(), NAMES)
 }
 

@@ -1,0 +1,227 @@
+-- What a change of the text of one file leaves as it was.
+use Rattle.std.proofs.Common.{◌≡◌, ◌≢◌, ◌<◌, ◌≤◌, ◌+◌, ℕ, zero, suc, List, [], ◌∷◌, ◌++◌, Bool, true, false, not, length, get_or, set, take, drop, map, refl, sym, ap, ap₂, ◌∙◌, arith, add-one, zero-add}
+use Rattle.std.specs.List.{enumerate_from}
+use Rattle.std.proofs.lemmas.List.{length-map, length-set, map-set, get_or-map, get_or-set_other}
+use Rattle.std.proofs.Math.Seq.{map-set_same}
+use Rattle.std.proofs.lemmas.List.FromFn.{length-enumerate_from, get_or-enumerate_from}
+use Rattle.std.proofs.lemmas.Simd.{map-map}
+use Rattle.piece_collector.specs.Views.{TextAt}
+use Rattle.proto_syntax.specs.Read.{value_tree}
+use Rattle.proto_facts.specs.declared.fact.FileFacts.{FileFacts}
+use Rattle.proto_facts.specs.Facts.{facts_of}
+use Rattle.import_graph.specs.declared.paths.NamedFacts.{NamedFacts}
+use Rattle.proto_facts.specs.declared.diagnostic.Diag.{Diag}
+use Rattle.proto_resolve.specs.declared.resolve.Links.{Links}
+use Rattle.proto_resolve.specs.Files.{all_decls, facts_at}
+use Rattle.proto_resolve.specs.Outlines.{import_outline, with_facts}
+use Rattle.proto_resolve.specs.Seen.{told, SeesTheSame, SeenLaw}
+use Rattle.proto_resolve.proofs.Outlines.{asking, same_graph}
+use Rattle.work_index.specs.Changes.{DifferAt, with_text}
+use Rattle.work_index.specs.Pieces.{workspace_of}
+use Rattle.work_index.specs.Workspace.{Workspace, AnalysisData, all_facts, analysis, diagnostics_of, links_of, listed, named_facts}
+
+-- ---- a list that is changed from the front on
+
+set_suc : {X : Type 0} (a b : List X) (n : ℕ) (x d : X) → n < length a → length a ≡ length b → get_or a n d ≡ x → set (take n a ++ drop n b) n x ≡ take (suc n) a ++ drop (suc n) b
+set_suc [] b n x d there long is = absurd (omega (arith, there))
+set_suc (u ∷ a) [] n x d there long is = absurd (omega (arith, long))
+set_suc (u ∷ a) (v ∷ b) zero x d there long is = ap (λ y. y ∷ b) (sym is)
+set_suc (u ∷ a) (v ∷ b) (suc n) x d there long is = ap (λ ys. u ∷ ys) (set_suc a b n x d (omega (arith, there)) (omega (arith, long)) is)
+
+keep_suc : {X : Type 0} (a b : List X) (n : ℕ) (d : X) → n < length a → length a ≡ length b → get_or a n d ≡ get_or b n d → take n a ++ drop n b ≡ take (suc n) a ++ drop (suc n) b
+keep_suc [] b n d there long is = absurd (omega (arith, there))
+keep_suc (u ∷ a) [] n d there long is = absurd (omega (arith, long))
+keep_suc (u ∷ a) (v ∷ b) zero d there long is = ap (λ y. y ∷ b) (sym is)
+keep_suc (u ∷ a) (v ∷ b) (suc n) d there long is = ap (λ ys. u ∷ ys) (keep_suc a b n d (omega (arith, there)) (omega (arith, long)) is)
+
+pub mixed_length : {X : Type 0} (a b : List X) (n : ℕ) → length a ≡ length b → length (take n a ++ drop n b) ≡ length b
+mixed_length a b zero long = refl
+mixed_length [] [] (suc n) long = refl
+mixed_length [] (v ∷ b) (suc n) long = absurd (omega (arith, long))
+mixed_length (u ∷ a) [] (suc n) long = absurd (omega (arith, long))
+mixed_length (u ∷ a) (v ∷ b) (suc n) long = ap suc (mixed_length a b n (omega (arith, long)))
+
+-- in the end all elements are the new ones
+all_new : {X : Type 0} (a b : List X) (n : ℕ) → length a ≡ length b → length a ≤ n → take n a ++ drop n b ≡ a
+all_new [] [] zero long end' = refl
+all_new [] [] (suc n) long end' = refl
+all_new [] (v ∷ b) n long end' = absurd (omega (arith, long))
+all_new (u ∷ a) b zero long end' = absurd (omega (arith, end'))
+all_new (u ∷ a) [] (suc n) long end' = absurd (omega (arith, long))
+all_new (u ∷ a) (v ∷ b) (suc n) long end' = ap (λ ys. u ∷ ys) (all_new a b n (omega (arith, long)) (omega (arith, end')))
+
+-- ---- what is made of each file
+
+abbrev pub nothing : List ℕ × List ℕ
+nothing = ([], [])
+
+-- what f makes of each file
+abbrev pub made : {X : Type 0} → (ℕ × (List ℕ × List ℕ) → X) → Workspace → List X
+made f w = map f (enumerate_from 0 w)
+
+pub made_length : {X : Type 0} (f : ℕ × (List ℕ × List ℕ) → X) (w : Workspace) → length (made f w) ≡ length w
+made_length f w = length-map (enumerate_from 0 w) f ∙ length-enumerate_from 0 w
+
+made_at : {X : Type 0} (f : ℕ × (List ℕ × List ℕ) → X) (w : Workspace) (n : ℕ) (d : X) → n < length w → get_or (made f w) n d ≡ f (n, get_or w n nothing)
+made_at f w n d there =
+    let within : n < length (enumerate_from 0 w) = omega (arith, there, length-enumerate_from 0 w) in
+    get_or-map f (enumerate_from 0 w) n (0, nothing) d within ∙ ap f (get_or-enumerate_from 0 w n (0, nothing) there ∙ ap (λ k. (k, get_or w n nothing)) (zero-add n))
+
+-- a file is taken over, and one is made anew
+module _ {X : Type 0} (f g : ℕ × (List ℕ × List ℕ) → X) (b w : Workspace) (n : ℕ) (there : n < length w) (long : length b ≡ length w) where
+  as_many : length (made g w) ≡ length (made f b)
+  as_many = made_length g w ∙ sym long ∙ sym (made_length f b)
+
+  within : n < length (made g w)
+  within = omega (arith, there, made_length g w)
+
+  pub one_kept : f (n, get_or b n nothing) ≡ g (n, get_or w n nothing) → take n (made g w) ++ drop n (made f b) ≡ take (n + 1) (made g w) ++ drop (n + 1) (made f b)
+  one_kept same =
+      let there' : n < length b = omega (arith, there, long) in
+      let d = g (0, nothing) in
+      rw (add-one n) (keep_suc (made g w) (made f b) n d within as_many (made_at g w n d there ∙ sym same ∙ sym (made_at f b n d there')))
+
+  pub one_anew : (x : X) → x ≡ g (n, get_or w n nothing) → set (take n (made g w) ++ drop n (made f b)) n x ≡ take (n + 1) (made g w) ++ drop (n + 1) (made f b)
+  one_anew x is = let d = g (0, nothing) in rw (add-one n) (set_suc (made g w) (made f b) n x d within as_many (made_at g w n d there ∙ sym is))
+
+-- the same of lists that are equal to these
+module _ {X : Type 0} (f g : ℕ × (List ℕ × List ℕ) → X) (b w : Workspace) (n : ℕ) (long : length b ≡ length w) (old now : List X) (was : old ≡ made f b) (is : now ≡ take n (made g w) ++ drop n old) where
+  mixed : now ≡ take n (made g w) ++ drop n (made f b)
+  mixed = is ∙ ap (λ xs. take n (made g w) ++ drop n xs) was
+
+  many : length now ≡ length w
+  many = ap length mixed ∙ mixed_length (made g w) (made f b) n (made_length g w ∙ sym long ∙ sym (made_length f b)) ∙ made_length f b ∙ long
+
+  pub is_there : n < length w → n < length now
+  is_there there = omega (arith, there, many)
+
+  pub all_made : length w ≤ n → now ≡ made g w
+  all_made end' = mixed ∙ all_new (made g w) (made f b) n (made_length g w ∙ sym long ∙ sym (made_length f b)) (omega (arith, end', made_length g w))
+
+  pub then_anew : n < length w → (after : List X) (x : X) → after ≡ set now n x → x ≡ g (n, get_or w n nothing) → after ≡ take (n + 1) (made g w) ++ drop (n + 1) old
+  then_anew there after x put new =
+      put ∙ ap (λ xs. set xs n x) mixed ∙ one_anew f g b w n there long x new ∙ ap (λ xs. take (n + 1) (made g w) ++ drop (n + 1) xs) (sym was)
+
+  pub then_kept : n < length w → (after : List X) → after ≡ now → f (n, get_or b n nothing) ≡ g (n, get_or w n nothing) → after ≡ take (n + 1) (made g w) ++ drop (n + 1) old
+  then_kept there after kept same = kept ∙ mixed ∙ one_kept f g b w n there long same ∙ ap (λ xs. take (n + 1) (made g w) ++ drop (n + 1) xs) (sym was)
+
+pub facts_in_piece : (ts : List TextAt) (n : ℕ) (t : TextAt) → n < length ts → t ≡ get_or ts n t → facts_at (all_facts (workspace_of ts)) n ≡ facts_of t.text
+facts_in_piece [] n t there is = absurd (omega (arith, there))
+facts_in_piece (u ∷ ts) zero t there is = ap (λ v. facts_of v.text) (sym is)
+facts_in_piece (u ∷ ts) (suc n) t there is = facts_in_piece ts n t (omega (arith, there)) is
+
+pub pieces_length : (ts : List TextAt) → length (workspace_of ts) ≡ length ts
+pieces_length ts = length-map ts _
+
+pub piece_at : (ts : List TextAt) (n : ℕ) (t : TextAt) → n < length ts → t ≡ get_or ts n t → get_or (workspace_of ts) n nothing ≡ (t.path, t.text)
+piece_at ts n t there is = get_or-map (λ p. (p.path, p.text)) ts n t nothing there ∙ sym (ap (λ p. (p.path, p.text)) is)
+
+-- ---- other facts of a file
+
+-- the facts of the changed file, put back
+pub put_back : (files : List NamedFacts) (f : ℕ) (other : FileFacts) → f < length files → with_facts (with_facts files f other) f (facts_at files f) ≡ files
+put_back [] f other there = absurd (omega (arith, there))
+put_back (x ∷ files) zero other there = refl
+put_back (x ∷ files) (suc f) other there = ap (λ xs. x ∷ xs) (put_back files f other (omega (arith, there)))
+
+pub others_stay : (files : List NamedFacts) (f g : ℕ) (other : FileFacts) → g ≢ f → facts_at (with_facts files f other) g ≡ facts_at files g
+others_stay [] f g other apart = refl
+others_stay (x ∷ files) zero zero other apart = absurd (apart refl)
+others_stay (x ∷ files) zero (suc g) other apart = refl
+others_stay (x ∷ files) (suc f) zero other apart = refl
+others_stay (x ∷ files) (suc f) (suc g) other apart = others_stay files f g other (λ same. apart (ap suc same))
+
+pub is_put : (files : List NamedFacts) (f : ℕ) (other : FileFacts) → f < length files → facts_at (with_facts files f other) f ≡ other
+is_put [] f other there = absurd (omega (arith, there))
+is_put (x ∷ files) zero other there = refl
+is_put (x ∷ files) (suc f) other there = is_put files f other (omega (arith, there))
+
+asks_alike : (files : List NamedFacts) (f : ℕ) (other : FileFacts) → import_outline other ≡ import_outline (facts_at files f) → map asking (with_facts files f other) ≡ map asking files
+asks_alike [] f other same = refl
+asks_alike (x ∷ files) zero other same = ap (λ o. (x.path, o) ∷ map asking files) same
+asks_alike (x ∷ files) (suc f) other same = ap (λ xs. asking x ∷ xs) (asks_alike files f other same)
+
+-- ---- the workspace before the change
+
+module _ (w : Workspace) (file : ℕ) (text : List ℕ) where
+  abbrev before : Workspace
+  before = with_text w file text
+
+  pub before_length : length before ≡ length w
+  before_length = length-set w file _
+
+  pub facts_before : all_facts before ≡ with_facts (all_facts w) file (facts_of text)
+  facts_before =
+      map-set named_facts w file _ ∙ ap (λ paths. set (all_facts w) file (record { path = get_or paths file []; facts = facts_of text })) (sym (map-map (λ x. x.path) named_facts w))
+
+  pub paths_before : file < length w → map (λ f. f.0) before ≡ map (λ f. f.0) w
+  paths_before there = map-set_same (λ f. f.0) w file _ nothing (get_or-map (λ f. f.0) w file nothing [] there)
+
+  pub other_before : (n : ℕ) → n ≢ file → get_or before n nothing ≡ get_or w n nothing
+  other_before n apart = get_or-set_other w file n _ nothing apart
+
+  pub differ : (tells : Bool) → file < length w → import_outline (facts_at (all_facts w) file) ≡ import_outline (facts_at (all_facts before) file)
+      → (tells ≡ false → told (facts_at (all_facts w) file) ≡ told (facts_at (all_facts before) file)) → DifferAt (all_facts before) (all_facts w) file tells
+  differ tells there imports quiet =
+      let within' : file < length (all_facts w) = omega (arith, there, length-map w named_facts) in
+      let own : facts_at (all_facts before) file ≡ facts_of text = ap (λ files. facts_at files file) facts_before ∙ is_put (all_facts w) file (facts_of text) within' in
+      let asks : map asking (all_facts before) ≡ map asking (all_facts w) =
+      ap (λ files. map asking files) facts_before ∙ asks_alike (all_facts w) file (facts_of text) (sym (imports ∙ ap import_outline own)) in record {
+        graph = same_graph (all_facts before) (all_facts w) asks;
+        others = λ g apart. ap (λ files. facts_at files g) facts_before ∙ others_stay (all_facts w) file g (facts_of text) apart;
+        quiet = λ still. sym (quiet still);
+      }
+
+  -- the table with the facts of the changed file is that after the change
+  pub table_after : file < length w → with_facts (all_facts before) file (facts_at (all_facts w) file) ≡ all_facts w
+  table_after there =
+      let within' : file < length (all_facts w) = omega (arith, there, length-map w named_facts) in
+      ap (λ files. with_facts files file (facts_at (all_facts w) file)) facts_before ∙ put_back (all_facts w) file (facts_of text) within'
+
+  -- a file that sees the same is linked as before
+  module _ (law : SeenLaw) (n : ℕ) (there : n < length w) (apart : n ≢ file) (sees : SeesTheSame (all_facts before) (all_facts w) n) where
+    pub links_stay : links_of before (n, get_or before n nothing) ≡ links_of w (n, get_or w n nothing)
+    links_stay =
+        let within' : n < length (all_facts w) = omega (arith, there, length-map w named_facts) in
+        let u = get_or w n nothing in
+        ap (λ x. links_of before (n, x)) (other_before n apart) ∙ law (all_facts before) (all_facts w) n within' sees u.1 (value_tree u.1)
+
+    pub diagnostics_stay : diagnostics_of before (n, get_or before n nothing) ≡ diagnostics_of w (n, get_or w n nothing)
+    diagnostics_stay = ap₂ (λ (x : List ℕ × List ℕ) links. listed (facts_of x.1) links) (other_before n apart) links_stay
+
+-- ---- the table of an analysis
+
+pub same_files : (files : List NamedFacts) (w : Workspace) → map (λ f. f.path) files ≡ map (λ f. f.0) w → map (λ f. f.facts) files ≡ map (λ f. facts_of f.1) w → files ≡ all_facts w
+same_files [] [] paths facts = refl
+same_files [] (y ∷ w) paths facts = absurd (cc)
+same_files (x ∷ files) [] paths facts = absurd (cc)
+same_files (x ∷ files) (y ∷ w) paths facts =
+    let path : x.path ≡ y.0 = cc in
+    let said : x.facts ≡ facts_of y.1 = cc in
+    let paths' : map (λ f. f.path) files ≡ map (λ f. f.0) w = cc in
+    let facts' : map (λ f. f.facts) files ≡ map (λ f. facts_of f.1) w = cc in
+    let head : x ≡ named_facts y = ap₂ (λ p fs. record { path = p; facts = fs }) path said in
+    ap₂ (λ a as'. a ∷ as') head (same_files files w paths' facts')
+
+-- the parts of an analysis that is that of a workspace
+pub record AreParts (table : List NamedFacts) (paths : List (List ℕ)) (links : List Links) (diagnostics : List (List Diag)) (b : Workspace) : Type 0 where
+  pub table_is : table ≡ all_facts b
+  pub paths_are : paths ≡ map (λ f. f.0) b
+  pub links_are : links ≡ made (links_of b) b
+  pub diagnostics_are : diagnostics ≡ made (diagnostics_of b) b
+
+abbrev analysis_with : List NamedFacts → List (List ℕ) → List Links → List (List Diag) → AnalysisData
+analysis_with table paths links diagnostics = record { paths = paths; facts = map (λ file. file.facts) table; decls = all_decls table; links = links; diagnostics = diagnostics }
+
+pub parts : (table : List NamedFacts) (paths : List (List ℕ)) (links : List Links) (diagnostics : List (List Diag)) (b : Workspace)
+    → paths ≡ map (λ f. f.path) table → analysis_with table paths links diagnostics ≡ analysis b → AreParts table paths links diagnostics b
+parts table paths links diagnostics b named is = record {
+  table_is = same_files table b (sym named ∙ ap (λ a. a.paths) is) (ap (λ a. a.facts) is);
+  paths_are = ap (λ a. a.paths) is;
+  links_are = ap (λ a. a.links) is;
+  diagnostics_are = ap (λ a. a.diagnostics) is;
+}
+
+pub not_false : (x : Bool) → not x ≡ false → x ≡ true
+not_false true e = refl
+not_false false e = sym e

@@ -1,0 +1,64 @@
+use Rattle.std.proofs.Common.{◌≡◌, map, refl, sym, ap, ◌∙◌, not}
+use Rattle.std.proofs.lemmas.Simd.{map-map}
+use Rattle.proto_resolve.specs.Files.{facts_at}
+use Rattle.proto_resolve.specs.Outlines.{import_outline}
+use Rattle.proto_resolve.specs.Seen.{told}
+use Rattle.work_index.specs.Changes.{with_text}
+use Rattle.work_index.specs.Pieces.{workspace_of}
+use Rattle.work_index.specs.Workspace.{all_facts, links_of, diagnostics_of}
+use Rattle.work_index.proofs.Changed.{differ, not_false, parts, paths_before}
+use Rattle.work_index.proofs.Steps.{as_long, paths_as_long, paths_are, is_analysis}
+use Rattle.work_index.proofs.again.analyse_again.Goals as goal
+
+pub table_after-requires-clause-before : goal.table_after-requires-clause-before
+table_after-requires-clause-before c =
+    let was = c.requires.before in
+    let b = with_text (workspace_of c.args.pieces.now) c.args.changed was.text in
+    let inside = c.earlier.inside in
+    let of = parts inside.table inside.paths inside.links inside.diagnostics b c.earlier.invariant.3 (c.earlier.view_is ∙ was.is) in
+    record { within = was.within; text = was.text; are = of.table_is }
+
+pub relink-requires-clause-before : goal.relink-requires-clause-before
+relink-requires-clause-before c =
+    let was = c.requires.before in
+    let w = workspace_of c.args.pieces.now in
+    let file = c.args.changed in
+    let b = with_text w file was.text in
+    let inside = c.earlier.inside in
+    let of = parts inside.table inside.paths inside.links inside.diagnostics b c.earlier.invariant.3 (c.earlier.view_is ∙ was.is) in
+    let before : c.facts.result.now ≡ facts_at (all_facts b) file = c.facts.ensures ∙ ap (λ files. facts_at files file) of.table_is in
+    let before' : c.facts-2.result.now ≡ facts_at (all_facts b) file = c.facts-2.ensures ∙ ap (λ files. facts_at files file) of.table_is in
+    let imports : import_outline (facts_at (all_facts w) file) ≡ import_outline (facts_at (all_facts b) file) =
+    ap import_outline (sym c.facts_at-facts.ensures) ∙ c.if-not-import_alike.ensures.0 refl ∙ ap import_outline before in record {
+      within = was.within;
+      text = was.text;
+      links_are = of.links_are;
+      diagnostics_are = of.diagnostics_are;
+      differ = differ w file was.text (not c.tell_alike-tells.result) was.within imports
+          (λ still. ap told (sym c.facts_at-facts.ensures) ∙ c.tell_alike-tells.ensures.0 (not_false c.tell_alike-tells.result still) ∙ ap told before');
+    }
+
+pub invariant_of-result : goal.invariant_of-result
+invariant_of-result c =
+    let was = c.requires.before in
+    let ts = c.args.pieces.now in
+    let w = workspace_of ts in
+    let inside = c.earlier.inside in
+    let of = parts inside.table inside.paths inside.links inside.diagnostics (with_text w c.args.changed was.text) c.earlier.invariant.3 (c.earlier.view_is ∙ was.is) in
+    let paths : inside.paths ≡ map (λ t. t.path) ts = of.paths_are ∙ paths_before w c.args.changed was.text was.within ∙ map-map (λ f. f.0) (λ t. (t.path, t.text)) ts in
+    let all : c.in_ok-table.table ≡ all_facts w = c.in_ok-table.ensures in (
+      paths_as_long ts inside.paths c.in_ok-table.table paths all,
+      as_long (links_of w) ts c.relink.new.links c.in_ok-table.table c.in_ok-relink.ensures.links all,
+      as_long (diagnostics_of w) ts c.relink.new.diagnostics c.in_ok-table.table c.in_ok-relink.ensures.diagnostics all,
+      paths_are ts inside.paths c.in_ok-table.table paths all,
+    )
+
+pub returns : goal.returns
+returns c =
+    let was = c.requires.before in
+    let ts = c.args.pieces.now in
+    let w = workspace_of ts in
+    let inside = c.earlier.inside in
+    let of = parts inside.table inside.paths inside.links inside.diagnostics (with_text w c.args.changed was.text) c.earlier.invariant.3 (c.earlier.view_is ∙ was.is) in
+    let paths : inside.paths ≡ map (λ t. t.path) ts = of.paths_are ∙ paths_before w c.args.changed was.text was.within ∙ map-map (λ f. f.0) (λ t. (t.path, t.text)) ts in
+    is_analysis ts c.in_ok-table.table inside.paths c.relink.new.links c.relink.new.diagnostics c.in_ok-table.ensures paths c.in_ok-relink.ensures.links c.in_ok-relink.ensures.diagnostics

@@ -1,0 +1,41 @@
+-- A change of the text of one file.
+use Rattle.std.specs.Prelude.{◌≡◌, ◌≢◌, ◌<◌, ℕ, List, [], Bool, false, length, map, slice_index_or, slice_set}
+use Rattle.std.specs.List.{enumerate_from}
+use Rattle.proto_facts.specs.declared.diagnostic.Diag.{Diag}
+use Rattle.import_graph.specs.declared.paths.NamedFacts.{NamedFacts}
+use Rattle.import_graph.specs.Links.{graph_of}
+use Rattle.proto_resolve.specs.declared.resolve.Links.{Links}
+use Rattle.proto_resolve.specs.Files.{facts_at}
+use Rattle.proto_resolve.specs.Seen.{told}
+use Rattle.work_index.specs.Workspace.{Workspace, AnalysisData, all_facts, analysis, diagnostics_of, links_of}
+
+-- the workspace with another text of a file
+abbrev pub with_text : Workspace → ℕ → List ℕ → Workspace
+with_text w file text = slice_set w file (slice_index_or (map (λ f. f.0) w) file [], text)
+
+-- the analysis is that of the workspace before a change of the file's text
+pub record IsBefore (a : AnalysisData) (w : Workspace) (file : ℕ) : Type 0 where
+  pub within : file < length w
+  pub text : List ℕ
+  pub is : a ≡ analysis (with_text w file text)
+
+-- the same of the facts of all files
+pub record AreBefore (files : List NamedFacts) (w : Workspace) (file : ℕ) : Type 0 where
+  pub within : file < length w
+  pub text : List ℕ
+  pub are : files ≡ all_facts (with_text w file text)
+
+-- The files import each other alike and differ in the facts of one alone. Where it does not tell another thing, it says the
+-- same to the files that see it.
+pub record DifferAt (old new : List NamedFacts) (file : ℕ) (tells : Bool) : Type 0 where
+  pub graph : graph_of old ≡ graph_of new
+  pub others : (g : ℕ) → g ≢ file → facts_at old g ≡ facts_at new g
+  pub quiet : tells ≡ false → told (facts_at old file) ≡ told (facts_at new file)
+
+-- the links and the diagnostics are those before a change of the file's text
+pub record AreLinkedBefore (links : List Links) (diagnostics : List (List Diag)) (w : Workspace) (file : ℕ) (tells : Bool) : Type 0 where
+  pub within : file < length w
+  pub text : List ℕ
+  pub links_are : links ≡ map (links_of (with_text w file text)) (enumerate_from 0 (with_text w file text))
+  pub diagnostics_are : diagnostics ≡ map (diagnostics_of (with_text w file text)) (enumerate_from 0 (with_text w file text))
+  pub differ : DifferAt (all_facts (with_text w file text)) (all_facts w) file tells
