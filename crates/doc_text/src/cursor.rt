@@ -128,8 +128,10 @@ fn known_position(
     }
 }
 
-// The positions of many offsets. The text is read once; offsets that don't ascend are sorted first.
-pub(crate) fn positions_of(
+/// The positions of many byte offsets of a text, each as [`Text::position_of`](crate::Text::position_of) answers it, in
+/// the order of the offsets. The text is read once. Offsets that don't ascend are sorted first. An error is want of
+/// memory.
+pub fn positions_of(
     alloc: Global,
     text: &str,
     offsets: &[usize],

@@ -19,6 +19,7 @@ mod tests;
 mod text;
 
 pub use change::Change;
+pub use cursor::positions_of;
 pub use encoding::Encoding;
 pub use laws::{
     changes_keep_the_rest, changes_keep_utf8, changes_of_the_whole, line_cuts, lines_joined,

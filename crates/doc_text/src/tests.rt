@@ -167,8 +167,8 @@ fn expect_offsets<R: AllocGlobal + Abort>(
     Ok(())
 }
 
-// Compares the positions of offsets, given as offset, line and character: one by one, all at once, and all at
-// once in an order that doesn't ascend.
+// Compares the positions of offsets, given as offset, line and character: one by one, all at once in a text and in
+// its bytes, and all at once in an order that doesn't ascend.
 fn expect_positions<R: AllocGlobal + Abort>(
     rt: &R,
     text: &str,
@@ -187,6 +187,8 @@ fn expect_positions<R: AllocGlobal + Abort>(
         expected.push(place(*line, *character))?;
     }
     let positions = text.positions_of(rt.alloc(), offsets.as_slice(), encoding)?;
+    assert_eq!(rt; positions.as_slice(), expected.as_slice());
+    let positions = positions_of(rt.alloc(), text.as_str(), offsets.as_slice(), encoding)?;
     assert_eq!(rt; positions.as_slice(), expected.as_slice());
     offsets.reverse();
     expected.reverse();

@@ -58,8 +58,7 @@ impl Text {
         cursor::position_of(self.as_str(), offset, encoding)
     }
 
-    /// The positions of many byte offsets, each as [`Text::position_of`] answers it, in the order of the offsets.
-    /// The text is read once. Offsets that don't ascend are sorted first. An error is want of memory.
+    /// The positions of many byte offsets, as [`positions_of`](crate::positions_of) answers them of the whole text.
     pub fn positions_of(
         &self,
         alloc: Global,
