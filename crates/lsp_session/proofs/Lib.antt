@@ -1,4 +1,5 @@
 mod ConfigLemmas
 mod CoreLemmas
+mod FilesLemmas
 mod RunLemmas
 mod ServingLemmas

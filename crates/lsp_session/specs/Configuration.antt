@@ -4,6 +4,7 @@ use Rattle.std.specs.List.{flat_map, position, range_with_len}
 use Rattle.workspace_uri.specs.Path.{is_workspace_path}
 use Rattle.workspace_uri.specs.Uri.{folder_of}
 use Rattle.lsp_workspace.specs.Disk.{FileData}
+use Rattle.lsp_workspace.specs.Files.{Files, from_disk}
 use Rattle.lsp_session.specs.declared.fault.ServeFault.{ServeFault}
 use Rattle.lsp_session.specs.declared.fault.ServeFault.TheVariants.{BadRoot, BadPath}
 
@@ -14,6 +15,10 @@ pub record Configuration : Type 0 where
 -- the files of the first root in their order, then those of the next
 abbrev pub in_root_order : Configuration → List FileData
 in_root_order config = flat_map (λ number. filter (λ f. f.root == number) config.files) (range_with_len 0 (length config.roots))
+
+-- the files that a session starts with, and that a check looks at
+abbrev pub files_of : Configuration → Files
+files_of config = from_disk (in_root_order config)
 
 -- ---- configurations that can't be used
 

@@ -1,5 +1,7 @@
--- The numbers of the faults.
+-- The numbers of the faults, and which faults can come where.
 use Rattle.std.specs.Prelude.{ℕ, ⊤}
+use Rattle.lsp_frame.specs.Counts.{HasFailed}
+use Rattle.lsp_frame.specs.declared.counts.Counts.{Counts}
 use Rattle.lsp_session.specs.declared.fault.CoreFault.{CoreFault}
 use Rattle.lsp_session.specs.declared.fault.CoreFault.TheVariants as core
 use Rattle.lsp_session.specs.declared.fault.ServeFault.{ServeFault}
@@ -20,3 +22,11 @@ abbrev pub ComesWhileServing : ServeFault → Type 0
 ComesWhileServing serve.BadRoot = ⊥
 ComesWhileServing (serve.BadPath index) = ⊥
 ComesWhileServing _ = ⊤
+
+-- a fault where only a writer and memory can fail: the writer's only where it failed between these counts
+abbrev pub IsWriteOrMemory : Counts → Counts → ServeFault → Type 0
+IsWriteOrMemory old new serve.Read = ⊥
+IsWriteOrMemory old new serve.Write = HasFailed old new
+IsWriteOrMemory old new serve.Memory = ⊤
+IsWriteOrMemory old new serve.BadRoot = ⊥
+IsWriteOrMemory old new (serve.BadPath index) = ⊥

@@ -1,6 +1,5 @@
 pub mod Configuration
 pub mod Fault
-pub mod Checking
 pub mod Session
 pub mod Stream
 pub mod Core

@@ -13,9 +13,9 @@ use Rattle.lsp_rpc.specs.declared.error_code.ErrorCode.TheVariants.{ParseError, 
 use Rattle.lsp_rpc.specs.declared.method.Method.{Method}
 use Rattle.lsp_rpc.specs.declared.method.Method.TheVariants.{Initialize, Shutdown, Exit, DidOpen, DidChange, DidSave, DidClose, DocumentDiagnostic, WorkspaceDiagnostic}
 use Rattle.workspace_uri.specs.Uri.{path_of}
-use Rattle.lsp_session.specs.Configuration.{Configuration, in_root_order}
-use Rattle.lsp_workspace.specs.Reports.{document_diagnostics, workspace_reports}
-use Rattle.lsp_workspace.specs.Files.{Files, from_disk, opened_files, changed_files, saved_files, closed_files, text_at}
+use Rattle.lsp_session.specs.Configuration.{Configuration, files_of}
+use Rattle.lsp_workspace.specs.Reports.{document_diagnostics, workspace_reports, ReportsAreOfDocuments}
+use Rattle.lsp_workspace.specs.Files.{Files, opened_files, changed_files, saved_files, closed_files, text_at, AreInPathOrder, HasTextsOfWorkspace}
 use Rattle.lsp_session.specs.declared.phase.Phase.{Phase}
 use Rattle.lsp_session.specs.declared.phase.Phase.TheVariants.{Uninitialized, Running, Shut, Exited}
 
@@ -148,7 +148,7 @@ turn s m = turn_in s.phase s m
 
 -- the state before the first message: no document is open, and the texts of the files on disk are kept
 abbrev pub start : Configuration → State
-start config = record { roots = config.roots; phase = Uninitialized; files = from_disk (in_root_order config) }
+start config = record { roots = config.roots; phase = Uninitialized; files = files_of config }
 
 -- the state after some messages, and the bodies of the replies to them
 pub record Run : Type 0 where
@@ -164,3 +164,17 @@ next r body = record {
 -- the session after the messages with these bodies
 unfoldable pub session : Configuration → List (List ℕ) → Run
 session config bodies = fold next (record { state = start config; replies = [] }) bodies
+
+-- ---- the files of a session, whatever messages came
+
+-- their paths ascend
+abbrev pub FilesAreInPathOrder : Type 0
+FilesAreInPathOrder = (config : Configuration) (bodies : List (List ℕ)) → AreInPathOrder (session config bodies).state.files
+
+-- the text of a document is that of the workspace at its path
+abbrev pub DocumentsAreOfTheWorkspace : Type 0
+DocumentsAreOfTheWorkspace = (config : Configuration) (bodies : List (List ℕ)) → HasTextsOfWorkspace (session config bodies).state.files
+
+-- the reports of all documents have the diagnostics that the report of each one has
+abbrev pub ReportsAgree : Type 0
+ReportsAgree = (config : Configuration) (bodies : List (List ℕ)) (root : List ℕ) → ReportsAreOfDocuments root (session config bodies).state.files

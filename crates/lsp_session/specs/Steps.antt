@@ -1,8 +1,6 @@
 -- What the private steps of a session and its core promise each other.
-use Rattle.std.specs.Prelude.{◌≡◌, ℕ, ℤ, List, [], ◌∷◌, ◌++◌, length, map, Bool, false, ◌&&◌, Option, Some, None, is_some, is_none, ⊤, Result, Ok, Err}
-use Rattle.lsp_frame.specs.Counts.{HasFailed}
+use Rattle.std.specs.Prelude.{◌≡◌, ℕ, List, [], ◌∷◌, ◌++◌, length, map, Result, Ok, Err}
 use Rattle.lsp_frame.specs.Fault.{code_of}
-use Rattle.lsp_frame.specs.declared.counts.Counts.{Counts}
 use Rattle.lsp_frame.specs.declared.fault.FrameFault.{FrameFault}
 use Rattle.lsp_frame.specs.declared.fault.FrameFault.TheVariants as frame
 use Rattle.lsp_session.specs.declared.ended.Ended.{Ended}
@@ -12,10 +10,8 @@ use Rattle.lsp_session.specs.declared.fault.ServeFault.TheVariants as fault
 use Rattle.serde_json.specs.Data.{Data}
 use Rattle.serde_json.specs.Written.{compact_text}
 use Rattle.lsp_rpc.specs.Message.{MessageData, message_of}
-use Rattle.lsp_rpc.specs.Params.{ChangeData}
 use Rattle.lsp_session.specs.Configuration.{Configuration}
 use Rattle.lsp_session.specs.Core.{Event, messages, processed, CoreState, Stands}
-use Rattle.lsp_workspace.specs.Files.{OpenDocument, File, Files, set_file, changed_file, saved_file}
 use Rattle.lsp_session.specs.Session.{State, Turn, turn, silent, session}
 
 -- these replies, and then what a turn replies
@@ -39,14 +35,6 @@ pub record Knows (config : Configuration) (core : CoreState) (bodies : List (Lis
 -- the bodies of the replies to one more message
 abbrev pub replies_to : Configuration → List (List ℕ) → List ℕ → List (List ℕ)
 replies_to config bodies body = map compact_text (turn (session config bodies).state (message_of body)).replies
-
--- a fault of a reply: the writer's only where it failed
-abbrev pub IsWriteOrMemory : Counts → Counts → ServeFault → Type 0
-IsWriteOrMemory old new fault.Read = ⊥
-IsWriteOrMemory old new fault.Write = HasFailed old new
-IsWriteOrMemory old new fault.Memory = ⊤
-IsWriteOrMemory old new fault.BadRoot = ⊥
-IsWriteOrMemory old new (fault.BadPath index) = ⊥
 
 -- how a session ends where there is no further frame for this reason
 abbrev pub end_by : FrameFault → Result Ended ServeFault

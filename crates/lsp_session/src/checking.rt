@@ -4,8 +4,8 @@ ghost use Rattle.std.specs.Io.KnownBytes.{Appends};
 ghost use Rattle.lsp_frame.specs.Counts.{HasFailed};
 ghost use Rattle.lsp_workspace.specs.Files.{workspace};
 ghost use Rattle.lsp_workspace.specs.Listing.{listing, has_errors};
-ghost use Rattle.lsp_session.specs.Checking.{files_of};
-ghost use Rattle.lsp_session.specs.Fault.{ComesWhileServing};
+ghost use Rattle.lsp_session.specs.Configuration.{files_of};
+ghost use Rattle.lsp_session.specs.Fault.{IsWriteOrMemory};
 ghost use Rattle.lsp_session.specs.Stream.{SendsPrefix};
 
 use crate::config::Config;
@@ -51,9 +51,9 @@ fn send<K: ByteSink>(writer: &mut K, bytes: &[u8]) -> Result<(), ServeFault>
 /// Checks the files of a configuration: writes a line for each diagnostic, and answers whether one is an error.
 ///
 /// A line is `path:line:column: number message`, with line and column from 1 and columns in UTF-16 units, and ends with a
-/// line feed. The lines come by path, and those of a file by start, end, number and words. The faults: `Write` where the
-/// sink failed, and `Memory` where memory was refused. Whatever it ends with, what was written is a prefix of the lines,
-/// and all of them where no fault came.
+/// line feed. The lines come by path, and those of a file by start, end, number and words. The only faults are `Write`
+/// where the sink failed, and `Memory` where memory was refused. Whatever it ends with, what was written is a prefix of
+/// the lines, and all of them where no fault came.
 pub fn check<K: ByteSink>(alloc: Global, writer: &mut K, config: Config) -> Result<bool, ServeFault>
     // At every return what was written is a prefix of the lines, and all of them at `Ok`.
     ensures prefix { SendsPrefix (K.written writer.old) (K.written writer.new) (listing (workspace (files_of config))) }
@@ -62,11 +62,8 @@ pub fn check<K: ByteSink>(alloc: Global, writer: &mut K, config: Config) -> Resu
     // It answers true exactly where a diagnostic is an error.
     ensures errors { IfOk result (λ found. found ≡ has_errors (workspace (files_of config))) }
 
-    // The sink's fault is answered only where the sink failed in the call.
-    ensures write { IfErr result (λ fault. fault ≡ ServeFault.Write → HasFailed (K.counts writer.old) (K.counts writer.new)) }
-
-    // What is wrong with a configuration was said when it was made.
-    ensures fault { IfErr result ComesWhileServing }
+    // The faults are want of memory, and the sink's, which is answered only where the sink failed in the call.
+    ensures fault { IfErr result (IsWriteOrMemory (K.counts writer.old) (K.counts writer.new)) }
 {
     let Ok((lines, found)) = listed(alloc, config) else {
         return Err(ServeFault::Memory);

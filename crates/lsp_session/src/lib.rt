@@ -23,7 +23,9 @@ pub use checking::check;
 pub use config::Config;
 pub use ended::Ended;
 pub use fault::{CoreFault, ServeFault};
-pub use laws::nothing_follows_an_exit;
+pub use laws::{
+    documents_are_of_the_workspace, files_are_in_path_order, nothing_follows_an_exit, reports_agree,
+};
 pub use lsp_workspace::DiskFile;
 pub use reply::Reply;
 pub use run::{CoreEvent, CoreRun, run_core};

@@ -4,9 +4,9 @@ ghost use Rattle.std.specs.Io.KnownBytes.{Appends};
 ghost use Rattle.lsp_frame.specs.Counts.{NoneFell, HasFailed};
 ghost use Rattle.lsp_frame.specs.FrameReader.{source_of, IsOpen};
 ghost use Rattle.lsp_session.specs.Configuration.{Configuration};
-ghost use Rattle.lsp_session.specs.Fault.{ComesWhileServing};
+ghost use Rattle.lsp_session.specs.Fault.{ComesWhileServing, IsWriteOrMemory};
 ghost use Rattle.lsp_session.specs.Stream.{frames_of, output, ended, behind_exit, SendsPrefix, IsExit, HasFrameCode};
-ghost use Rattle.lsp_session.specs.Steps.{Knows, replies_to, IsWriteOrMemory, end_by};
+ghost use Rattle.lsp_session.specs.Steps.{Knows, replies_to, end_by};
 ghost use Rattle.lsp_session.specs.View.{core_state};
 
 use crate::config::Config;

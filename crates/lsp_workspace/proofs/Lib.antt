@@ -1,4 +1,7 @@
+pub mod PathOrder
 mod Ascending
+pub mod ReportsLemmas
 mod FilesLemmas
 mod DiagnosticsLemmas
-mod WorkspaceLemmas
+pub mod WorkspaceLemmas
+mod Changed

@@ -4,7 +4,8 @@ use Rattle.std.specs.List.{filter_map}
 use Rattle.std.specs.Option.{option_or}
 use Rattle.std.specs.Ordering.{nat_cmp}
 use Rattle.std.specs.Cmp.Lexicographic.{slice_cmp}
-use Rattle.std.specs.Map.{lookup, set_value, remove_entry}
+use Rattle.std.specs.List.Sorted.{IsStrictlySortedBy}
+use Rattle.std.specs.Map.{keys_of, lookup, set_value, remove_entry}
 use Rattle.std.specs.BTreeMap.{insert_entry, is_at}
 use Rattle.doc_text.specs.Edits.{replaced}
 use Rattle.doc_text.specs.declared.encoding.Encoding.TheVariants.{Utf16}
@@ -57,9 +58,12 @@ abbrev pub are_apart : Files → Bool
 are_apart [] = true
 are_apart (e ∷ files) = is_none (file_at e.0 files) && are_apart files
 
--- the text at a path is that of the workspace there
+-- the text at each path is that of the workspace there
+abbrev pub HasTextsOfWorkspace : Files → Type 0
+HasTextsOfWorkspace files = (path : List ℕ) → lookup (is_at (slice_cmp nat_cmp path)) (workspace files) ≡ text_at path files
+
 abbrev pub TextsAreOfTheWorkspace : Type 0
-TextsAreOfTheWorkspace = (path : List ℕ) (files : Files) → are_apart files ≡ true → lookup (is_at (slice_cmp nat_cmp path)) (workspace files) ≡ text_at path files
+TextsAreOfTheWorkspace = (files : Files) → are_apart files ≡ true → HasTextsOfWorkspace files
 
 -- ---- files on disk
 
@@ -127,3 +131,23 @@ closed_at path files f (Some kept) = set_file path (record f { document = None }
 -- a close of an open document: the kept text is the file's then, and a file that has none leaves
 abbrev pub closed_files : List ℕ → Files → Files
 closed_files path files = where_open (λ f d. closed_at path files f f.kept) path files
+
+-- ---- the order of the files
+
+-- their paths ascend
+abbrev pub AreInPathOrder : Files → Type 0
+AreInPathOrder files = IsStrictlySortedBy (slice_cmp nat_cmp) (keys_of files)
+
+abbrev pub KeepsPathOrder : (Files → Files) → Type 0
+KeepsPathOrder become = (files : Files) → AreInPathOrder files → AreInPathOrder (become files)
+
+-- files from disk are in path order, and what is done to a document keeps them in it
+pub record FilesStayInPathOrder : Type 0 where
+  pub begun : (fs : List FileData) → AreInPathOrder (from_disk fs)
+  pub opened : (o : OpenedDocument) (path : List ℕ) → KeepsPathOrder (opened_files o path)
+  pub changed : (version : ℤ) (changes : List ChangeData) (path : List ℕ) → KeepsPathOrder (changed_files version changes path)
+  pub saved : (path : List ℕ) → KeepsPathOrder (saved_files path)
+  pub closed : (path : List ℕ) → KeepsPathOrder (closed_files path)
+
+abbrev pub FilesInPathOrderAreApart : Type 0
+FilesInPathOrderAreApart = (files : Files) → AreInPathOrder files → are_apart files ≡ true

@@ -1,5 +1,5 @@
 -- What is wrong in the files of a workspace, as the editor gets it.
-use Rattle.std.specs.Prelude.{ℕ, ℤ, List, [], Option, option_map, option_and_then, unwrap_or, map, slice_index_or}
+use Rattle.std.specs.Prelude.{◌≡◌, ℕ, ℤ, List, [], Option, option_map, option_and_then, unwrap_or, map, slice_index_or}
 use Rattle.std.specs.List.{enumerate_from}
 use Rattle.lsp_rpc.specs.Diagnostic.{DiagnosticData}
 use Rattle.lsp_rpc.specs.Workspace.{DocumentData}
@@ -7,7 +7,7 @@ use Rattle.proto_facts.specs.declared.diagnostic.Diag.{Diag}
 use Rattle.work_index.specs.Workspace.{AnalysisData, analysis, diags_at}
 use Rattle.workspace_uri.specs.Uri.{file_uri}
 use Rattle.lsp_workspace.specs.Diagnostics.{placed}
-use Rattle.lsp_workspace.specs.Files.{File, Files, file_at, workspace}
+use Rattle.lsp_workspace.specs.Files.{File, Files, file_at, workspace, AreInPathOrder}
 
 -- what is wrong in the document of a path, which has this text
 abbrev pub document_diagnostics : Files → List ℕ → List ℕ → List DiagnosticData
@@ -36,3 +36,10 @@ numbered_report root files a file = report_of root files (slice_index_or a.diagn
 -- the reports of all files of the workspace, by path
 abbrev pub workspace_reports : List ℕ → Files → List DocumentData
 workspace_reports root files = map (numbered_report root files (analysis (workspace files))) (enumerate_from 0 (workspace files))
+
+-- the diagnostics of the reports, one after the other, are those of each document of the workspace
+abbrev pub ReportsAreOfDocuments : List ℕ → Files → Type 0
+ReportsAreOfDocuments root files = map (λ report. report.diagnostics) (workspace_reports root files) ≡ map (λ file. document_diagnostics files file.0 file.1) (workspace files)
+
+abbrev pub ReportsAgreeWithDocuments : Type 0
+ReportsAgreeWithDocuments = (root : List ℕ) (files : Files) → AreInPathOrder files → ReportsAreOfDocuments root files

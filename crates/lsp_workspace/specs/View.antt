@@ -1,5 +1,5 @@
 -- What is kept of files, as their definitions see it.
-use Rattle.std.specs.Prelude.{ℕ, List, Option, option_map, map, String, string_bytes}
+use Rattle.std.specs.Prelude.{ℕ, List, option_map, map, String, string_bytes}
 use Rattle.std.specs.declared.alloc.Global.{Global}
 use Rattle.lsp_workspace.specs.Files.{OpenDocument, File, Files}
 use Rattle.lsp_workspace.specs.declared.files.Document.{Document}

@@ -4,7 +4,7 @@ ghost use Rattle.doc_text.specs.Positions.{position_of};
 ghost use Rattle.lsp_rpc.specs.Diagnostic.{diagnostic_view};
 ghost use Rattle.lsp_workspace.specs.Diagnostics.{severity_of, diagnostic_between, diagnostic_at, placed};
 
-use doc_text::{Encoding, Position, Range, Text};
+use doc_text::{Encoding, Position, Range, positions_of};
 use lsp_rpc::{Diagnostic, Severity};
 use proto_facts::Diag;
 use std::alloc::{AllocError, Global};
@@ -19,16 +19,24 @@ fn severity_of(number: u32) -> Severity
     }
 }
 
-fn start_offsets(alloc: Global, diags: &[Diag]) -> Result<Vec<usize>, AllocError>
-    ensures { IfOk result (λ offsets. offsets.items ≡ map (λ d. d.start) diags.now) }
+// The positions at which some diagnostics of a text start.
+pub(crate) fn start_positions(
+    alloc: Global,
+    text: &str,
+    diags: &[Diag],
+) -> Result<Vec<Position>, AllocError>
+    ensures { IfOk result (λ places. places.items ≡ map (position_of Encoding.Utf16 text.now) (map (λ d. d.start) diags.now)) }
 {
-    diags.iter().map(|d| d.start).collect(alloc)
+    let offsets: Vec<usize> = diags.iter().map(|d| d.start).collect(alloc)?;
+    positions_of(alloc, text, offsets.as_slice(), Encoding::Utf16)
 }
 
-fn end_offsets(alloc: Global, diags: &[Diag]) -> Result<Vec<usize>, AllocError>
-    ensures { IfOk result (λ offsets. offsets.items ≡ map (λ d. d.end) diags.now) }
+// The positions at which they end.
+fn end_positions(alloc: Global, text: &str, diags: &[Diag]) -> Result<Vec<Position>, AllocError>
+    ensures { IfOk result (λ places. places.items ≡ map (position_of Encoding.Utf16 text.now) (map (λ d. d.end) diags.now)) }
 {
-    diags.iter().map(|d| d.end).collect(alloc)
+    let offsets: Vec<usize> = diags.iter().map(|d| d.end).collect(alloc)?;
+    positions_of(alloc, text, offsets.as_slice(), Encoding::Utf16)
 }
 
 // Puts a diagnostic between these positions at the end.
@@ -52,15 +60,13 @@ fn push_diagnostic(
 // Some diagnostics of a text at their positions.
 pub(crate) fn placed(
     alloc: Global,
-    text: &Text,
+    text: &str,
     diags: &[Diag],
 ) -> Result<Vec<Diagnostic<'static>>, AllocError>
     ensures { IfOk result (λ found. map diagnostic_view found.items ≡ placed text.now diags.now) }
 {
-    let start_offsets = start_offsets(alloc, diags)?;
-    let end_offsets = end_offsets(alloc, diags)?;
-    let starts = text.positions_of(alloc, start_offsets.as_slice(), Encoding::Utf16)?;
-    let ends = text.positions_of(alloc, end_offsets.as_slice(), Encoding::Utf16)?;
+    let starts = start_positions(alloc, text, diags)?;
+    let ends = end_positions(alloc, text, diags)?;
     let found = between(alloc, text, diags, starts.as_slice(), ends.as_slice())?;
     Ok(found)
 }
@@ -68,7 +74,7 @@ pub(crate) fn placed(
 // Some diagnostics of a text, at whose ends these positions stand.
 fn between(
     alloc: Global,
-    text: &Text,
+    text: &str,
     diags: &[Diag],
     starts: &[Position],
     ends: &[Position],

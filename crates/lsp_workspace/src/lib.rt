@@ -16,7 +16,10 @@ mod reports;
 
 pub use disk::DiskFile;
 pub use files::{Document, FileEntry, Files, change, close, from_disk, get, open, save};
-pub use laws::texts_are_of_the_workspace;
+pub use laws::{
+    files_in_path_order_are_apart, files_stay_in_path_order, reports_agree_with_documents,
+    texts_are_of_the_workspace,
+};
 pub use lines::{has_errors, listing};
 pub use linked::{Linked, link};
 pub use reports::{document_diagnostics, workspace_reports};

@@ -7,8 +7,9 @@ ghost use Rattle.work_index.specs.Pieces.{workspace_of};
 ghost use Rattle.work_index.specs.Workspace.{analysis};
 ghost use Rattle.lsp_workspace.specs.Listing.{place_of, words_of, line_at, line_of, lines_of, listing, is_error, has_errors};
 
+use crate::diagnostics::start_positions;
 use crate::linked::Linked;
-use doc_text::{Encoding, Position, Text};
+use doc_text::{Encoding, Position};
 use itoa::Buffer;
 use piece_collector::Piece;
 use proto_facts::{Diag, Message};
@@ -62,12 +63,6 @@ fn push_line(
     Ok(())
 }
 
-fn start_offsets(alloc: Global, diags: &[Diag]) -> Result<Vec<usize>, AllocError>
-    ensures { IfOk result (λ offsets. offsets.items ≡ map (λ d. d.start) diags.now) }
-{
-    diags.iter().map(|d| d.start).collect(alloc)
-}
-
 // Adds the lines of some diagnostics of a file, which start at these positions.
 fn push_lines_at(
     out: &mut Vec<u8>,
@@ -95,12 +90,7 @@ fn push_lines(
 ) -> Result<(), AllocError>
     ensures { OnOk result (out.new.items ≡ out.old.items ++ flat_map (line_of path.now text.now) diags.now) }
 {
-    if diags.is_empty() {
-        return Ok(());
-    }
-    let offsets = start_offsets(alloc, diags)?;
-    let whole = Text::new(String::from_str(alloc, text)?);
-    let places = whole.positions_of(alloc, offsets.as_slice(), Encoding::Utf16)?;
+    let places = start_positions(alloc, text, diags)?;
     push_lines_at(out, path, text, diags, places.as_slice())?;
     Ok(())
 }

@@ -1,18 +1,20 @@
 // The work on the files of a workspace, and their analysis.
-ghost use Rattle.std.specs.Prelude.{◌≡◌, ◌++◌, ◌∷◌, [], take, IfOk, IfSome, OnOk, IsTrue};
+ghost use Rattle.std.specs.Prelude.{◌≡◌, ◌<◌, ◌++◌, ◌∷◌, [], length, take, IfOk, IfSome, OnOk, IsTrue};
 ghost use Rattle.piece_collector.specs.Board.{Ascends};
+ghost use Rattle.work_index.specs.Changes.{with_text};
 ghost use Rattle.work_index.specs.Pieces.{workspace_of};
 ghost use Rattle.work_index.specs.Workspace.{analysis};
 ghost use Rattle.lsp_workspace.specs.Files.{workspace};
 ghost use Rattle.lsp_workspace.specs.View.{file_view, files_view};
 
-use crate::files::{FileEntry, Files};
+use crate::files::{FileEntry, Files, get};
+use doc_text::Text;
 use piece_collector::{Job, Piece};
 use proto_facts::Diag;
 use std::alloc::{AllocError, Global};
 use std::collections::BTreeMap;
 use std::marker::Model;
-use work_index::{Analysis, FileWork, analyse_here};
+use work_index::{Analysis, FileWork, analyse_again, analyse_here};
 
 /// The analysis of a workspace, with the work on each of its files. Contracts see it as the workspace: the paths of its
 /// files, each with its text.
@@ -24,6 +26,7 @@ pub struct Linked {
 
 impl Model for Linked {
     ghost use Rattle.std.specs.Prelude.{◌≡◌};
+    ghost use Rattle.piece_collector.specs.Board.{Ascends};
     ghost use Rattle.work_index.specs.Pieces.{workspace_of};
     ghost use Rattle.work_index.specs.Workspace as known;
 
@@ -31,7 +34,7 @@ impl Model for Linked {
 
     ghost view = { λ linked. workspace_of linked.pieces.items };
 
-    ghost invariant = { λ linked. linked.analysis ≡ known.analysis (workspace_of linked.pieces.items) };
+    ghost invariant = { λ linked. (linked.analysis ≡ known.analysis (workspace_of linked.pieces.items)) × Ascends linked.pieces.items };
 }
 
 impl Linked {
@@ -193,14 +196,79 @@ fn link_with(
     Ok(Linked { pieces, analysis })
 }
 
+// The text of the file at a path.
+fn text_at<'f>(files: &'f Files, path: &str) -> Option<&'f Text> {
+    match get(files, path) {
+        Some(file) => file.text(),
+        None => None,
+    }
+}
+
+// Whether the work is that on the text that is at its path.
+fn is_current(piece: &Piece<FileWork>, files: &Files) -> bool {
+    match text_at(files, piece.path()) {
+        Some(text) => text.as_str() == piece.text(),
+        None => false,
+    }
+}
+
+// The number of the piece that is not the work on the text at its path, if there is one alone.
+fn only_changed(pieces: &[Piece<FileWork>], files: &Files) -> Option<usize>
+    ensures { IfSome result (λ number. number < length pieces.now) }
+{
+    let mut found = None;
+    for (number, piece) in pieces.iter().enumerate() {
+        if !is_current(piece, files) {
+            if found.is_some() {
+                return None;
+            }
+            found = Some(number);
+        }
+    }
+    found
+}
+
+// The analysis after a change of a text, given the number of its file.
+fn changed_at(
+    alloc: Global,
+    linked: Linked,
+    number: usize,
+    text: &str,
+) -> Result<Linked, AllocError>
+    requires { number < length linked }
+    ensures { IfOk result (λ changed. changed ≡ with_text linked number text.now) }
+{
+    let Linked {
+        mut pieces,
+        analysis,
+    } = linked;
+    let piece = work_on(alloc, pieces[number].path(), text)?;
+    pieces[number] = piece;
+    let analysis = analyse_again(alloc, analysis, number, pieces.as_slice())?;
+    Ok(Linked { pieces, analysis })
+}
+
+// The analysis after the change of a text, if one text alone is another than before.
+fn follow(alloc: Global, linked: Linked, files: &Files) -> Result<Linked, AllocError> {
+    let Some(number) = only_changed(linked.pieces.as_slice(), files) else {
+        return Ok(linked);
+    };
+    match text_at(files, linked.pieces[number].path()) {
+        Some(text) => changed_at(alloc, linked, number, text.as_str()),
+        None => Ok(linked),
+    }
+}
+
 /// The analysis of the files. Where that of an earlier state of them is given, the work on each text that stayed is kept,
-/// and the whole analysis where all texts did. An `Err` comes only where memory was refused.
+/// and the whole analysis where all texts did; where one text alone changed and imports what it did, the links of the files that
+/// see no change are kept. An `Err` comes only where memory was refused.
 pub fn link(alloc: Global, earlier: Option<Linked>, files: &Files) -> Result<Linked, AllocError>
     ensures { IfOk result (λ linked. linked ≡ workspace (files_view files.now.entries)) }
 {
     let Some(linked) = earlier else {
         return link_with(alloc, BTreeMap::new(alloc), files);
     };
+    let linked = follow(alloc, linked, files)?;
     if are_of(linked.pieces.as_slice(), files) {
         return Ok(linked);
     }

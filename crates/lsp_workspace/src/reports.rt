@@ -32,23 +32,7 @@ pub fn document_diagnostics(
 ) -> Result<Vec<Diagnostic<'static>>, AllocError>
     ensures { IfOk result (λ found. map diagnostic_view found.items ≡ placed text.now (diags_at (analysis linked.now) path.now)) }
 {
-    placed(alloc, text, linked.analysis().diagnostics_at(path))
-}
-
-// Some diagnostics of a text at their positions.
-pub(crate) fn placed_in(
-    alloc: Global,
-    text: &str,
-    diags: &[Diag],
-) -> Result<Vec<Diagnostic<'static>>, AllocError>
-    ensures { IfOk result (λ found. map diagnostic_view found.items ≡ placed text.now diags.now) }
-{
-    if diags.is_empty() {
-        return Ok(Vec::new(alloc));
-    }
-    let text = Text::new(String::from_str(alloc, text)?);
-    let found = placed(alloc, &text, diags)?;
-    Ok(found)
+    placed(alloc, text.as_str(), linked.analysis().diagnostics_at(path))
 }
 
 // The URI of the last open of a file, or else that of the path below the root.
@@ -90,7 +74,7 @@ fn report_of(
 {
     let file = files::get(files, piece.path());
     Ok(DocumentReport {
-        diagnostics: placed_in(alloc, piece.text(), diags)?,
+        diagnostics: placed(alloc, piece.text(), diags)?,
         uri: uri_of(alloc, root, piece.path(), file)?,
         version: version_of(file),
     })

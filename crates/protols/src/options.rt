@@ -117,7 +117,7 @@ fn check_command<'a>(alloc: Global) -> Result<Command<'a>, Error> {
 // The program with its commands.
 fn program<'a>(alloc: Global) -> Result<Command<'a>, Error> {
     let program = Command::new(alloc, "protols")
-        .about("A language server for Protocol Buffers, version 3 (proto3)")
+        .about("A language server and checker for Protocol Buffers, version 3 (proto3)")
         .override_usage(USAGE)
         .after_help(PROGRAM_HELP)
         .subcommand_required(true)

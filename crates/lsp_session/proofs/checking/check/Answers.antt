@@ -1,8 +1,7 @@
-use Rattle.std.proofs.Common.{◌≡◌, ◌∙◌, ℕ, List, subst}
-use Rattle.std.specs.Io.KnownBytes.{Appends}
+use Rattle.std.proofs.Common.{◌≡◌, ℕ, List, subst}
 use Rattle.lsp_workspace.specs.Files.{workspace}
 use Rattle.lsp_workspace.specs.Listing.{listing}
-use Rattle.lsp_session.specs.Checking.{files_of}
+use Rattle.lsp_session.specs.Configuration.{files_of}
 use Rattle.lsp_session.specs.Stream.{SendsPrefix}
 use Rattle.lsp_session.proofs.checking.check.Goals as goal
 

@@ -1,0 +1,55 @@
+-- The reports of all files beside what is said of each document.
+use Rattle.std.proofs.Common.{◌≡◌, ℕ, ◌+◌, List, [], ◌∷◌, false, map, nat_cmp, refl, sym, ap, ◌∙◌}
+use Rattle.std.specs.Prelude.{slice_index_or, bytes_eq}
+use Rattle.std.specs.List.{enumerate_from, position_from}
+use Rattle.std.specs.List.Sorted.{IsStrictlySortedBy}
+use Rattle.std.specs.Option.{option_map_or}
+use Rattle.std.specs.Ordering.{is_eq}
+use Rattle.std.specs.Cmp.Lexicographic.{slice_cmp, bytes_decides}
+use Rattle.std.specs.declared.cmp.Ordering.TheVariants.{Less}
+use Rattle.std.proofs.lemmas.Iterator.Adapters.{position_from-zero}
+use Rattle.std.proofs.lemmas.Map.Text.{is_eq-slice_cmp}
+use Rattle.std.proofs.lemmas.Simd.{map-map}
+use Rattle.lsp_rpc.specs.Diagnostic.{DiagnosticData}
+use Rattle.lsp_rpc.specs.Workspace.{DocumentData}
+use Rattle.proto_facts.specs.declared.diagnostic.Diag.{Diag}
+use Rattle.work_index.specs.Workspace.{Workspace, AnalysisData, analysis, diags_at}
+use Rattle.lsp_workspace.specs.Diagnostics.{placed}
+use Rattle.lsp_workspace.specs.Files.{Files, AreInPathOrder, workspace}
+use Rattle.lsp_workspace.specs.Reports.{document_diagnostics, numbered_report, workspace_reports}
+use Rattle.lsp_workspace.proofs.PathOrder.{AreBehind, Ascend, paths, ascend-workspace}
+
+another_path : (p q : List ℕ) → slice_cmp nat_cmp p q ≡ Less → bytes_eq p q ≡ false
+another_path p q less = sym (is_eq-slice_cmp p q) ∙ ap is_eq less
+
+module _ (diags : List (List Diag)) where
+  -- what is wrong in the file with a path among these, of which the first has the number n
+  abbrev found_from : ℕ → List (List ℕ) → List ℕ × List ℕ → List DiagnosticData
+  found_from n ps file = placed file.1 (option_map_or (λ number. slice_index_or diags number []) (position_from (λ p. bytes_eq p file.0) n ps) [])
+
+  -- the same, given its number
+  abbrev found_at : ℕ × (List ℕ × List ℕ) → List DiagnosticData
+  found_at file = placed file.1.1 (slice_index_or diags file.0 [])
+
+  -- a path before those of the files is no file's
+  pass-one : (n : ℕ) (p : List ℕ) (ps : List (List ℕ)) (w : Workspace) → AreBehind p (paths w) → map (found_from n (p ∷ ps)) w ≡ map (found_from (n + 1) ps) w
+  pass-one n p ps [] all = refl
+  pass-one n p ps (file ∷ w) all = rw (another_path p file.0 all.0) (ap (λ l. found_from (n + 1) ps file ∷ l) (pass-one n p ps w all.1))
+
+  found-all : (n : ℕ) (w : Workspace) → Ascend w → map found_at (enumerate_from n w) ≡ map (found_from n (paths w)) w
+  unfolding IsStrictlySortedBy
+  found-all n [] order = refl
+  found-all n (file ∷ w) order =
+      rw ((bytes_decides file.0 file.0).1 refl) (ap (λ l. found_at (n, file) ∷ l) (found-all (n + 1) w order.1 ∙ sym (pass-one n file.0 (paths w) w order.0)))
+
+-- what an analysis says of each file by its path
+by_path : (a : AnalysisData) (w : Workspace) → a.paths ≡ paths w → map (found_from a.diagnostics 0 (paths w)) w ≡ map (λ file. placed file.1 (diags_at a file.0)) w
+by_path a w same =
+    ap (λ ps. map (found_from a.diagnostics 0 ps) w) (sym same)
+    ∙ ap (λ f. map f w) (λ i file. placed file.1 (option_map_or (λ number. slice_index_or a.diagnostics number []) (sym (position_from-zero (λ p. bytes_eq p file.0) a.paths) i) []))
+
+pub reports_of_documents : (root : List ℕ) (files : Files) → AreInPathOrder files → map (λ report. report.diagnostics) (workspace_reports root files) ≡ map (λ file. document_diagnostics files file.0 file.1) (workspace files)
+reports_of_documents root files order =
+    let w = workspace files in
+    let a = analysis w in
+    map-map (λ (report : DocumentData). report.diagnostics) (numbered_report root files a) (enumerate_from 0 w) ∙ found-all a.diagnostics 0 w (ascend-workspace files order) ∙ by_path a w refl
