@@ -20,11 +20,14 @@ build: need-rt
 	@cd crates/protols && rm -f out/protols && rt run < /dev/null; test -x out/protols
 	@echo "the program is $(PROGRAM)"
 
-# Runs the stored stream of an editor, and compares the replies with the stored ones.
+# Runs the stored stream of an editor, and checks the example tree. What is written has to be what is stored.
 run: build
 	$(PROGRAM) serve < crates/protols/stdin > out.frames; status=$$?; \
 	  cat out.frames; echo; cmp out.frames crates/protols/stdout; same=$$?; rm -f out.frames; \
 	  test $$status -eq 0 -a $$same -eq 0 && echo "the replies are the stored ones, and the status is 0"
+	$(PROGRAM) check --root examples/protos > out.lines; status=$$?; \
+	  cat out.lines; cmp out.lines examples/check.stdout; same=$$?; rm -f out.lines; \
+	  test $$status -eq 1 -a $$same -eq 0 && echo "the lines are the stored ones, and the status is 1: shop/faulty.proto is wrong on purpose"
 
 # The gate: every proof, must-fail edit and test from nothing, and then the project's own tests.
 test: need-rt

@@ -56,12 +56,12 @@ def rattle_program(name, libraries):
     return str(executable)
 
 
-def c_program(source):
-    """Compiles a C file as the kit compiles its programs, and gives the path of the executable."""
+def c_program(source, libraries=()):
+    """Compiles a C file with these libraries as the kit compiles its programs, and gives the path of the executable."""
     source = pathlib.Path(source)
     WORK.mkdir(parents=True, exist_ok=True)
     executable = WORK / f"{source.parent.name}_{source.stem}"
-    subprocess.run(["gcc", "-O2", "-march=x86-64-v2", "-o", str(executable), str(source)], check=True)
+    subprocess.run(["gcc", "-O2", "-march=x86-64-v2", "-o", str(executable), str(source), *map(str, libraries)], check=True)
     return str(executable)
 
 
