@@ -12,6 +12,7 @@ use Rattle.proto_syntax.specs.declared.node.Span.{Span}
 use Rattle.proto_syntax.specs.Names.{joined as all_names, names_step, names_of, names_in}
 use Rattle.proto_syntax.specs.Identifiers.{IsIdentifierAt, NamesAreIdentifiers}
 use Rattle.proto_syntax.specs.Read.{empty_tree, read, value_tree}
+use Rattle.proto_syntax.proofs.TokenNames.{no_dot}
 use Rattle.proto_facts.specs.declared.diagnostic.Diag.{Diag}
 use Rattle.proto_facts.specs.declared.fact.Decl.{Decl}
 use Rattle.proto_facts.specs.declared.fact.DeclKind.{DeclKind}
@@ -207,7 +208,7 @@ no_dot_at : (text : List ℕ) (s : Span) → IsIdentifierAt text s → HasNoDotA
 no_dot_at text s is = by (nat_le s.start s.«end» && (is_boundary text s.start && is_boundary text s.«end»))
   where
     by : (b : Bool) → HasNoDot (cond {A = List ℕ} b (slice_range text s.start s.«end») [])
-    by true = let name = is.bytes in name.no_dot
+    by true = no_dot (slice_range text s.start s.«end») is.bytes
     by false = All-nil (λ c. c ≢ 46)
 
 pub names-nest : read [] ≡ empty_tree → NamesAreIdentifiers → (text : List ℕ) → NamesNest (facts_of text)

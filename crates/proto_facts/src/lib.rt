@@ -5,7 +5,7 @@
 //! defined in specs/Facts.antt. Each kind of diagnostic has one definition: 201 to 204 in specs/Diags.antt, 312 to 317
 //! in specs/Facts.antt, the others in specs/Checks.antt. `in_order` puts diagnostics of whatever source into the order in
 //! which a file lists them. The declarations of a text stand by the offsets of their names, as the law `decls_in_order` says.
-//! Names are made of bytes without a dot, as the law `names_are_identifiers` says.
+//! Names are made of identifiers, as the law `names_are_identifiers` says.
 #![tactic(auto)]
 
 mod bodies;

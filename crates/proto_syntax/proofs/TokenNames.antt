@@ -65,12 +65,10 @@ letter_no_dot c letter same = let other : class.Symbol ≡ class.Letter = sym do
 name_no_dot : (c : ℕ) → is_name_byte c ≡ true → c ≢ 46
 name_no_dot c name same = false≢true (sym no_name_byte ∙ sym (ap is_name_byte same) ∙ name)
 
-identifier : (bs : List ℕ) → IsIdentForm bs → IsIdentifier bs
-identifier [] form = absurd form
-identifier (c ∷ bs) form = record {
-  some = λ e. cc (e);
-  no_dot = All-cons (λ c. c ≢ 46) c bs (letter_no_dot c form.0) (All-weaker (λ c. is_name_byte c ≡ true) (λ c. c ≢ 46) name_no_dot bs form.1);
-}
+-- no byte of an identifier is a dot
+pub no_dot : (bs : List ℕ) → IsIdentifier bs → All (λ c. c ≢ 46) bs
+no_dot [] form = absurd form
+no_dot (c ∷ bs) form = All-cons (λ c. c ≢ 46) c bs (letter_no_dot c form.0) (All-weaker (λ c. is_name_byte c ≡ true) (λ c. c ≢ 46) name_no_dot bs form.1)
 
 -- ---- tokens
 
@@ -94,7 +92,7 @@ module _ (text : List ℕ) where
   token-of_text : (t : Token) → IsKnown t → IsOfText (lexeme_of text t)
   token-of_text t h is = record {
     ordered = omega (arith, h.0.ordered);
-    bytes = identifier (slice_range text t.start t.«end») (of_ident t.kind (slice_range text t.start t.«end») h.0.token.form is);
+    bytes = of_ident t.kind (slice_range text t.start t.«end») h.0.token.form is;
     cut = h.1;
   }
 

@@ -1,14 +1,15 @@
 -- Identifiers, and the names of a text that are made of them.
-use Rattle.std.specs.Prelude.{◌≢◌, ℕ, ◌≤◌, List, [], All, IsUtf8, IsCharBoundary, slice_range}
+use Rattle.std.specs.Prelude.{ℕ, ◌≤◌, List, All, IsUtf8, IsCharBoundary, slice_range}
+use Rattle.proto_lex.specs.declared.token.Kind.TheVariants.{Ident}
+use Rattle.proto_lex.specs.Forms.{IsForm}
 use Rattle.proto_syntax.specs.declared.node.Node.{Node}
 use Rattle.proto_syntax.specs.declared.node.Span.{Span}
 use Rattle.proto_syntax.specs.Names.{names_in, type_components_in, package_components_in}
 use Rattle.proto_syntax.specs.Read.{read}
 
--- some bytes without a dot
-pub record IsIdentifier (name : List ℕ) : Type 0 where
-  pub some : name ≢ []
-  pub no_dot : All (λ c. c ≢ 46) name
+-- a letter or an underscore, and then letters, digits and underscores alone
+abbrev pub IsIdentifier : List ℕ → Type 0
+IsIdentifier name = IsForm Ident name
 
 -- the bytes of the span are an identifier, and UTF-8 text may be cut at its ends
 pub record IsIdentifierAt (text : List ℕ) (s : Span) : Type 0 where

@@ -11,7 +11,7 @@
 //! specs/Grammar.antt says. That all that is spelled so is read, no law says. `size_law`: a text of over 16,777,216
 //! bytes has the tree of the empty text. `names_law`: the names that statements declare, those inside a block behind the
 //! block's own, start at ascending offsets. `type_names_law`: so do the names of types, and their components.
-//! `identifiers_law`: declared names, and the components of types and packages, are some bytes of the text without a dot.
+//! `identifiers_law`: declared names, and the components of types and packages, are identifiers of the text.
 #![tactic(auto)]
 
 mod cut;
