@@ -13,3 +13,4 @@ pub mod Descents
 pub mod PathOrder
 pub mod Turns
 pub mod Mutual
+pub mod Outlooks

@@ -8,3 +8,4 @@ pub mod Fronts
 pub mod Tours
 pub mod Components
 pub mod Ties
+pub mod Outlooks

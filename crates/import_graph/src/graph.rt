@@ -84,6 +84,14 @@ impl Graph {
         self.files[file].links.as_slice()[import].target
     }
 
+    // How many imports a file has.
+    pub(crate) fn import_count(&self, file: FileNo) -> usize
+        requires { file < length self.now }
+        ensures { result ≡ length (links_at self.now file) }
+    {
+        self.files[file].links.as_slice().len()
+    }
+
     /// The numbers of the files that a file sees, ascending, each once: itself, its imports, and what public imports lead
     /// to from there. `Err` where memory was refused.
     pub fn visible(&self, file: FileNo) -> Result<Vec<FileNo>, AllocError>

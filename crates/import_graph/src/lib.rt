@@ -15,6 +15,7 @@ mod front;
 mod graph;
 mod laws;
 mod links;
+mod outlook;
 mod paths;
 #[cfg(test)]
 mod tests;
@@ -24,4 +25,5 @@ mod tour;
 pub use graph::Graph;
 pub use laws::{closure_law, one_view, view_law};
 pub use links::{Link, LinkedFile};
+pub use outlook::look_alike;
 pub use paths::{FileNo, NamedFacts, are_in_path_order};

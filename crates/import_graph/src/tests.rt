@@ -6,6 +6,7 @@ ghost use Rattle.import_graph.specs.Links.{graph_of, links_at};
 
 use crate::graph::Graph;
 use crate::laws::{closure_law, one_view, view_law};
+use crate::outlook::look_alike;
 use crate::paths::{FileNo, NamedFacts, are_in_path_order};
 use proto_facts::{Name, facts};
 use proto_lex::lex;
@@ -74,12 +75,17 @@ fn show_file(
     Ok(())
 }
 
-// The graph of files as text.
-fn shown(rt: &HostRuntime, texts: &[(&str, &str)]) -> Result<String, Fail> {
+fn files_of(rt: &HostRuntime, texts: &[(&str, &str)]) -> Result<Vec<NamedFacts>, Fail> {
     let mut files = Vec::new(rt.alloc());
     for (path, rest) in texts {
         files.push(file(rt, path, rest)?)?;
     }
+    Ok(files)
+}
+
+// The graph of files as text.
+fn shown(rt: &HostRuntime, texts: &[(&str, &str)]) -> Result<String, Fail> {
+    let files = files_of(rt, texts)?;
     if !are_in_path_order(files.as_slice()) {
         return Ok(String::from_str(rt.alloc(), "not in order")?);
     }
@@ -287,6 +293,90 @@ fn closing_imports_of_all(rt: &HostRuntime, files: &[NamedFacts]) -> Result<u32,
 fn imports_of_a_long_ring_close_cycles(rt: HostRuntime) -> Result<(), Fail> {
     let files = ring(&rt)?;
     assert_eq!(rt; closing_imports_of_all(&rt, files.as_slice())?, 2 * RING);
+    Ok(())
+}
+
+// For each file `=` where two graphs say the same of it, and else `!`.
+fn compared(
+    rt: &HostRuntime,
+    before: &[(&str, &str)],
+    after: &[(&str, &str)],
+) -> Result<String, Fail> {
+    let old = files_of(rt, before)?;
+    let new = files_of(rt, after)?;
+    let mut line = String::new(rt.alloc());
+    if !are_in_path_order(old.as_slice()) || !are_in_path_order(new.as_slice()) {
+        return Ok(line);
+    }
+    let old = Graph::of(rt.alloc(), old.as_slice())?;
+    let new = Graph::of(rt.alloc(), new.as_slice())?;
+    for file in 0..before.len().min(after.len()) {
+        line.push(if look_alike(&old, &new, file)? {
+            '='
+        } else {
+            '!'
+        })?;
+    }
+    Ok(line)
+}
+
+const CHAIN: &[(&str, &str)] = &[
+    ("a.proto", "import \"b.proto\";\n"),
+    ("b.proto", "import public \"c.proto\";\n"),
+    ("c.proto", "import \"d.proto\";\n"),
+    ("d.proto", ""),
+];
+
+// Files after a change of the chain, and which of them look as before.
+const CHANGES: &[Case] = &[
+    (CHAIN, "===="),
+    // What is no longer seen through b is missed by a alone.
+    (
+        &[
+            ("a.proto", "import \"b.proto\";\n"),
+            ("b.proto", "import \"c.proto\";\n"),
+            ("c.proto", "import \"d.proto\";\n"),
+            ("d.proto", ""),
+        ],
+        "!===",
+    ),
+    // A cycle is closed by each of its imports.
+    (
+        &[
+            ("a.proto", "import \"b.proto\";\n"),
+            ("b.proto", "import public \"c.proto\";\n"),
+            ("c.proto", "import \"d.proto\";\n"),
+            ("d.proto", "import \"a.proto\";\n"),
+        ],
+        "!!!!",
+    ),
+    // An import of nothing opens the views of those that see it.
+    (
+        &[
+            ("a.proto", "import \"b.proto\";\n"),
+            ("b.proto", "import public \"c.proto\";\n"),
+            ("c.proto", "import \"none.proto\";\n"),
+            ("d.proto", ""),
+        ],
+        "!!!=",
+    ),
+    (
+        &[
+            ("a.proto", "import \"b.proto\";\n"),
+            ("b.proto", "import public \"c.proto\";\n"),
+            ("c.proto", "import \"d.proto\";\n"),
+            ("d.proto", "import \"d.proto\";\n"),
+        ],
+        "===!",
+    ),
+];
+
+#[test]
+fn files_look_alike(rt: HostRuntime) -> Result<(), Fail> {
+    for (after, wanted) in CHANGES {
+        let line = compared(&rt, CHAIN, after)?;
+        assert_eq!(rt; line.as_str(), *wanted);
+    }
     Ok(())
 }
 
