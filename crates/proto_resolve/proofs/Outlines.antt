@@ -1,11 +1,11 @@
 -- What the graph and the names of files are made from: what the files say to one another.
-use Rattle.std.proofs.Common.{◌≡◌, ℕ, zero, suc, ◌+◌, ◌<◌, List, [], ◌∷◌, ◌++◌, Bool, Option, None, if◌then◌else◌, length, get_or, set, map, filter, bytes_eq, nat_eq, not, refl, sym, ap, ap₂, ◌∙◌, arith}
+use Rattle.std.proofs.Common.{◌≡◌, ℕ, zero, suc, ◌+◌, ◌<◌, List, [], ◌∷◌, ◌++◌, Bool, Option, None, if◌then◌else◌, length, get_or, set, map, filter, bytes_eq, nat_eq, not, refl, sym, ap, ap₂, subst, ◌∙◌, arith}
 use Rattle.std.specs.Prelude.{position}
 use Rattle.std.specs.List.{enumerate_from, flat_map, prefix_len, starts_with}
 use Rattle.std.proofs.Math.ListN as math
 use Rattle.std.proofs.Math.Path.{fun_ext}
 use Rattle.std.proofs.Math.Seq.{map-set_same}
-use Rattle.std.proofs.lemmas.List.{length-map, get_or-map}
+use Rattle.std.proofs.lemmas.List.{length-map, length-set, get_or-map}
 use Rattle.std.proofs.lemmas.Simd.{map-map}
 use Rattle.proto_facts.specs.declared.fact.Decl.{Decl}
 use Rattle.proto_facts.specs.declared.fact.DeclKind.{DeclKind}
@@ -14,10 +14,10 @@ use Rattle.import_graph.specs.declared.links.Link.{Link}
 use Rattle.import_graph.specs.declared.links.LinkedFile.{LinkedFile}
 use Rattle.import_graph.specs.declared.paths.NamedFacts.{NamedFacts}
 use Rattle.import_graph.specs.Links.{graph_of, links_of, linked}
-use Rattle.import_graph.specs.Paths.{slash}
+use Rattle.import_graph.specs.Paths.{IsInPathOrder, slash}
 use Rattle.proto_resolve.specs.declared.target.DeclRef.{DeclRef}
 use Rattle.proto_resolve.specs.Files.{all_decls, all_named, decl_at, facts_at, no_decl, no_facts}
-use Rattle.proto_resolve.specs.Outlines.{declared, imported, import_outline}
+use Rattle.proto_resolve.specs.Outlines.{declared, imported, import_outline, with_facts}
 use Rattle.proto_resolve.specs.Seen.{told}
 use Rattle.proto_resolve.proofs.Order.{numbered, refs}
 
@@ -124,3 +124,25 @@ module _ (files : List NamedFacts) (f : ℕ) (file : NamedFacts) (facts : FileFa
 
   pub keeps_telling : told facts ≡ told (facts_at files f) → map telling (set files f (record { path = file.path; facts = facts })) ≡ map telling files
   keeps_telling same = map-set_same telling files f (record { path = file.path; facts = facts }) file (same ∙ ap told (here files f file there is) ∙ ap telling is)
+
+-- ---- the order of the files
+
+same_path : (files : List NamedFacts) (f : ℕ) (facts : FileFacts) (i : ℕ) (other : NamedFacts) → i < length files
+    → (let now = get_or (with_facts files f facts) i other in now.path) ≡ (let was = get_or files i other in was.path)
+same_path [] f facts i other there = absurd (omega (arith, there))
+same_path (x ∷ files) zero facts zero other there = refl
+same_path (x ∷ files) zero facts (suc i) other there = refl
+same_path (x ∷ files) (suc f) facts zero other there = refl
+same_path (x ∷ files) (suc f) facts (suc i) other there = same_path files f facts i other (omega (arith, there))
+
+stays_in_order : (files : List NamedFacts) (f : ℕ) (facts : FileFacts) → IsInPathOrder files → IsInPathOrder (with_facts files f facts)
+stays_in_order files f facts ordered i j other before there =
+    let there' : j < length files = omega (arith, there, length-set files f (record { path = get_or (map (λ x. x.path) files) f []; facts = facts })) in
+    rw (same_path files f facts i other (omega (arith, before, there')), same_path files f facts j other there') (ordered i j other before there')
+
+-- the same where the file's path is known
+pub still_in_order : (files : List NamedFacts) (f : ℕ) (file : NamedFacts) (facts : FileFacts) → f < length files → file ≡ get_or files f file
+    → IsInPathOrder files → IsInPathOrder (set files f (record { path = file.path; facts = facts }))
+still_in_order files f file facts there is ordered =
+    let path : get_or (map (λ x. x.path) files) f [] ≡ file.path = get_or-map (λ x. x.path) files f file [] there ∙ sym (ap (λ x. x.path) is) in
+    subst (λ fs. IsInPathOrder fs) (ap (λ p. set files f (record { path = p; facts = facts })) path) (stays_in_order files f facts ordered)

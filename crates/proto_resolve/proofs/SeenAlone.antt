@@ -22,6 +22,8 @@ use Rattle.import_graph.specs.declared.links.LinkedFile.{LinkedFile}
 use Rattle.import_graph.specs.declared.paths.NamedFacts.{NamedFacts}
 use Rattle.import_graph.specs.Links.{graph_of, links_of, target_at}
 use Rattle.import_graph.specs.Closures.{closes_cycle, is_closed, view_of}
+use Rattle.import_graph.specs.Outlooks.{import_outlook, imports_outlook}
+use Rattle.import_graph.proofs.Outlooks.{said_at}
 use Rattle.proto_resolve.specs.declared.resolve.Links.{Links}
 use Rattle.proto_resolve.specs.declared.site.NameSite.{NameSite}
 use Rattle.proto_resolve.specs.declared.site.Needs.TheVariants as needs
@@ -207,15 +209,25 @@ module _ (old new : List NamedFacts) (f : ℕ) (view : List ℕ) (lengths : leng
 
 -- ---- the whole
 
-target_faults_alike : (old new : List NamedFacts) (f : ℕ) → graph_of old ≡ graph_of new → (i : ImportFact) (t : Option ℕ)
-    → faults_of_target old f i t ≡ faults_of_target new f i t
-target_faults_alike old new f graph i None = refl
-target_faults_alike old new f graph i (Some g) = ap (λ (gr : List LinkedFile). if closes_cycle gr f (Some g) then diag m.ImportCycle i.span ∷ [] else []) graph
+-- the faults of an import by what it names and whether it closes a cycle
+abbrev import_faults_by : ImportFact → Option ℕ × Bool → List Diag
+import_faults_by i (None, closes) = diag m.ImportNotFound i.span ∷ []
+import_faults_by i (Some g, closes) = if closes then diag m.ImportCycle i.span ∷ [] else []
 
-import_faults_alike : (old new : List NamedFacts) (f : ℕ) → graph_of old ≡ graph_of new → (e : ℕ × ImportFact) → import_faults old f e ≡ import_faults new f e
-import_faults_alike old new f graph e =
-    ap (λ (gr : List LinkedFile). faults_of_target old f e.1 (target_at gr f e.0)) graph
-    ∙ target_faults_alike old new f graph e.1 (target_at (graph_of new) f e.0)
+target_faults : (files : List NamedFacts) (f : ℕ) (i : ImportFact) (t : Option ℕ) → faults_of_target files f i t ≡ import_faults_by i (import_outlook (graph_of files) f t)
+target_faults files f i None = refl
+target_faults files f i (Some g) = refl
+
+import_faults_said : (files : List NamedFacts) (f : ℕ) (e : ℕ × ImportFact) → import_faults files f e ≡ import_faults_by e.1 (get_or (imports_outlook (graph_of files) f) e.0 (None, false))
+import_faults_said files f e =
+    target_faults files f e.1 (target_at (graph_of files) f e.0)
+    ∙ ap (import_faults_by e.1) (sym (said_at (graph_of files) f e.0))
+
+import_faults_alike : (old new : List NamedFacts) (f : ℕ) → imports_outlook (graph_of old) f ≡ imports_outlook (graph_of new) f → (e : ℕ × ImportFact) → import_faults old f e ≡ import_faults new f e
+import_faults_alike old new f same e =
+    import_faults_said old f e
+    ∙ ap (λ (said : List (Option ℕ × Bool)). import_faults_by e.1 (get_or said e.0 (None, false))) same
+    ∙ sym (import_faults_said new f e)
 
 abbrev faults_by : Bool → FileFacts → (NameSite → List Diag) → (ℕ × ImportFact → List Diag) → (Decl → List Diag) → List NameSite → List Diag
 faults_by closed facts of_names of_imports of_decls sites =
@@ -228,36 +240,40 @@ module _ (old new : List NamedFacts) (f : ℕ) (same : SeesTheSame old new f) (t
   abbrev sites : List NameSite
   sites = sites_at new f text tree
 
-  lengths : length old ≡ length new
-  lengths =
-      sym (length-map old (λ x. links_of old x.facts))
-      ∙ ap (λ (graph : List LinkedFile). length graph) same.graph
-      ∙ length-map new (λ x. links_of new x.facts)
+  view_same : view_of (graph_of old) f ≡ view
+  view_same = ap (λ around. around.0) same.around
+
+  closed_same : is_closed (graph_of old) f ≡ is_closed (graph_of new) f
+  closed_same = ap (λ around. around.1.0) same.around
+
+  imports_same : imports_outlook (graph_of old) f ≡ imports_outlook (graph_of new) f
+  imports_same = ap (λ around. around.1.1) same.around
 
   uses_same : uses old f (view_of (graph_of old) f) (sites_at old f text tree) ≡ uses new f view sites
   uses_same =
-      ap (λ (graph : List LinkedFile). uses old f (view_of graph f) (sites_at old f text tree)) same.graph
+      ap (λ (seen : List ℕ). uses old f seen (sites_at old f text tree)) view_same
       ∙ ap (λ (facts : FileFacts). uses old f view (names_of_file text facts tree.nodes)) same.own
-      ∙ uses_alike old new f view lengths same.own same.seen sites
+      ∙ uses_alike old new f view same.files same.own same.seen sites
 
-  -- the faults by the files as they were, by a graph and the facts of f
-  abbrev old_faults : List LinkedFile → FileFacts → List Diag
-  old_faults graph facts =
-      faults_by (is_closed graph f) facts (name_faults old f (view_of graph f)) (import_faults old f) (decl_faults old f (view_of graph f)) (names_of_file text facts tree.nodes)
+  -- the faults by the files as they were, by a view, whether it is closed, and the facts of f
+  abbrev old_faults : List ℕ → Bool → FileFacts → List Diag
+  old_faults seen closed facts =
+      faults_by closed facts (name_faults old f seen) (import_faults old f) (decl_faults old f seen) (names_of_file text facts tree.nodes)
 
   abbrev faults : (NameSite → List Diag) → (ℕ × ImportFact → List Diag) → (Decl → List Diag) → List Diag
   faults of_names of_imports of_decls = faults_by (is_closed (graph_of new) f) (facts_at new f) of_names of_imports of_decls sites
 
   faults_same : view_faults old f (sites_at old f text tree) ≡ view_faults new f sites
   faults_same =
-      ap (λ (graph : List LinkedFile). old_faults graph (facts_at old f)) same.graph
-      ∙ ap (λ (facts : FileFacts). old_faults (graph_of new) facts) same.own
+      ap (λ (seen : List ℕ). old_faults seen (is_closed (graph_of old) f) (facts_at old f)) view_same
+      ∙ ap (λ (closed : Bool). old_faults view closed (facts_at old f)) closed_same
+      ∙ ap (λ (facts : FileFacts). old_faults view (is_closed (graph_of new) f) facts) same.own
       ∙ ap (λ (of_names : NameSite → List Diag). faults of_names (import_faults old f) (decl_faults old f view))
-      (fun_ext (name_faults_alike old new f view lengths same.own same.seen))
+      (fun_ext (name_faults_alike old new f view same.files same.own same.seen))
       ∙ ap (λ (of_imports : ℕ × ImportFact → List Diag). faults (name_faults new f view) of_imports (decl_faults old f view))
-      (fun_ext (import_faults_alike old new f same.graph))
+      (fun_ext (import_faults_alike old new f imports_same))
       ∙ ap (λ (of_decls : Decl → List Diag). faults (name_faults new f view) (import_faults new f) of_decls)
-      (fun_ext (decl_faults_alike old new f view lengths same.own same.seen))
+      (fun_ext (decl_faults_alike old new f view same.files same.own same.seen))
 
   abbrev links : List NameUse → List Diag → Links
   links listed wrong = record { uses = listed; diags = in_order wrong }

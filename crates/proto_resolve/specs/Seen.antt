@@ -6,6 +6,7 @@ use Rattle.proto_facts.specs.declared.fact.DeclKind.{DeclKind}
 use Rattle.import_graph.specs.declared.paths.NamedFacts.{NamedFacts}
 use Rattle.import_graph.specs.Links.{graph_of}
 use Rattle.import_graph.specs.Closures.{view_of}
+use Rattle.import_graph.specs.Outlooks.{outlook}
 use Rattle.proto_resolve.specs.Files.{facts_at}
 use Rattle.proto_resolve.specs.Resolved.{resolved}
 
@@ -14,9 +15,11 @@ use Rattle.proto_resolve.specs.Resolved.{resolved}
 abbrev pub told : FileFacts → List (DeclKind × List ℕ) × Option (List ℕ)
 told facts = (map (λ d. (d.kind, d.full_name)) facts.decls, option_map (λ p. p.full_name) facts.«package»)
 
--- the files import each other alike, f says the same by itself, and each file that f sees says the same to it
+-- there are as many files, their imports say the same of f, f says the same by itself, and each file that f sees says the same
+-- to it
 pub record SeesTheSame (old new : List NamedFacts) (f : ℕ) : Type 0 where
-  pub graph : graph_of old ≡ graph_of new
+  pub files : length old ≡ length new
+  pub around : outlook (graph_of old) f ≡ outlook (graph_of new) f
   pub own : facts_at old f ≡ facts_at new f
   pub seen : All (λ g. told (facts_at old g) ≡ told (facts_at new g)) (view_of (graph_of new) f)
 

@@ -13,9 +13,9 @@ pub fn uses_law()
     ensures { UsesLaw }
 {}
 
-/// A law: what is known of a file by what it sees depends on no more than that. It is the same in two lists of files that import
-/// each other alike, where the file says the same by itself, and where each file that it sees has the same kinds and full names
-/// of declarations, in order, and the same package.
+/// A law: what is known of a file by what it sees depends on no more than that. It is the same in two lists of as many files,
+/// where the imports say the same of it, where the file says the same by itself, and where each file that it sees has the same
+/// kinds and full names of declarations, in order, and the same package.
 pub fn seen_law()
     ensures { SeenLaw }
 {}

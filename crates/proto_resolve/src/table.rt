@@ -1,6 +1,7 @@
 // An index that holds its files.
 ghost use Rattle.std.specs.Prelude.{◌≡◌, ◌<◌, ◌++◌, ℕ, List, filter, length, IfOk, OnOk, bytes_eq};
 ghost use Rattle.std.specs.List.{enumerate_from};
+ghost use Rattle.import_graph.specs.Links.{graph_of};
 ghost use Rattle.import_graph.specs.Paths.{IsInPathOrder};
 ghost use Rattle.proto_resolve.specs.Files.{all_decls, decl_at, facts_at, refs_of};
 ghost use Rattle.proto_resolve.specs.Outlines.{import_outline, with_facts};
@@ -29,6 +30,7 @@ impl Model for Table {
     ghost use Rattle.std.specs.Prelude.{◌≡◌, ℕ, List};
     ghost use Rattle.import_graph.specs.declared.paths.NamedFacts.{NamedFacts};
     ghost use Rattle.import_graph.specs.Links.{graph_of};
+    ghost use Rattle.import_graph.specs.Paths.{IsInPathOrder};
     ghost use Rattle.proto_resolve.specs.Files.{all_decls, all_named};
     ghost use Rattle.proto_resolve.specs.Tables.{listed};
 
@@ -36,7 +38,7 @@ impl Model for Table {
 
     ghost view = { λ t. t.files.items };
 
-    ghost invariant = { λ t. (t.graph ≡ graph_of t.files.items) × (t.decls ≡ all_decls t.files.items) × ((q : List ℕ) → listed t.names q ≡ all_named t.files.items q) };
+    ghost invariant = { λ t. (t.graph ≡ graph_of t.files.items) × (t.decls ≡ all_decls t.files.items) × ((q : List ℕ) → listed t.names q ≡ all_named t.files.items q) × IsInPathOrder t.files.items };
 }
 
 fn push_decls(file: usize, decls: &[Decl], found: &mut Items<DeclRef>) -> Result<(), AllocError>
@@ -110,6 +112,27 @@ impl Table {
         ensures { self.new ≡ with_facts self.old file facts }
     {
         self.files[file].facts = facts;
+    }
+
+    /// The table with other facts of a file, and the graph of the files before. The other files' facts are kept as they are,
+    /// and all else is made anew. An `Err` comes only where memory was refused.
+    pub fn replace_facts(
+        self,
+        alloc: Global,
+        file: usize,
+        facts: FileFacts,
+    ) -> Result<(Table, Graph), AllocError>
+        requires { file < length self }
+        ensures table { IfOk result (λ r. r.0 ≡ with_facts self file facts) }
+        ensures graph { IfOk result (λ r. r.1 ≡ graph_of self) }
+    {
+        let Table {
+            mut files,
+            graph,
+            ..
+        } = self;
+        files[file].facts = facts;
+        Ok((Table::of(alloc, files)?, graph))
     }
 
     /// All declarations, by path, then offset.

@@ -9,7 +9,7 @@ use crate::outline::{import_alike, tell_alike};
 use crate::resolve::{Links, resolve_file};
 use crate::table::Table;
 use crate::target::Target;
-use import_graph::{NamedFacts, are_in_path_order};
+use import_graph::{NamedFacts, are_in_path_order, look_alike};
 use proto_facts::{FileFacts, Name, facts};
 use proto_lex::lex;
 use proto_syntax::{FileTree, parse};
@@ -424,6 +424,29 @@ fn outlines(rt: HostRuntime) -> Result<(), Fail> {
         assert!(&rt; tell_alike(&first, &other) == *tells, "{row}");
         assert!(&rt; import_alike(&first, &other) == *imports, "{row}");
     }
+    Ok(())
+}
+
+/// Other facts take the place of a file's facts, and the graph before is given back.
+#[test]
+fn facts_that_say_another_thing(rt: HostRuntime) -> Result<(), Fail> {
+    let alloc = rt.alloc();
+    let mut files = Vec::new(alloc);
+    files.push(NamedFacts {
+        path: Name::of(String::from_str(alloc, "a.proto")?),
+        facts: facts_of(alloc, "S|message M { }|")?,
+    })?;
+    assert!(&rt; are_in_path_order(files.as_slice()));
+    let table = Table::of(alloc, files)?;
+    let other = facts_of(alloc, "S|import \"a.proto\";|message N { }|")?;
+    assert!(&rt; table.len() == 1);
+    let (table, before) = table.replace_facts(alloc, 0, other)?;
+    assert!(&rt; table.len() == 1);
+    assert!(&rt; table.named("M").is_empty() && table.named("N").len() == 1);
+    assert!(&rt; table.facts(0).imports.as_slice().len() == 1);
+    let (seen, seen_before) = (table.graph().is_closed(0)?, before.is_closed(0)?);
+    assert!(&rt; seen && seen_before);
+    assert!(&rt; !look_alike(&before, table.graph(), 0)?);
     Ok(())
 }
 

@@ -1,6 +1,6 @@
 use Rattle.std.proofs.Common.{◌≡◌, ◌<◌, List, ◌∙◌, sym, length, map, set, get_or}
 use Rattle.import_graph.specs.declared.paths.NamedFacts.{NamedFacts}
-use Rattle.proto_resolve.proofs.Outlines.{asking, telling, keeps_asking, keeps_telling, same_graph, same_decls, same_named}
+use Rattle.proto_resolve.proofs.Outlines.{asking, telling, keeps_asking, keeps_telling, same_graph, same_decls, same_named, still_in_order}
 use Rattle.proto_resolve.proofs.table.Table.set_facts.Goals as goal
 
 pub invariant_of-self : goal.invariant_of-self
@@ -14,4 +14,4 @@ invariant_of-self c =
     let is : file ≡ get_or files f file = c.index_mut.ensures.value in
     let asks : map asking files ≡ map asking new = sym (keeps_asking files f file c.args.facts there is (rw seen at c.requires.imports)) in
     let tells : map telling files ≡ map telling new = sym (keeps_telling files f file c.args.facts there is (rw seen at c.requires.told)) in
-    (c.self.invariant.0 ∙ same_graph files new asks, c.self.invariant.1 ∙ same_decls files new tells, λ q. c.self.invariant.2 q ∙ same_named files new tells q)
+    (c.self.invariant.0 ∙ same_graph files new asks, c.self.invariant.1 ∙ same_decls files new tells, λ q. c.self.invariant.2 q ∙ same_named files new tells q, still_in_order files f file c.args.facts there is c.self.invariant.3)
