@@ -1,5 +1,6 @@
 -- What a change of the text of one file leaves as it was.
-use Rattle.std.proofs.Common.{◌≡◌, ◌≢◌, ◌<◌, ◌≤◌, ◌+◌, ℕ, zero, suc, List, [], ◌∷◌, ◌++◌, Bool, true, false, not, length, get_or, set, take, drop, map, refl, sym, ap, ap₂, ◌∙◌, arith, add-one, zero-add}
+use Rattle.std.proofs.Common.{◌≡◌, ◌≢◌, ◌<◌, ◌≤◌, ◌+◌, ℕ, zero, suc, List, [], ◌∷◌, ◌++◌, Bool, true, false, not, Option, None, Some, length, get_or, set, take, drop, map, refl, sym, ap, ap₂, ◌∙◌, arith, add-one, zero-add}
+use Rattle.std.specs.Prelude.{IfSome, MatchOption}
 use Rattle.std.specs.List.{enumerate_from}
 use Rattle.std.proofs.lemmas.List.{length-map, length-set, map-set, get_or-map, get_or-set_other}
 use Rattle.std.proofs.Math.Seq.{map-set_same}
@@ -9,7 +10,10 @@ use Rattle.piece_collector.specs.Views.{TextAt}
 use Rattle.proto_syntax.specs.Read.{value_tree}
 use Rattle.proto_facts.specs.declared.fact.FileFacts.{FileFacts}
 use Rattle.proto_facts.specs.Facts.{facts_of}
+use Rattle.import_graph.specs.declared.links.LinkedFile.{LinkedFile}
 use Rattle.import_graph.specs.declared.paths.NamedFacts.{NamedFacts}
+use Rattle.import_graph.specs.Links.{graph_of}
+use Rattle.import_graph.specs.Links.{links_of as links_of_file}
 use Rattle.proto_facts.specs.declared.diagnostic.Diag.{Diag}
 use Rattle.proto_resolve.specs.declared.resolve.Links.{Links}
 use Rattle.proto_resolve.specs.Files.{all_decls, facts_at}
@@ -17,6 +21,7 @@ use Rattle.proto_resolve.specs.Outlines.{import_outline, with_facts}
 use Rattle.proto_resolve.specs.Seen.{told, SeesTheSame, SeenLaw}
 use Rattle.proto_resolve.proofs.Outlines.{asking, same_graph}
 use Rattle.work_index.specs.Changes.{DifferAt, with_text}
+use Rattle.work_index.specs.declared.again.Change.{Change}
 use Rattle.work_index.specs.Pieces.{workspace_of}
 use Rattle.work_index.specs.Workspace.{Workspace, AnalysisData, all_facts, analysis, diagnostics_of, links_of, listed, named_facts}
 
@@ -141,6 +146,19 @@ asks_alike [] f other same = refl
 asks_alike (x ∷ files) zero other same = ap (λ o. (x.path, o) ∷ map asking files) same
 asks_alike (x ∷ files) (suc f) other same = ap (λ xs. asking x ∷ xs) (asks_alike files f other same)
 
+-- a graph that is kept has as many files
+pub kept_count : (old new : List NamedFacts) (change : Change) → DifferAt old new change → IfSome change.before (λ graph. length graph ≡ length new)
+kept_count old new change differ = by change.before differ.graph
+  where
+    by : (before : Option (List LinkedFile)) → MatchOption before (graph_of old ≡ graph_of new) (λ g. g ≡ graph_of old) → IfSome before (λ graph. length graph ≡ length new)
+    by None same = tt
+    by (Some g) is = ap length is ∙ length-map old (λ f. links_of_file old f.facts) ∙ differ.files
+
+-- a graph that is kept is one that is equal to it, and where none is, what followed from that follows
+pub kept_as : (o : Option (List LinkedFile)) (A B : Type 0) (old new : List LinkedFile) → (A → B) → old ≡ new → MatchOption o A (λ g. g ≡ old) → MatchOption o B (λ g. g ≡ new)
+kept_as None A B old new follows same h = follows h
+kept_as (Some g) A B old new follows same h = h ∙ same
+
 -- ---- the workspace before the change
 
 module _ (w : Workspace) (file : ℕ) (text : List ℕ) where
@@ -160,23 +178,39 @@ module _ (w : Workspace) (file : ℕ) (text : List ℕ) where
   pub other_before : (n : ℕ) → n ≢ file → get_or before n nothing ≡ get_or w n nothing
   other_before n apart = get_or-set_other w file n _ nothing apart
 
-  pub differ : (tells : Bool) → file < length w → import_outline (facts_at (all_facts w) file) ≡ import_outline (facts_at (all_facts before) file)
-      → (tells ≡ false → told (facts_at (all_facts w) file) ≡ told (facts_at (all_facts before) file)) → DifferAt (all_facts before) (all_facts w) file tells
-  differ tells there imports quiet =
+  abbrev ImportsStay : Type 0
+  ImportsStay = import_outline (facts_at (all_facts w) file) ≡ import_outline (facts_at (all_facts before) file)
+
+  graph_stays : file < length w → ImportsStay → graph_of (all_facts before) ≡ graph_of (all_facts w)
+  graph_stays there imports =
       let within' : file < length (all_facts w) = omega (arith, there, length-map w named_facts) in
       let own : facts_at (all_facts before) file ≡ facts_of text = ap (λ files. facts_at files file) facts_before ∙ is_put (all_facts w) file (facts_of text) within' in
-      let asks : map asking (all_facts before) ≡ map asking (all_facts w) =
-      ap (λ files. map asking files) facts_before ∙ asks_alike (all_facts w) file (facts_of text) (sym (imports ∙ ap import_outline own)) in record {
-        graph = same_graph (all_facts before) (all_facts w) asks;
-        others = λ g apart. ap (λ files. facts_at files g) facts_before ∙ others_stay (all_facts w) file g (facts_of text) apart;
-        quiet = λ still. sym (quiet still);
-      }
+      same_graph (all_facts before) (all_facts w) (ap (λ files. map asking files) facts_before ∙ asks_alike (all_facts w) file (facts_of text) (sym (imports ∙ ap import_outline own)))
+
+  graph_kept : (graph : Option (List LinkedFile)) → file < length w → MatchOption graph ImportsStay (λ g. g ≡ graph_of (all_facts before))
+      → MatchOption graph (graph_of (all_facts before) ≡ graph_of (all_facts w)) (λ g. g ≡ graph_of (all_facts before))
+  graph_kept None there imports = graph_stays there imports
+  graph_kept (Some g) there is = is
+
+  pub differ : (graph : Option (List LinkedFile)) (tells : Bool) → file < length w → MatchOption graph ImportsStay (λ g. g ≡ graph_of (all_facts before))
+      → (tells ≡ false → told (facts_at (all_facts w) file) ≡ told (facts_at (all_facts before) file))
+      → DifferAt (all_facts before) (all_facts w) (record { file = file; tells = tells; before = graph })
+  differ graph tells there kept quiet = record {
+    files = length-map before named_facts ∙ before_length ∙ sym (length-map w named_facts);
+    graph = graph_kept graph there kept;
+    others = λ g apart. ap (λ files. facts_at files g) facts_before ∙ others_stay (all_facts w) file g (facts_of text) apart;
+    quiet = λ still. sym (quiet still);
+  }
 
   -- the table with the facts of the changed file is that after the change
   pub table_after : file < length w → with_facts (all_facts before) file (facts_at (all_facts w) file) ≡ all_facts w
   table_after there =
       let within' : file < length (all_facts w) = omega (arith, there, length-map w named_facts) in
       ap (λ files. with_facts files file (facts_at (all_facts w) file)) facts_before ∙ put_back (all_facts w) file (facts_of text) within'
+
+  -- so it is where the table and the facts are equal to these
+  pub replaced : (table : List NamedFacts) (facts : FileFacts) → file < length w → table ≡ all_facts before → facts ≡ facts_at (all_facts w) file → with_facts table file facts ≡ all_facts w
+  replaced table facts there was is = ap₂ (λ files said. with_facts files file said) was is ∙ table_after there
 
   -- a file that sees the same is linked as before
   module _ (law : SeenLaw) (n : ℕ) (there : n < length w) (apart : n ≢ file) (sees : SeesTheSame (all_facts before) (all_facts w) n) where

@@ -4,6 +4,7 @@ use Rattle.std.specs.Prelude.{◌≢◌, All, IsUtf8, option_and_then}
 use Rattle.std.specs.List.{enumerate_from}
 use Rattle.std.proofs.lemmas.List.{length-map}
 use Rattle.std.proofs.lemmas.List.Elements.{All-nil, All-cons, All-head, All-map, All-tail, All-weaker}
+use Rattle.proto_syntax.specs.Identifiers.{IsIdentifier}
 use Rattle.proto_syntax.specs.Read.{value_tree}
 use Rattle.proto_facts.specs.Facts.{facts_of}
 use Rattle.proto_syntax.specs.Names.{type_components_in}
@@ -55,6 +56,10 @@ has_scope find_in (Some s) t e = (s, refl)
 abbrev Named : NameSite → Type 0
 Named site = All (λ c. c ≢ []) (texts_of site)
 
+some_bytes : (name : List ℕ) → IsIdentifier name → name ≢ []
+some_bytes [] is same = is
+some_bytes (c ∷ name) is same = cc (same)
+
 module _ (law : UsesLaw) (w : Workspace) (nest : All (λ file. NamesNest file.facts) (all_facts w)) (file : ℕ × (List ℕ × List ℕ)) (there : file.0 < length w) where
   abbrev of_name : ℕ → NameSite → List NameUse
   of_name i site = uses_of (all_facts w) file.0 (view_in w file) i site
@@ -83,7 +88,7 @@ module _ (law : UsesLaw) (w : Workspace) (nest : All (λ file. NamesNest file.fa
   file_has identifiers =
       let text = file.1.1 in
       let nodes = (let tree = value_tree text in tree.nodes) in
-      let components : All (λ s. text_at text s ≢ []) (type_components_in nodes) = All-weaker (IsIdentifierIn text) (λ s. text_at text s ≢ []) (λ s is. is.some) (type_components_in nodes) identifiers.types in
+      let components : All (λ s. text_at text s ≢ []) (type_components_in nodes) = All-weaker (IsIdentifierIn text) (λ s. text_at text s ≢ []) (λ s is. some_bytes (text_at text s) is) (type_components_in nodes) identifiers.types in
       names_have (of_names text (λ c. c ≢ []) (facts_at (all_facts w) file.0) nodes components)
 
 pub names-have-uses : UsesLaw → NamesAreIdentifiers → ((text : List ℕ) → NamesNest (facts_of text)) → (w : Workspace) → All (λ file. IsUtf8 file.1) w → NamesHaveTheirUses w

@@ -1,5 +1,5 @@
 -- A change of the text of one file.
-use Rattle.std.specs.Prelude.{◌≡◌, ◌≢◌, ◌<◌, ℕ, List, [], Bool, false, length, map, slice_index_or, slice_set}
+use Rattle.std.specs.Prelude.{◌≡◌, ◌≢◌, ◌<◌, ℕ, List, [], false, length, map, slice_index_or, slice_set, MatchOption}
 use Rattle.std.specs.List.{enumerate_from}
 use Rattle.proto_facts.specs.declared.diagnostic.Diag.{Diag}
 use Rattle.import_graph.specs.declared.paths.NamedFacts.{NamedFacts}
@@ -7,6 +7,7 @@ use Rattle.import_graph.specs.Links.{graph_of}
 use Rattle.proto_resolve.specs.declared.resolve.Links.{Links}
 use Rattle.proto_resolve.specs.Files.{facts_at}
 use Rattle.proto_resolve.specs.Seen.{told}
+use Rattle.work_index.specs.declared.again.Change.{Change}
 use Rattle.work_index.specs.Workspace.{Workspace, AnalysisData, all_facts, analysis, diagnostics_of, links_of}
 
 -- the workspace with another text of a file
@@ -25,17 +26,18 @@ pub record AreBefore (files : List NamedFacts) (w : Workspace) (file : ℕ) : Ty
   pub text : List ℕ
   pub are : files ≡ all_facts (with_text w file text)
 
--- The files import each other alike and differ in the facts of one alone. Where it does not tell another thing, it says the
--- same to the files that see it.
-pub record DifferAt (old new : List NamedFacts) (file : ℕ) (tells : Bool) : Type 0 where
-  pub graph : graph_of old ≡ graph_of new
-  pub others : (g : ℕ) → g ≢ file → facts_at old g ≡ facts_at new g
-  pub quiet : tells ≡ false → told (facts_at old file) ≡ told (facts_at new file)
+-- The files differ by the change: there are as many, the graph of their imports is the same if none is kept of the old ones,
+-- the facts of other files are the same, and where the changed file tells no other thing, it says the same to those that see it.
+pub record DifferAt (old new : List NamedFacts) (change : Change) : Type 0 where
+  pub files : length old ≡ length new
+  pub graph : MatchOption change.before (graph_of old ≡ graph_of new) (λ before. before ≡ graph_of old)
+  pub others : (g : ℕ) → g ≢ change.file → facts_at old g ≡ facts_at new g
+  pub quiet : change.tells ≡ false → told (facts_at old change.file) ≡ told (facts_at new change.file)
 
--- the links and the diagnostics are those before a change of the file's text
-pub record AreLinkedBefore (links : List Links) (diagnostics : List (List Diag)) (w : Workspace) (file : ℕ) (tells : Bool) : Type 0 where
-  pub within : file < length w
+-- the links and the diagnostics are those before the change
+pub record AreLinkedBefore (links : List Links) (diagnostics : List (List Diag)) (w : Workspace) (change : Change) : Type 0 where
+  pub within : change.file < length w
   pub text : List ℕ
-  pub links_are : links ≡ map (links_of (with_text w file text)) (enumerate_from 0 (with_text w file text))
-  pub diagnostics_are : diagnostics ≡ map (diagnostics_of (with_text w file text)) (enumerate_from 0 (with_text w file text))
-  pub differ : DifferAt (all_facts (with_text w file text)) (all_facts w) file tells
+  pub links_are : links ≡ map (links_of (with_text w change.file text)) (enumerate_from 0 (with_text w change.file text))
+  pub diagnostics_are : diagnostics ≡ map (diagnostics_of (with_text w change.file text)) (enumerate_from 0 (with_text w change.file text))
+  pub differ : DifferAt (all_facts (with_text w change.file text)) (all_facts w) change

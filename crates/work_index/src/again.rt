@@ -1,8 +1,9 @@
 // The analysis of a workspace after a change of one file's text.
-ghost use Rattle.std.specs.Prelude.{◌≡◌, ◌≢◌, ◌<◌, ℕ, List, Bool, [], false, length, map, slice_index_or, slice_set, IfOk, OnOk, IsTrue};
+ghost use Rattle.std.specs.Prelude.{◌≡◌, ◌≢◌, ◌<◌, ℕ, List, Bool, [], true, false, length, map, slice_index_or, slice_set, IfOk, IfSome, MatchOption, OnOk, IsTrue};
 ghost use Rattle.std.specs.List.{enumerate_from};
 ghost use Rattle.import_graph.specs.declared.paths.NamedFacts.{NamedFacts};
-ghost use Rattle.piece_collector.specs.Board.{Ascends};
+ghost use Rattle.import_graph.specs.Links.{graph_of};
+ghost use Rattle.import_graph.specs.Outlooks.{outlook};
 ghost use Rattle.proto_facts.specs.Facts.{facts_of};
 ghost use Rattle.proto_resolve.specs.Files.{facts_at};
 ghost use Rattle.proto_resolve.specs.Outlines.{import_outline};
@@ -11,30 +12,54 @@ ghost use Rattle.work_index.specs.Changes.{AreBefore, AreLinkedBefore, DifferAt,
 ghost use Rattle.work_index.specs.Pieces.{workspace_of};
 ghost use Rattle.work_index.specs.Workspace.{Workspace, all_facts, analysis, diagnostics_of, links_of};
 
-use crate::analyse::{analyse_here, diagnostics_of, links_of};
+use crate::analyse::{diagnostics_of, links_of};
 use crate::analysis::Analysis;
 use crate::file_work::{FileWork, facts_in};
-use crate::index::table_of;
+use import_graph::{Graph, look_alike};
 use piece_collector::Piece;
 use proto_facts::{Diag, FileFacts};
 use proto_resolve::{Index, Links, Table, import_alike, seen_law, tell_alike};
 use proto_syntax::Items;
 use std::alloc::{AllocError, Global};
 
-// Whether a file has to be linked again after a change of another one's text, which may tell another thing than before.
-fn is_affected(table: &Table, changed: usize, tells: bool, file: usize) -> Result<bool, AllocError>
-    requires { file < length table.now }
-    ensures other { IfOk result (λ affected. affected ≡ false → file ≢ changed) }
-    ensures same { (old : List NamedFacts) → DifferAt old table.now changed tells → IfOk result (λ affected. affected ≡ false → SeesTheSame old table.now file) }
+// What a change of one file's text may change for the other files.
+#[derive(Drop)]
+struct Change {
+    // The number of the file.
+    file: usize,
+    // Whether it says another thing than before to the files that see it.
+    tells: bool,
+    // The graph of imports before the change, where that may be another one than after it.
+    before: Option<Graph>,
+}
+
+// Whether the imports say of a file what they said before the change.
+fn looks_as_before(table: &Table, change: &Change, file: usize) -> Result<bool, AllocError>
+    requires file { file < length table.now }
+    requires as_many { IfSome change.now.before (λ graph. length graph ≡ length table.now) }
+    ensures { (old : List NamedFacts) → DifferAt old table.now change.now → IfOk result (λ same. IsTrue same → outlook (graph_of old) file ≡ outlook (graph_of table.now) file) }
 {
-    if file == changed {
+    match &change.before {
+        Some(before) => look_alike(before, table.graph(), file),
+        None => Ok(true),
+    }
+}
+
+// Whether a file has to be linked again after a change.
+fn is_affected(table: &Table, change: &Change, file: usize) -> Result<bool, AllocError>
+    requires file { file < length table.now }
+    requires as_many { IfSome change.now.before (λ graph. length graph ≡ length table.now) }
+    ensures other { IfOk result (λ affected. affected ≡ false → file ≢ change.now.file) }
+    ensures same { (old : List NamedFacts) → DifferAt old table.now change.now → IfOk result (λ affected. affected ≡ false → SeesTheSame old table.now file) }
+{
+    if file == change.file || !looks_as_before(table, change, file)? {
         return Ok(true);
     }
-    if !tells {
+    if !change.tells {
         return Ok(false);
     }
     let seen = table.graph().visible(file)?;
-    Ok(seen.as_slice().contains(&changed))
+    Ok(seen.as_slice().contains(&change.file))
 }
 
 // Links a file again.
@@ -58,50 +83,53 @@ fn set_linked(
     Ok(())
 }
 
-// Links the changed file again, and the files that may see the change.
+// Links the changed file again, and the files to which the change may make a difference.
 fn relink(
     alloc: Global,
     table: &Table,
-    changed: usize,
-    tells: bool,
+    change: &Change,
     pieces: &[Piece<FileWork>],
     links: &mut Items<Links>,
     diagnostics: &mut Items<Items<Diag>>,
 ) -> Result<(), AllocError>
     requires table { table.now ≡ all_facts (workspace_of pieces.now) }
-    requires before { AreLinkedBefore links.old diagnostics.old (workspace_of pieces.now) changed tells }
+    requires before { AreLinkedBefore links.old diagnostics.old (workspace_of pieces.now) change.now }
     requires law { SeenLaw }
     ensures links { OnOk result (links.new ≡ map (links_of (workspace_of pieces.now)) (enumerate_from 0 (workspace_of pieces.now))) }
     ensures diagnostics { OnOk result (diagnostics.new ≡ map (diagnostics_of (workspace_of pieces.now)) (enumerate_from 0 (workspace_of pieces.now))) }
 {
     for (file, piece) in pieces.iter().enumerate() {
-        if is_affected(table, changed, tells, file)? {
+        if is_affected(table, change, file)? {
             set_linked(alloc, table, file, piece, links, diagnostics)?;
         }
     }
     Ok(())
 }
 
-// The table after the change, from the one before. It is made anew where the changed file tells another thing.
+// The table after the change, from the one before, with the graph before where the imports may say another thing than then.
+// The table is made anew where the changed file says another thing to other files.
 fn table_after(
     alloc: Global,
     table: Table,
     changed: usize,
+    imports: bool,
     tells: bool,
     pieces: &[Piece<FileWork>],
-) -> Result<Table, AllocError>
-    requires ascends { Ascends pieces.now }
+) -> Result<(Table, Option<Graph>), AllocError>
     requires before { AreBefore table (workspace_of pieces.now) changed }
-    requires imports { import_outline (facts_at (all_facts (workspace_of pieces.now)) changed) ≡ import_outline (facts_at table changed) }
+    requires imports { imports ≡ false → import_outline (facts_at (all_facts (workspace_of pieces.now)) changed) ≡ import_outline (facts_at table changed) }
     requires quiet { tells ≡ false → told (facts_at (all_facts (workspace_of pieces.now)) changed) ≡ told (facts_at table changed) }
-    ensures { IfOk result (λ after. after ≡ all_facts (workspace_of pieces.now)) }
+    ensures table { IfOk result (λ after. after.0 ≡ all_facts (workspace_of pieces.now)) }
+    ensures graph { IfOk result (λ after. MatchOption after.1 (imports ≡ false) (λ graph. graph ≡ graph_of table)) }
 {
-    if tells {
-        return table_of(alloc, pieces);
+    let facts = facts_at(pieces, changed).copy()?;
+    if imports || tells {
+        let (table, before) = table.replace_facts(alloc, changed, facts)?;
+        return Ok((table, if imports { Some(before) } else { None }));
     }
     let mut table = table;
-    table.set_facts(changed, facts_at(pieces, changed).copy()?);
-    Ok(table)
+    table.set_facts(changed, facts);
+    Ok((table, None))
 }
 
 // The facts of a piece.
@@ -113,16 +141,15 @@ fn facts_at<'p>(pieces: &'p [Piece<FileWork>], file: usize) -> &'p FileFacts
 }
 
 /// The analysis of the workspace of some pieces, which are in the order of their paths, no path twice, after a change of the
-/// text of one file. It is given the analysis before the change, and the number of the file. Links again only that file and
-/// those that may see the change; all files where its imports, or whether it is analysed, aren't as before. An `Err` comes only
-/// where memory was refused.
+/// text of one file. It is given the analysis before the change, and the number of the file. Links again only that file, the
+/// files of which the imports say another thing than before, and those that see what the file declares where that changed.
+/// An `Err` comes only where memory was refused.
 pub fn analyse_again(
     alloc: Global,
     earlier: Analysis,
     changed: usize,
     pieces: &[Piece<FileWork>],
 ) -> Result<Analysis, AllocError>
-    requires ascends { Ascends pieces.now }
     requires before { IsBefore earlier (workspace_of pieces.now) changed }
     ensures { IfOk result (λ found. found ≡ analysis (workspace_of pieces.now)) }
 {
@@ -134,20 +161,15 @@ pub fn analyse_again(
         mut diagnostics,
     } = earlier;
     let facts = facts_at(pieces, changed);
-    if !import_alike(facts, table.facts(changed)) {
-        return analyse_here(alloc, pieces);
-    }
+    let imports = !import_alike(facts, table.facts(changed));
     let tells = !tell_alike(facts, table.facts(changed));
-    let table = table_after(alloc, table, changed, tells, pieces)?;
-    relink(
-        alloc,
-        &table,
-        changed,
+    let (table, before) = table_after(alloc, table, changed, imports, tells, pieces)?;
+    let change = Change {
+        file: changed,
         tells,
-        pieces,
-        &mut links,
-        &mut diagnostics,
-    )?;
+        before,
+    };
+    relink(alloc, &table, &change, pieces, &mut links, &mut diagnostics)?;
     Ok(Analysis {
         table,
         paths,

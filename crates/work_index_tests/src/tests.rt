@@ -33,7 +33,12 @@ fn job_of(alloc: Global, path: &str, stamp: u64, row: &str) -> Result<Job, Alloc
 }
 
 // Sets a text, and brings the piece that is made of it.
-fn put(board: &mut Board<FileWork>, alloc: Global, path: &str, row: &str) -> Result<(), BoardFault>
+pub fn put(
+    board: &mut Board<FileWork>,
+    alloc: Global,
+    path: &str,
+    row: &str,
+) -> Result<(), BoardFault>
     requires { board.old.is_lent ≡ false }
     ensures { board.new.is_lent ≡ false }
 {
@@ -45,7 +50,7 @@ fn put(board: &mut Board<FileWork>, alloc: Global, path: &str, row: &str) -> Res
 }
 
 // A board of files, which are paths and texts.
-fn board_of(alloc: Global, rows: &[(&str, &str)]) -> Result<Board<FileWork>, BoardFault>
+pub fn board_of(alloc: Global, rows: &[(&str, &str)]) -> Result<Board<FileWork>, BoardFault>
     ensures { IfOk result (λ board. board.is_lent ≡ false) }
 {
     let mut board = Board::new(alloc, FileWork::new(alloc));
@@ -56,7 +61,11 @@ fn board_of(alloc: Global, rows: &[(&str, &str)]) -> Result<Board<FileWork>, Boa
 }
 
 // The pieces of files, in the order of their paths.
-fn pieces_of(rt: &impl Abort, alloc: Global, rows: &[(&str, &str)]) -> Result<Lent<FileWork>, Fail>
+pub fn pieces_of(
+    rt: &impl Abort,
+    alloc: Global,
+    rows: &[(&str, &str)],
+) -> Result<Lent<FileWork>, Fail>
     ensures { IfOk result (λ lent. Ascends lent) }
 {
     let mut board = board_of(alloc, rows)?;
@@ -102,7 +111,7 @@ fn write_all(line: &mut String, found: &Analysis, pieces: &[Piece<FileWork>]) ->
 }
 
 // The same by number.
-fn write_all_numbered(
+pub fn write_all_numbered(
     line: &mut String,
     found: &Analysis,
     pieces: &[Piece<FileWork>],
@@ -153,7 +162,7 @@ fn check_all(rt: &impl Abort, alloc: Global, workspaces: &[Workspace]) -> Result
 }
 
 // A file that sees the third through the second, and not the fourth.
-const CHAIN: &[(&str, &str)] = &[
+pub const CHAIN: &[(&str, &str)] = &[
     (
         "a.proto",
         "S|import \"b.proto\";|message A {|  C c = 1;|  D d = 2;|}|",

@@ -1,12 +1,13 @@
-use Rattle.std.proofs.Common.{◌≡◌, map, refl, sym, ap, ◌∙◌, not}
+use Rattle.std.proofs.Common.{◌≡◌, map, sym, ap, ◌∙◌, false, not}
 use Rattle.std.proofs.lemmas.Simd.{map-map}
+use Rattle.import_graph.specs.Links.{graph_of}
 use Rattle.proto_resolve.specs.Files.{facts_at}
 use Rattle.proto_resolve.specs.Outlines.{import_outline}
 use Rattle.proto_resolve.specs.Seen.{told}
 use Rattle.work_index.specs.Changes.{with_text}
 use Rattle.work_index.specs.Pieces.{workspace_of}
 use Rattle.work_index.specs.Workspace.{all_facts, links_of, diagnostics_of}
-use Rattle.work_index.proofs.Changed.{differ, not_false, parts, paths_before}
+use Rattle.work_index.proofs.Changed.{differ, kept_as, not_false, parts, paths_before}
 use Rattle.work_index.proofs.Steps.{as_long, paths_as_long, paths_are, is_analysis}
 use Rattle.work_index.proofs.again.analyse_again.Goals as goal
 
@@ -28,13 +29,15 @@ relink-requires-clause-before c =
     let of = parts inside.table inside.paths inside.links inside.diagnostics b c.earlier.invariant.3 (c.earlier.view_is ∙ was.is) in
     let before : c.facts.result.now ≡ facts_at (all_facts b) file = c.facts.ensures ∙ ap (λ files. facts_at files file) of.table_is in
     let before' : c.facts-2.result.now ≡ facts_at (all_facts b) file = c.facts-2.ensures ∙ ap (λ files. facts_at files file) of.table_is in
-    let imports : import_outline (facts_at (all_facts w) file) ≡ import_outline (facts_at (all_facts b) file) =
-    ap import_outline (sym c.facts_at-facts.ensures) ∙ c.if-not-import_alike.ensures.0 refl ∙ ap import_outline before in record {
+    let alike = c.import_alike-imports.result in
+    let imports : not alike ≡ false → import_outline (facts_at (all_facts w) file) ≡ import_outline (facts_at (all_facts b) file) =
+    λ still. ap import_outline (sym c.facts_at-facts.ensures) ∙ c.import_alike-imports.ensures.0 (not_false alike still) ∙ ap import_outline before in record {
       within = was.within;
       text = was.text;
       links_are = of.links_are;
       diagnostics_are = of.diagnostics_are;
-      differ = differ w file was.text (not c.tell_alike-tells.result) was.within imports
+      differ = differ w file was.text c.in_ok-table.before (not c.tell_alike-tells.result) was.within
+          (kept_as c.in_ok-table.before (not alike ≡ false) _ (graph_of inside.table) (graph_of (all_facts b)) imports (ap graph_of of.table_is) c.in_ok-table.ensures.graph)
           (λ still. ap told (sym c.facts_at-facts.ensures) ∙ c.tell_alike-tells.ensures.0 (not_false c.tell_alike-tells.result still) ∙ ap told before');
     }
 
@@ -46,7 +49,7 @@ invariant_of-result c =
     let inside = c.earlier.inside in
     let of = parts inside.table inside.paths inside.links inside.diagnostics (with_text w c.args.changed was.text) c.earlier.invariant.3 (c.earlier.view_is ∙ was.is) in
     let paths : inside.paths ≡ map (λ t. t.path) ts = of.paths_are ∙ paths_before w c.args.changed was.text was.within ∙ map-map (λ f. f.0) (λ t. (t.path, t.text)) ts in
-    let all : c.in_ok-table.table ≡ all_facts w = c.in_ok-table.ensures in (
+    let all : c.in_ok-table.table ≡ all_facts w = c.in_ok-table.ensures.table in (
       paths_as_long ts inside.paths c.in_ok-table.table paths all,
       as_long (links_of w) ts c.relink.new.links c.in_ok-table.table c.in_ok-relink.ensures.links all,
       as_long (diagnostics_of w) ts c.relink.new.diagnostics c.in_ok-table.table c.in_ok-relink.ensures.diagnostics all,
@@ -61,4 +64,4 @@ returns c =
     let inside = c.earlier.inside in
     let of = parts inside.table inside.paths inside.links inside.diagnostics (with_text w c.args.changed was.text) c.earlier.invariant.3 (c.earlier.view_is ∙ was.is) in
     let paths : inside.paths ≡ map (λ t. t.path) ts = of.paths_are ∙ paths_before w c.args.changed was.text was.within ∙ map-map (λ f. f.0) (λ t. (t.path, t.text)) ts in
-    is_analysis ts c.in_ok-table.table inside.paths c.relink.new.links c.relink.new.diagnostics c.in_ok-table.ensures paths c.in_ok-relink.ensures.links c.in_ok-relink.ensures.diagnostics
+    is_analysis ts c.in_ok-table.table inside.paths c.relink.new.links c.relink.new.diagnostics c.in_ok-table.ensures.table paths c.in_ok-relink.ensures.links c.in_ok-relink.ensures.diagnostics

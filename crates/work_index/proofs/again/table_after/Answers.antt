@@ -1,10 +1,14 @@
-use Rattle.std.proofs.Common.{ap₂, ◌∙◌}
-use Rattle.proto_resolve.specs.Outlines.{with_facts}
+use Rattle.std.proofs.Common.{◌∙◌}
 use Rattle.work_index.specs.Pieces.{workspace_of}
-use Rattle.work_index.proofs.Changed.{table_after}
+use Rattle.work_index.proofs.Changed.{replaced}
 use Rattle.work_index.proofs.again.table_after.Goals as goal
 
-pub returns : goal.returns
-returns c =
-    let w = workspace_of c.args.pieces.now in
-    c.set_facts.ensures ∙ ap₂ (λ files facts. with_facts files c.args.changed facts) c.requires.before.are (c.in_ok-copy.ensures ∙ c.facts_at.ensures) ∙ table_after w c.args.changed c.requires.before.text c.requires.before.within
+pub returns-then-imports-clause-table : goal.returns-then-imports-clause-table
+returns-then-imports-clause-table c =
+    c.in_ok-table.ensures.table
+    ∙ replaced (workspace_of c.args.pieces.now) c.args.changed c.requires.before.text c.args.table c.in_ok-facts.facts c.requires.before.within c.requires.before.are (c.in_ok-facts.ensures ∙ c.facts_at.ensures)
+
+pub returns-clause-table : goal.returns-clause-table
+returns-clause-table c =
+    c.set_facts.ensures
+    ∙ replaced (workspace_of c.args.pieces.now) c.args.changed c.requires.before.text c.args.table c.in_ok-facts.facts c.requires.before.within c.requires.before.are (c.in_ok-facts.ensures ∙ c.facts_at.ensures)
