@@ -4,8 +4,8 @@
 Each file has 8 messages with messages and enums inside, a package and 5 imports, and names that refer to declarations of its
 own and of the files that it imports. Four times the files may take at most 4.8 times the time. Where `protoc` is on the PATH, or
 its library of Debian is there (protoc.c), it is timed on the same files (`--descriptor_set_out=/dev/null`), and `check` may take
-at most 3 times its time and at most its memory. After a change of one file, a blank or a declaration more, its diagnostics may take
-at most 0.25 of the time of the first analysis. The status is 1 where a limit is passed.
+at most 3 times its time and at most its memory. After a change of one file, a blank, a declaration or an import more, its
+diagnostics may take at most 0.25 of the time of the first analysis. The status is 1 where a limit is passed.
 
 A time is the best of 5. The program is crates/protols/out/protols, or the one that PROTOLS names."""
 import os
@@ -89,8 +89,8 @@ def checked(size, other):
 
 
 def answer_times(size):
-    """The seconds of the first answer about a file of a workspace, and of the answers after a blank more in it, and after a
-    declaration more."""
+    """The seconds of the first answer about a file of a workspace, and of the answers after a blank more in it, after a
+    declaration more, and after an import more."""
     with tempfile.TemporaryDirectory() as holder:
         put_tree(pathlib.Path(holder), size)
         place = path(size // 2)
@@ -119,8 +119,9 @@ def answer_times(size):
             first = ask(opened, question)
             blank = min(ask(change(0, " "), question) for _ in range(TIMES))
             declared = min(ask(change(LAST_LINE, f"message Added{n} {{ }} "), question) for n in range(TIMES))
+            imported = min(ask(change(LAST_LINE, f'import \\"{path(n)}\\"; '), question) for n in range(TIMES))
             server.stdin.close()
-        return first, blank, declared
+        return first, blank, declared, imported
 
 
 def main():
@@ -141,7 +142,7 @@ def main():
         before = ours
     first, *changes = answer_times(SIZES[0])
     print(f"an editor's file among {SIZES[0]:,}: first answer {first:.2f} s")
-    for what, changed in zip(("a blank", "a declaration"), changes):
+    for what, changed in zip(("a blank", "a declaration", "an import"), changes):
         print(f"the answer after {what} more in that file: {changed:.4f} s ({changed / first:.3f} of it)")
         kept = kept and changed <= CHANGED * first
     print("kept" if kept else "NOT kept")

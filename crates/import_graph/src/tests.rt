@@ -296,26 +296,33 @@ fn imports_of_a_long_ring_close_cycles(rt: HostRuntime) -> Result<(), Fail> {
     Ok(())
 }
 
-// For each file `=` where two graphs say the same of it, and else `!`.
-fn compared(
-    rt: &HostRuntime,
-    before: &[(&str, &str)],
-    after: &[(&str, &str)],
-) -> Result<String, Fail> {
-    let old = files_of(rt, before)?;
-    let new = files_of(rt, after)?;
+// `=` where two graphs say the same of a file, and else `!`.
+fn mark(
+    old: &Graph,
+    new: &Graph,
+    before: &[NamedFacts],
+    after: &[NamedFacts],
+    file: FileNo,
+) -> Result<char, Fail>
+    requires old { old.now ≡ graph_of before.now }
+    requires new { new.now ≡ graph_of after.now }
+    requires before { file < length before.now }
+    requires after { file < length after.now }
+{
+    let alike = look_alike(old, new, file)?;
+    Ok(if alike { '=' } else { '!' })
+}
+
+// The marks of all files: none where they are not in order, or are more or fewer than before.
+fn marks(rt: &HostRuntime, before: &[NamedFacts], after: &[NamedFacts]) -> Result<String, Fail> {
     let mut line = String::new(rt.alloc());
-    if !are_in_path_order(old.as_slice()) || !are_in_path_order(new.as_slice()) {
+    if before.len() != after.len() || !are_in_path_order(before) || !are_in_path_order(after) {
         return Ok(line);
     }
-    let old = Graph::of(rt.alloc(), old.as_slice())?;
-    let new = Graph::of(rt.alloc(), new.as_slice())?;
-    for file in 0..before.len().min(after.len()) {
-        line.push(if look_alike(&old, &new, file)? {
-            '='
-        } else {
-            '!'
-        })?;
+    let old = Graph::of(rt.alloc(), before)?;
+    let new = Graph::of(rt.alloc(), after)?;
+    for file in 0..before.len() {
+        line.push(mark(&old, &new, before, after, file)?)?;
     }
     Ok(line)
 }
@@ -374,7 +381,9 @@ const CHANGES: &[Case] = &[
 #[test]
 fn files_look_alike(rt: HostRuntime) -> Result<(), Fail> {
     for (after, wanted) in CHANGES {
-        let line = compared(&rt, CHAIN, after)?;
+        let before = files_of(&rt, CHAIN)?;
+        let after = files_of(&rt, after)?;
+        let line = marks(&rt, before.as_slice(), after.as_slice())?;
         assert_eq!(rt; line.as_str(), *wanted);
     }
     Ok(())

@@ -6,7 +6,6 @@ use Rattle.std.specs.List.{enumerate_from, filter_map, flat_map, list_any}
 use Rattle.std.proofs.Math.Path.{fun_ext}
 use Rattle.std.proofs.lemmas.Bool.{cases_Bool}
 use Rattle.std.proofs.lemmas.Bool.Decides.{Decides-eqb}
-use Rattle.std.proofs.lemmas.List.{length-map}
 use Rattle.std.proofs.lemmas.List.Elements.{All-head, All-tail}
 use Rattle.proto_syntax.specs.declared.node.FileTree.{FileTree}
 use Rattle.proto_facts.specs.declared.diagnostic.Diag.{Diag}
@@ -18,10 +17,9 @@ use Rattle.proto_facts.specs.declared.message.Message.TheVariants as m
 use Rattle.proto_facts.specs.Diags.{diag}
 use Rattle.proto_facts.specs.Order.{in_order}
 use Rattle.proto_facts.specs.Text.{joined}
-use Rattle.import_graph.specs.declared.links.LinkedFile.{LinkedFile}
 use Rattle.import_graph.specs.declared.paths.NamedFacts.{NamedFacts}
-use Rattle.import_graph.specs.Links.{graph_of, links_of, target_at}
-use Rattle.import_graph.specs.Closures.{closes_cycle, is_closed, view_of}
+use Rattle.import_graph.specs.Links.{graph_of, target_at}
+use Rattle.import_graph.specs.Closures.{is_closed, view_of}
 use Rattle.import_graph.specs.Outlooks.{import_outlook, imports_outlook}
 use Rattle.import_graph.proofs.Outlooks.{said_at}
 use Rattle.proto_resolve.specs.declared.resolve.Links.{Links}

@@ -150,7 +150,7 @@ pub fn analyse_again(
     changed: usize,
     pieces: &[Piece<FileWork>],
 ) -> Result<Analysis, AllocError>
-    requires before { IsBefore earlier (workspace_of pieces.now) changed }
+    requires { IsBefore earlier (workspace_of pieces.now) changed }
     ensures { IfOk result (λ found. found ≡ analysis (workspace_of pieces.now)) }
 {
     seen_law();

@@ -1,6 +1,6 @@
 use Rattle.std.proofs.Common.{◌≡◌, ◌<◌, ◌∙◌, length, get_or, sym, ap, arith, false, None, IsTrue}
 use Rattle.import_graph.specs.Links.{links_at, target_at}
-use Rattle.import_graph.specs.Outlooks.{import_outlook, imports_outlook}
+use Rattle.import_graph.specs.Outlooks.{import_outlook}
 use Rattle.import_graph.proofs.Outlooks.{more_alike, said_at}
 use Rattle.import_graph.proofs.outlook.are_imports_alike.Goals as goal
 

@@ -6,8 +6,8 @@ use Rattle.work_index.specs.Workspace.{analysis}
 use Rattle.lsp_workspace.proofs.Changed.{is_in, is_still_in, with_old, still_ascends}
 use Rattle.lsp_workspace.proofs.linked.changed_at.Goals as goal
 
-pub analyse_again-requires-clause-before : goal.analyse_again-requires-clause-before
-analyse_again-requires-clause-before c =
+pub analyse_again-requires : goal.analyse_again-requires
+analyse_again-requires c =
     let ts : List TextAt = c.linked.inside.pieces.items in
     let n = c.args.number in
     let old : TextAt = c.index.result.now in

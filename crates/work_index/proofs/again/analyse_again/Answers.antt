@@ -13,7 +13,7 @@ use Rattle.work_index.proofs.again.analyse_again.Goals as goal
 
 pub table_after-requires-clause-before : goal.table_after-requires-clause-before
 table_after-requires-clause-before c =
-    let was = c.requires.before in
+    let was = c.requires in
     let b = with_text (workspace_of c.args.pieces.now) c.args.changed was.text in
     let inside = c.earlier.inside in
     let of = parts inside.table inside.paths inside.links inside.diagnostics b c.earlier.invariant.3 (c.earlier.view_is ∙ was.is) in
@@ -21,7 +21,7 @@ table_after-requires-clause-before c =
 
 pub relink-requires-clause-before : goal.relink-requires-clause-before
 relink-requires-clause-before c =
-    let was = c.requires.before in
+    let was = c.requires in
     let w = workspace_of c.args.pieces.now in
     let file = c.args.changed in
     let b = with_text w file was.text in
@@ -43,7 +43,7 @@ relink-requires-clause-before c =
 
 pub invariant_of-result : goal.invariant_of-result
 invariant_of-result c =
-    let was = c.requires.before in
+    let was = c.requires in
     let ts = c.args.pieces.now in
     let w = workspace_of ts in
     let inside = c.earlier.inside in
@@ -58,7 +58,7 @@ invariant_of-result c =
 
 pub returns : goal.returns
 returns c =
-    let was = c.requires.before in
+    let was = c.requires in
     let ts = c.args.pieces.now in
     let w = workspace_of ts in
     let inside = c.earlier.inside in

@@ -4,8 +4,8 @@ use Rattle.piece_collector.specs.Views.{TextAt}
 use Rattle.work_index.specs.Workspace.{analysis}
 use Rattle.work_index_tests.proofs.again.analysed_again.Goals as goal
 
-pub analyse_again-requires-clause-before : goal.analyse_again-requires-clause-before
-analyse_again-requires-clause-before c =
+pub analyse_again-requires : goal.analyse_again-requires
+analyse_again-requires c =
     let after : List TextAt = c.args.after.now in
     let within : c.args.number < length after = c.if-not-differ_at.ensures.within refl in record {
       within = omega (arith, within, length-map {B = List ℕ × List ℕ} after (λ t. (t.path, t.text)));
