@@ -4,7 +4,8 @@
 //! number from then on, its place in that list, counted from 0. An import names the file whose path is its text. A file
 //! sees itself, the files that it imports, and what public imports lead to from there. The definitions are in specs/:
 //! Links.antt says what imports name, Views.antt what is seen and reached as walks from file to file, and Closures.antt
-//! gives the same as functions of the graph; the laws say that both agree.
+//! gives the same as functions of the graph; the laws say that both agree. Outlooks.antt says what a graph says of one file,
+//! which `look_alike` compares.
 //!
 //! Which files lead to one another is found once, when the graph is made; that tells whether an import closes a cycle, and
 //! where it could not, a search would. What a file sees is searched when it is asked for, in time that grows with what the search meets.

@@ -367,6 +367,7 @@ const CHANGES: &[Case] = &[
         ],
         "!!!=",
     ),
+    // An import of itself closes a cycle, and changes nothing in what is seen.
     (
         &[
             ("a.proto", "import \"b.proto\";\n"),

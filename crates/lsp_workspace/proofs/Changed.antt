@@ -10,7 +10,13 @@ use Rattle.work_index.specs.Changes.{with_text}
 use Rattle.work_index.specs.Pieces.{workspace_of}
 use Rattle.work_index.specs.Workspace.{Workspace}
 
--- the workspace was that with the old text
+-- the workspace has the new text
+pub with_new : (ts : List TextAt) (n : ℕ) (old new : TextAt) → n < length ts → old ≡ get_or ts n old → new.path ≡ old.path → workspace_of (set ts n new) ≡ with_text (workspace_of ts) n new.text
+with_new [] n old new there is same = absurd (omega (arith, there))
+with_new (t ∷ ts) zero old new there is same = ap (λ path. (path, new.text) ∷ workspace_of ts) (same ∙ ap (λ x. x.path) is)
+with_new (t ∷ ts) (suc n) old new there is same = ap (λ w. (t.path, t.text) ∷ w) (with_new ts n old new (omega (arith, there)) is same)
+
+-- and was that with the old one
 pub with_old : (ts : List TextAt) (n : ℕ) (old new : TextAt) → n < length ts → old ≡ get_or ts n old → new.path ≡ old.path → workspace_of ts ≡ with_text (workspace_of (set ts n new)) n old.text
 with_old [] n old new there is same = absurd (omega (arith, there))
 with_old (t ∷ ts) zero old new there is same =

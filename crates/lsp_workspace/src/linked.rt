@@ -1,6 +1,7 @@
 // The work on the files of a workspace, and their analysis.
 ghost use Rattle.std.specs.Prelude.{◌≡◌, ◌<◌, ◌++◌, ◌∷◌, [], length, take, IfOk, IfSome, OnOk, IsTrue};
 ghost use Rattle.piece_collector.specs.Board.{Ascends};
+ghost use Rattle.work_index.specs.Changes.{with_text};
 ghost use Rattle.work_index.specs.Pieces.{workspace_of};
 ghost use Rattle.work_index.specs.Workspace.{analysis};
 ghost use Rattle.lsp_workspace.specs.Files.{workspace};
@@ -235,6 +236,7 @@ fn changed_at(
     text: &str,
 ) -> Result<Linked, AllocError>
     requires { number < length linked }
+    ensures { IfOk result (λ changed. changed ≡ with_text linked number text.now) }
 {
     let Linked {
         mut pieces,
@@ -258,8 +260,8 @@ fn follow(alloc: Global, linked: Linked, files: &Files) -> Result<Linked, AllocE
 }
 
 /// The analysis of the files. Where that of an earlier state of them is given, the work on each text that stayed is kept,
-/// and the whole analysis where all texts did; where one text alone changed, the links of the files to which that makes no
-/// difference are kept. An `Err` comes only where memory was refused.
+/// and the whole analysis where all texts did; where one text alone changed, the links of the files that see nothing else than
+/// before are kept. An `Err` comes only where memory was refused.
 pub fn link(alloc: Global, earlier: Option<Linked>, files: &Files) -> Result<Linked, AllocError>
     ensures { IfOk result (λ linked. linked ≡ workspace (files_view files.now.entries)) }
 {

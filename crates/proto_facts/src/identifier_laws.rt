@@ -3,8 +3,8 @@ ghost use Rattle.proto_facts.specs.IdentifierLaws.{NamesAreIdentifiers, Packages
 
 use proto_syntax::{identifiers_law, size_law};
 
-/// A law: in UTF-8 text an identifier, which is a letter or an underscore and then letters, digits and underscores alone, stands
-/// at each name that a statement declares, and at each component of a type and of a package.
+/// A law: in UTF-8 text an identifier, which is an ASCII letter or an underscore and then ASCII letters, digits and underscores
+/// alone, stands at each name that a statement declares, and at each component of a type and of a package.
 pub fn names_are_identifiers()
     ensures names { NamesAreIdentifiers }
     ensures packages { PackagesAreIdentifiers }

@@ -239,13 +239,13 @@ module _ (old new : List NamedFacts) (f : ℕ) (same : SeesTheSame old new f) (t
   sites = sites_at new f text tree
 
   view_same : view_of (graph_of old) f ≡ view
-  view_same = ap (λ around. around.0) same.around
+  view_same = ap (λ said. said.0) same.imports
 
   closed_same : is_closed (graph_of old) f ≡ is_closed (graph_of new) f
-  closed_same = ap (λ around. around.1.0) same.around
+  closed_same = ap (λ said. said.1.0) same.imports
 
   imports_same : imports_outlook (graph_of old) f ≡ imports_outlook (graph_of new) f
-  imports_same = ap (λ around. around.1.1) same.around
+  imports_same = ap (λ said. said.1.1) same.imports
 
   uses_same : uses old f (view_of (graph_of old) f) (sites_at old f text tree) ≡ uses new f view sites
   uses_same =

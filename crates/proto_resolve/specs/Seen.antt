@@ -19,7 +19,7 @@ told facts = (map (λ d. (d.kind, d.full_name)) facts.decls, option_map (λ p. p
 -- to it
 pub record SeesTheSame (old new : List NamedFacts) (f : ℕ) : Type 0 where
   pub files : length old ≡ length new
-  pub around : outlook (graph_of old) f ≡ outlook (graph_of new) f
+  pub imports : outlook (graph_of old) f ≡ outlook (graph_of new) f
   pub own : facts_at old f ≡ facts_at new f
   pub seen : All (λ g. told (facts_at old g) ≡ told (facts_at new g)) (view_of (graph_of new) f)
 

@@ -444,8 +444,8 @@ fn facts_that_say_another_thing(rt: HostRuntime) -> Result<(), Fail> {
     assert!(&rt; table.len() == 1);
     assert!(&rt; table.named("M").is_empty() && table.named("N").len() == 1);
     assert!(&rt; table.facts(0).imports.as_slice().len() == 1);
-    let (seen, seen_before) = (table.graph().is_closed(0)?, before.is_closed(0)?);
-    assert!(&rt; seen && seen_before);
+    let (closed, closed_before) = (table.graph().is_closed(0)?, before.is_closed(0)?);
+    assert!(&rt; closed && closed_before);
     assert!(&rt; !look_alike(&before, table.graph(), 0)?);
     Ok(())
 }

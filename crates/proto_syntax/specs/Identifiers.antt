@@ -7,7 +7,7 @@ use Rattle.proto_syntax.specs.declared.node.Span.{Span}
 use Rattle.proto_syntax.specs.Names.{names_in, type_components_in, package_components_in}
 use Rattle.proto_syntax.specs.Read.{read}
 
--- a letter or an underscore, and then letters, digits and underscores alone
+-- an ASCII letter or an underscore, and then ASCII letters, digits and underscores alone
 abbrev pub IsIdentifier : List ℕ → Type 0
 IsIdentifier name = IsForm Ident name
 

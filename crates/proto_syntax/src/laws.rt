@@ -59,7 +59,7 @@ pub fn type_names_law()
 }
 
 /// A law: the names of a text, those that statements declare and the components of types and of packages, are identifiers:
-/// a letter or an underscore, and then letters, digits and underscores alone. UTF-8 text may be cut at their ends.
+/// an ASCII letter or an underscore, and then ASCII letters, digits and underscores alone. UTF-8 text may be cut at their ends.
 pub fn identifiers_law()
     ensures { NamesAreIdentifiers }
 {

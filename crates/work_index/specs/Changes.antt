@@ -26,8 +26,9 @@ pub record AreBefore (files : List NamedFacts) (w : Workspace) (file : ℕ) : Ty
   pub text : List ℕ
   pub are : files ≡ all_facts (with_text w file text)
 
--- The files differ by the change: there are as many, the graph of their imports is the same if none is kept of the old ones,
--- the facts of other files are the same, and where the changed file tells no other thing, it says the same to those that see it.
+-- The files differ by the change: there are as many; a graph that is kept is that of the old files, and where none is kept theirs
+-- is that of the new ones too; the facts of other files are the same; and where the changed file tells no other thing, it says the
+-- same to those that see it.
 pub record DifferAt (old new : List NamedFacts) (change : Change) : Type 0 where
   pub files : length old ≡ length new
   pub graph : MatchOption change.before (graph_of old ≡ graph_of new) (λ before. before ≡ graph_of old)

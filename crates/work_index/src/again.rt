@@ -106,26 +106,27 @@ fn relink(
     Ok(())
 }
 
-// The table after the change, from the one before, with the graph before where the imports may say another thing than then.
-// The table is made anew where the changed file says another thing to other files.
+// The table after the change, from the one before; and the graph before, where the imports may say another thing now. It is
+// told whether they may, and whether the changed file says another thing to the files that see it; the table is made anew where
+// one of the two is so.
 fn table_after(
     alloc: Global,
     table: Table,
     changed: usize,
-    imports: bool,
+    imports_differ: bool,
     tells: bool,
     pieces: &[Piece<FileWork>],
 ) -> Result<(Table, Option<Graph>), AllocError>
     requires before { AreBefore table (workspace_of pieces.now) changed }
-    requires imports { imports ≡ false → import_outline (facts_at (all_facts (workspace_of pieces.now)) changed) ≡ import_outline (facts_at table changed) }
+    requires imports { imports_differ ≡ false → import_outline (facts_at (all_facts (workspace_of pieces.now)) changed) ≡ import_outline (facts_at table changed) }
     requires quiet { tells ≡ false → told (facts_at (all_facts (workspace_of pieces.now)) changed) ≡ told (facts_at table changed) }
     ensures table { IfOk result (λ after. after.0 ≡ all_facts (workspace_of pieces.now)) }
-    ensures graph { IfOk result (λ after. MatchOption after.1 (imports ≡ false) (λ graph. graph ≡ graph_of table)) }
+    ensures graph { IfOk result (λ after. MatchOption after.1 (imports_differ ≡ false) (λ graph. graph ≡ graph_of table)) }
 {
     let facts = facts_at(pieces, changed).copy()?;
-    if imports || tells {
+    if imports_differ || tells {
         let (table, before) = table.replace_facts(alloc, changed, facts)?;
-        return Ok((table, if imports { Some(before) } else { None }));
+        return Ok((table, if imports_differ { Some(before) } else { None }));
     }
     let mut table = table;
     table.set_facts(changed, facts);
@@ -142,8 +143,8 @@ fn facts_at<'p>(pieces: &'p [Piece<FileWork>], file: usize) -> &'p FileFacts
 
 /// The analysis of the workspace of some pieces, which are in the order of their paths, no path twice, after a change of the
 /// text of one file. It is given the analysis before the change, and the number of the file. Links again only that file, the
-/// files of which the imports say another thing than before, and those that see what the file declares where that changed.
-/// An `Err` comes only where memory was refused.
+/// files of which the imports say another thing than before, and those that see it where it declares other things than before
+/// or has another package. An `Err` comes only where memory was refused.
 pub fn analyse_again(
     alloc: Global,
     earlier: Analysis,
@@ -161,9 +162,9 @@ pub fn analyse_again(
         mut diagnostics,
     } = earlier;
     let facts = facts_at(pieces, changed);
-    let imports = !import_alike(facts, table.facts(changed));
+    let imports_differ = !import_alike(facts, table.facts(changed));
     let tells = !tell_alike(facts, table.facts(changed));
-    let (table, before) = table_after(alloc, table, changed, imports, tells, pieces)?;
+    let (table, before) = table_after(alloc, table, changed, imports_differ, tells, pieces)?;
     let change = Change {
         file: changed,
         tells,

@@ -126,7 +126,8 @@ const RENAMED: &[(&str, &str)] = &[
     ("d.proto", "S|message D { }|"),
 ];
 
-// Changes of what is declared: in a file that is seen through another, in one that is not seen, and twice.
+// Changes of what is declared: in a file that is seen through another, in one that no other file sees, and a name that is declared
+// twice from then on.
 const DECLARATIONS: &[Change] = &[
     Change {
         files: CHAIN,
@@ -156,7 +157,7 @@ fn changed_declarations(rt: HostRuntime) -> Result<(), Fail> {
     check_changes(&rt, rt.alloc(), DECLARATIONS)
 }
 
-// Changes of a declaration's kind, and of a package.
+// Changes of a declaration's kind and of a package, each alone and with what is declared.
 const MEANINGS: &[Change] = &[
     Change {
         files: &[
@@ -183,6 +184,29 @@ const MEANINGS: &[Change] = &[
         path: "b.proto",
         text: "S|package p;|message M { }|",
         wanted: "a.proto 2:12-17 401;b.proto;",
+    },
+    Change {
+        files: &[
+            (
+                "a.proto",
+                "S|import \"b.proto\";|service S { rpc Do(M) returns (M); }|",
+            ),
+            ("b.proto", "S|message M { }|"),
+        ],
+        number: 1,
+        path: "b.proto",
+        text: "S|enum M { }|",
+        wanted: "a.proto 2:19-20 402 2:31-32 402;b.proto 1:5-6 308;",
+    },
+    Change {
+        files: &[
+            ("a.proto", "S|import \"b.proto\";|message p { }|"),
+            ("b.proto", "S|package q;|"),
+        ],
+        number: 1,
+        path: "b.proto",
+        text: "S|package p;|",
+        wanted: "a.proto 2:8-9 406;b.proto;",
     },
 ];
 
@@ -213,6 +237,20 @@ const IMPORTS: &[Change] = &[
         path: "d.proto",
         text: "syntax = \"proto2\";|message D { }|",
         wanted: "a.proto;b.proto;c.proto;d.proto 0:0-18 317;",
+    },
+    Change {
+        files: CHAIN,
+        number: 3,
+        path: "d.proto",
+        text: "S|import \"a.proto\";|message D { }|",
+        wanted: "a.proto 1:7-16 404 4:2-3 401;b.proto 1:14-23 404;c.proto 1:7-16 404;d.proto 1:7-16 404;",
+    },
+    Change {
+        files: CHAIN,
+        number: 2,
+        path: "c.proto",
+        text: "S|import \"none.proto\";|message C { D d = 1; }|",
+        wanted: "a.proto;b.proto;c.proto 1:7-19 403;d.proto;",
     },
 ];
 

@@ -29,9 +29,9 @@ relink-requires-clause-before c =
     let of = parts inside.table inside.paths inside.links inside.diagnostics b c.earlier.invariant.3 (c.earlier.view_is ∙ was.is) in
     let before : c.facts.result.now ≡ facts_at (all_facts b) file = c.facts.ensures ∙ ap (λ files. facts_at files file) of.table_is in
     let before' : c.facts-2.result.now ≡ facts_at (all_facts b) file = c.facts-2.ensures ∙ ap (λ files. facts_at files file) of.table_is in
-    let alike = c.import_alike-imports.result in
+    let alike = c.import_alike-imports_differ.result in
     let imports : not alike ≡ false → import_outline (facts_at (all_facts w) file) ≡ import_outline (facts_at (all_facts b) file) =
-    λ still. ap import_outline (sym c.facts_at-facts.ensures) ∙ c.import_alike-imports.ensures.0 (not_false alike still) ∙ ap import_outline before in record {
+    λ still. ap import_outline (sym c.facts_at-facts.ensures) ∙ c.import_alike-imports_differ.ensures.0 (not_false alike still) ∙ ap import_outline before in record {
       within = was.within;
       text = was.text;
       links_are = of.links_are;
