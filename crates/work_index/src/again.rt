@@ -1,10 +1,9 @@
 // The analysis of a workspace after a change of one file's text.
-ghost use Rattle.std.specs.Prelude.{◌≡◌, ◌≢◌, ◌<◌, ℕ, List, Bool, [], true, false, length, map, slice_index_or, slice_set, IfOk, IfSome, MatchOption, OnOk, IsTrue};
+ghost use Rattle.std.specs.Prelude.{◌≡◌, ◌≢◌, ◌<◌, List, false, length, map, slice_set, IfOk, IfSome, MatchOption, OnOk, IsTrue};
 ghost use Rattle.std.specs.List.{enumerate_from};
 ghost use Rattle.import_graph.specs.declared.paths.NamedFacts.{NamedFacts};
 ghost use Rattle.import_graph.specs.Links.{graph_of};
 ghost use Rattle.import_graph.specs.Outlooks.{outlook};
-ghost use Rattle.proto_facts.specs.Facts.{facts_of};
 ghost use Rattle.proto_resolve.specs.Files.{facts_at};
 ghost use Rattle.proto_resolve.specs.Outlines.{import_outline};
 ghost use Rattle.proto_resolve.specs.Seen.{told, SeesTheSame, SeenLaw};
