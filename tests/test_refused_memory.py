@@ -9,10 +9,10 @@ ROOT = pathlib.Path(__file__).resolve().parent.parent
 
 
 def run_without(place):
-    """Runs the tests of lsp_frame with that allocation of each refused, counted from 1."""
+    """Runs the tests of lsp_frame_tests with that allocation of each refused, counted from 1."""
     return subprocess.run(
         ["rt", "try", "--test", "--fail-alloc", str(place)],
-        cwd=ROOT / "crates" / "lsp_frame",
+        cwd=ROOT / "crates" / "lsp_frame_tests",
         stdin=subprocess.DEVNULL,
         capture_output=True,
         text=True,

@@ -14,8 +14,6 @@ mod encoding;
 mod laws;
 mod position;
 mod scan;
-#[cfg(test)]
-mod tests;
 mod text;
 
 pub use change::Change;

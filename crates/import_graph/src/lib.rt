@@ -18,8 +18,6 @@ mod laws;
 mod links;
 mod outlook;
 mod paths;
-#[cfg(test)]
-mod tests;
 mod ties;
 mod tour;
 

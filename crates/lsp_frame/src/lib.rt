@@ -27,6 +27,3 @@ pub use memory::{MemSink, MemSource};
 pub use reader::{Frame, FrameReader, LastAnswer};
 pub use to_write::ToWrite;
 pub use writer::{write_bytes, write_frame};
-
-#[cfg(test)]
-mod tests;

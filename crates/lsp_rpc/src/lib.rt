@@ -29,6 +29,3 @@ pub use method::Method;
 pub use params::{DidChangeParams, DidOpenParams, VersionedDocument, document_uri};
 pub use reply::{error_reply, initialize_reply, null_reply, report_reply, workspace_reply};
 pub use workspace::DocumentReport;
-
-#[cfg(test)]
-mod tests;

@@ -490,7 +490,7 @@ fn knows_documents_outside_the_root(rt: HostRuntime) -> Result<(), Fail> {
 }
 
 #[test]
-fn refuses_bad_configurations(rt: HostRuntime) -> Result<(), Fail> {
+fn refuses_bad_roots_before_bad_paths(rt: HostRuntime) -> Result<(), Fail> {
     let alloc = rt.alloc();
     for roots in [
         &[][..],
@@ -498,7 +498,6 @@ fn refuses_bad_configurations(rt: HostRuntime) -> Result<(), Fail> {
         &["file:///w"][..],
         &[ROOT, ROOT][..],
     ] {
-        // A bad root comes before a bad path.
         let made = Config::make(
             alloc,
             texts_of(alloc, roots)?,
@@ -506,6 +505,13 @@ fn refuses_bad_configurations(rt: HostRuntime) -> Result<(), Fail> {
         );
         assert!(rt; made.err() == Some(ServeFault::BadRoot));
     }
+    assert_eq!(rt; ServeFault::BadRoot.code(), 806);
+    Ok(())
+}
+
+#[test]
+fn names_the_first_bad_path(rt: HostRuntime) -> Result<(), Fail> {
+    let alloc = rt.alloc();
     for path in [
         "a//b.proto",
         "../a.proto",
@@ -515,18 +521,19 @@ fn refuses_bad_configurations(rt: HostRuntime) -> Result<(), Fail> {
         "a/./b",
         "a\u{0}b",
     ] {
-        for (files, index) in [
-            (&[(path, "")][..], 0usize),
-            (
-                &[("a.proto", ""), ("é/b", ""), (path, ""), (path, "")][..],
-                2,
-            ),
-        ] {
+        let after_good = [("a.proto", ""), ("é/b", ""), (path, ""), (path, "")];
+        for (files, index) in [(&[(path, "")][..], 0usize), (&after_good[..], 2)] {
             let made = Config::make(alloc, texts_of(alloc, &[ROOT])?, files_of(alloc, files)?);
             assert!(rt; made.err() == Some(ServeFault::BadPath { index }));
         }
     }
-    // A file of a root that isn't there.
+    assert_eq!(rt; ServeFault::BadPath { index: 1 }.code(), 807);
+    Ok(())
+}
+
+#[test]
+fn refuses_a_file_of_a_missing_root(rt: HostRuntime) -> Result<(), Fail> {
+    let alloc = rt.alloc();
     let mut files = files_of(alloc, &[("a.proto", "")])?;
     files.push(DiskFile {
         root: 1,
@@ -535,8 +542,6 @@ fn refuses_bad_configurations(rt: HostRuntime) -> Result<(), Fail> {
     })?;
     let made = Config::make(alloc, texts_of(alloc, &[ROOT])?, files);
     assert!(rt; made.err() == Some(ServeFault::BadPath { index: 1 }));
-    assert_eq!(rt; ServeFault::BadRoot.code(), 806);
-    assert_eq!(rt; ServeFault::BadPath { index: 1 }.code(), 807);
     Ok(())
 }
 

@@ -13,8 +13,6 @@ mod lexer;
 mod number;
 mod scan;
 mod string;
-#[cfg(test)]
-mod tests;
 mod token;
 
 pub use laws::{

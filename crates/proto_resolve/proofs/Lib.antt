@@ -19,3 +19,4 @@ pub mod Alike
 pub mod Told
 pub mod SeenAlone
 pub mod Outlines
+pub mod FaultsSaid

@@ -78,7 +78,7 @@ pub in_all_named : (files : List NamedFacts) (name : List ℕ) (r : DeclRef) →
 in_all_named files name r there named =
     in_filter (has_name files name) r (all_decls files) ((bytes_eq-Decides (let d = decl_at files r in d.full_name) name).1 named) (in_files 0 r.file r files (omega arith) there)
 
-named_in : (files : List NamedFacts) (f : ℕ) (name : List ℕ) (r : DeclRef) → IsSeenAs files f name r → In r (all_named files name)
+pub named_in : (files : List NamedFacts) (f : ℕ) (name : List ℕ) (r : DeclRef) → IsSeenAs files f name r → In r (all_named files name)
 named_in files f name r seen = in_all_named files name r seen.there seen.named
 
 pub in_named : (files : List NamedFacts) (name : List ℕ) (r : DeclRef) → In r (all_named files name)
@@ -162,7 +162,7 @@ module _ (files : List NamedFacts) (law : ViewLaw files) (f : ℕ) (name : List 
   as_long : length graph ≡ length files
   as_long = length-map files (λ x. links_of files x.facts)
 
-  seen_so : (g : ℕ) → is_seen view g ≡ true → Sees graph f g
+  pub seen_so : (g : ℕ) → is_seen view g ≡ true → Sees graph f g
   seen_so g e =
       let one = from_any (sees graph f) (λ h. h == g) 0 (length graph) e in
       let same : one.0 ≡ g = equal one.0 g one.2 in
@@ -177,7 +177,7 @@ module _ (files : List NamedFacts) (law : ViewLaw files) (f : ℕ) (name : List 
   within : (r : DeclRef) → In r named → r.file < length files
   within r there = all_in (λ r. r.file < length files) named r (named_within files name) there
 
-  visible : (r : DeclRef) → IsSeenAs files f name r → is_visible view r ≡ true
+  pub visible : (r : DeclRef) → IsSeenAs files f name r → is_visible view r ≡ true
   visible r seen = so_seen r.file (within r (named_in files f name r seen)) seen.seen
 
   own_order : (r s : DeclRef) → r.file ≡ f → s.file ≡ f → (s ≡ r) ⊎ Earlier r s → (s ≡ r) ⊎ ComesBefore f r s
@@ -225,18 +225,20 @@ module _ (files : List NamedFacts) (law : ViewLaw files) (f : ℕ) (name : List 
   undeclared_so None (Some x) e e' none = absurd (cc (none))
   undeclared_so None None e e' none = λ r seen. none_in (is_visible view) named r e' (named_in files f name r seen) (visible r seen)
 
-  package_so : (b : Bool) → list_any (has_package files name) view ≡ b → IsUndeclared files f name → Finds files f name (if b then Some (Package name) else None)
-  package_so true e none =
+  -- a package of a file that f sees
+  pub package_seen : list_any (has_package files name) view ≡ true → (g : ℕ) × Sees graph f g × HasPackage files name g
+  package_seen e =
       let one = from_any (sees graph f) (has_package files name) 0 (length graph) e in
-      (refl, none, (one.0, (law f one.0).0.0 one.1, so_has files name one.0 one.2))
-  package_so false e none = (
-    none,
-    λ g there has. absurd (cc (
-      e,
+      (one.0, (law f one.0).0.0 one.1, so_has files name one.0 one.2)
+
+  pub seen_package : (g : ℕ) → Sees graph f g → HasPackage files name g → list_any (has_package files name) view ≡ true
+  seen_package g there has =
       to_any (sees graph f) (has_package files name) 0 (length graph) g (omega arith)
-          (omega (arith, as_long, package_within files g has.fact has.stated)) ((law f g).0.1 there) (has_so files name g has),
-    )),
-  )
+      (omega (arith, as_long, package_within files g has.fact has.stated)) ((law f g).0.1 there) (has_so files name g has)
+
+  package_so : (b : Bool) → list_any (has_package files name) view ≡ b → IsUndeclared files f name → Finds files f name (if b then Some (Package name) else None)
+  package_so true e none = (refl, none, package_seen e)
+  package_so false e none = (none, λ g there has. absurd (cc (e, seen_package g there has)))
 
   meets_so : (d : Option DeclRef) → first_declared f view named ≡ d → Finds files f name (option_or (option_map Declared d) (package_found files view name))
   meets_so (Some r) e = declared_so (find (is_own f) named) (find (is_visible view) named) refl refl r e

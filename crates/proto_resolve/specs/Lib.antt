@@ -13,3 +13,4 @@ pub mod Finding
 pub mod FindingLaws
 pub mod Seen
 pub mod Outlines
+pub mod FaultLaws

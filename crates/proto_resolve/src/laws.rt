@@ -8,7 +8,8 @@ pub fn scope_law()
 {}
 
 /// A law: a name without a meaning has no uses, and a name with a meaning has one for each of its components, in order, of what
-/// is found at the full name up to that component. It asks that the names of each file nest.
+/// is found at the full name up to that component. It asks that the names of each file nest, that the file sees itself, and that
+/// no component is empty.
 pub fn uses_law()
     ensures { UsesLaw }
 {}

@@ -6,10 +6,12 @@
 //! specs/Sites.antt; the diagnostics 401 to 406 in specs/ViewFaults.antt. The law `finding_law` says what is found at a full
 //! name as the relation in specs/Finding.antt, without a search; `scope_law` says that a name is looked for in the innermost
 //! scope that settles it, and `uses_law` that each component of a name with a meaning has one use. `seen_law` says that what is
-//! known of a file by what it sees depends on no more than that. `names_in_order` and `uses_in_order`: names, their components
+//! known of a file by what it sees depends on no more than that. `fault_law` says for what reason each of the
+//! diagnostics 401 to 406 is there, and that there is no other. `names_in_order` and `uses_in_order`: names, their components
 //! and their uses stand by their offsets.
 #![tactic(auto)]
 
+mod fault_laws;
 mod faults;
 mod finding;
 mod finding_laws;
@@ -26,12 +28,11 @@ mod site;
 mod sites;
 mod table;
 mod target;
-#[cfg(test)]
-mod tests;
 mod uses;
 mod view;
 mod views;
 
+pub use fault_laws::fault_law;
 pub use finding_laws::finding_law;
 pub use index::Index;
 pub use laws::{scope_law, seen_law, uses_law};

@@ -104,7 +104,8 @@ impl Table {
         })
     }
 
-    /// Puts other facts of a file in the place of its facts, which say the same to the other files. Takes no memory.
+    /// Puts other facts of a file, given by its number from 0, in the place of its facts, which say the same to the other files
+    /// and of imports. Takes no memory.
     pub fn set_facts(&mut self, file: usize, facts: FileFacts)
         requires within { file < length self.old }
         requires imports { import_outline facts ≡ import_outline (facts_at self.old file) }
@@ -114,8 +115,8 @@ impl Table {
         self.files[file].facts = facts;
     }
 
-    /// The table with other facts of a file, and the graph of the files before. The other files' facts are kept as they are,
-    /// and all else is made anew. An `Err` comes only where memory was refused.
+    /// The table with other facts of a file, given by its number from 0, and the graph of the files before. The other files'
+    /// facts are kept as they are, and all else is made anew. An `Err` comes only where memory was refused.
     pub fn replace_facts(
         self,
         alloc: Global,

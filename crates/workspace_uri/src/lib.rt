@@ -9,6 +9,3 @@ mod root;
 
 pub use path::is_workspace_path;
 pub use root::{Root, escape_path};
-
-#[cfg(test)]
-mod tests;

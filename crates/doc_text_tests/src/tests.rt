@@ -1,5 +1,5 @@
 // Worked positions, offsets and changes, in texts with characters of one to four bytes and each line end.
-use super::*;
+use doc_text::{Change, Encoding, Position, Range, Text, positions_of};
 use std::process::Abort;
 use std::test::Fail;
 

@@ -1,9 +1,9 @@
 // Messages by what they are, and replies byte for byte.
-use crate::{
+use doc_text::{Position, Range};
+use lsp_rpc::{
     Diagnostic, DidChangeParams, DidOpenParams, ErrorCode, Id, Message, Severity, document_uri,
     error_reply, initialize_reply, null_reply, report_reply,
 };
-use doc_text::{Position, Range};
 use serde_json::Value;
 use std::alloc::{AllocError, Global};
 use std::test::Fail;

@@ -4,7 +4,9 @@ ghost use Rattle.std.specs.Prelude.{◌<◌};
 
 mod devices;
 
-use super::*;
+use lsp_frame::{
+    Frame, FrameFault, FrameReader, FromRead, MemSink, MemSource, ToWrite, write_frame,
+};
 use std::alloc::{AllocError, Global};
 use std::process::Abort;
 use std::test::Fail;

@@ -1,6 +1,5 @@
 // What `lex` finds in small texts, and how large a token is.
-use crate::lexer::lex;
-use crate::token::Token;
+use proto_lex::{Token, lex};
 use std::mem::size_of;
 use std::test::Fail;
 

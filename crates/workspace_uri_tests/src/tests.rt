@@ -1,8 +1,8 @@
 // Roots, paths and URIs whose answers are written down by hand.
-use crate::{Root, escape_path, is_workspace_path};
 use std::alloc::{AllocError, Global};
 use std::process::Abort;
 use std::test::Fail;
+use workspace_uri::{Root, escape_path, is_workspace_path};
 
 // The path of a URI below a root, or a mark where one of the two is no such thing.
 fn shown(alloc: Global, root: &str, uri: &str) -> Result<String, AllocError> {

@@ -4,10 +4,9 @@ ghost use Rattle.std.specs.Prelude.{◌≡◌, ◌<◌, length};
 ghost use Rattle.import_graph.specs.Paths.{IsInPathOrder};
 ghost use Rattle.import_graph.specs.Links.{graph_of, links_at};
 
-use crate::graph::Graph;
-use crate::laws::{closure_law, one_view, view_law};
-use crate::outlook::look_alike;
-use crate::paths::{FileNo, NamedFacts, are_in_path_order};
+use import_graph::{
+    FileNo, Graph, NamedFacts, are_in_path_order, closure_law, look_alike, one_view, view_law,
+};
 use proto_facts::{Name, facts};
 use proto_lex::lex;
 use proto_syntax::parse;

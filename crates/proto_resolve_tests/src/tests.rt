@@ -1,17 +1,13 @@
 // What the names of small workspaces mean, with the real lexer, parser and facts.
 //
 // In the texts below a `|` is a line feed, and `S|` at the front is the line `syntax = "proto3";`.
-use crate::finding_laws::finding_law;
-use crate::index::Index;
-use crate::laws::{scope_law, seen_law};
-use crate::order_laws::{names_in_order, uses_in_order};
-use crate::outline::{import_alike, tell_alike};
-use crate::resolve::{Links, resolve_file};
-use crate::table::Table;
-use crate::target::Target;
 use import_graph::{NamedFacts, are_in_path_order, look_alike};
 use proto_facts::{FileFacts, Name, facts};
 use proto_lex::lex;
+use proto_resolve::{
+    Index, Links, Table, Target, fault_law, finding_law, import_alike, names_in_order,
+    resolve_file, scope_law, seen_law, tell_alike, uses_in_order, uses_law,
+};
 use proto_syntax::{FileTree, parse};
 use std::alloc::{AllocError, Global};
 use std::process::Abort;
@@ -351,8 +347,10 @@ fn chain(rt: HostRuntime) -> Result<(), Fail> {
 fn laws(rt: HostRuntime) -> Result<(), Fail> {
     let none: Vec<NamedFacts> = Vec::new(rt.alloc());
     scope_law();
+    uses_law();
     seen_law();
     finding_law(none.as_slice());
+    fault_law(none.as_slice());
     names_in_order();
     uses_in_order();
     Ok(())

@@ -1,5 +1,5 @@
 // The devices as they run: how much they move at once, when they fail, and which errors of std are interruptions.
-use crate::{
+use lsp_frame::{
     ByteSink, ByteSource, Fail, Frame, FrameReader, FromRead, MemSink, MemSource, ToWrite,
     write_frame,
 };
