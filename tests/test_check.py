@@ -34,7 +34,8 @@ WORKSPACES = [
         1,
     ),
     # Names that differ in case are different names, and so are paths.
-    ({"a.proto": 'S|import "B.proto";|message A { b x = 1; }|', "b.proto": "S|message B { }|"}, "a.proto:2:8: 403 import not found\n", 1),
+    ({"a.proto": 'S|import "b.proto";|message A { b x = 1; B y = 2; }|', "b.proto": "S|message B { }|"}, "a.proto:3:13: 401 unresolved name\n", 1),
+    ({"a.proto": 'S|import "B.proto";|', "b.proto": "S|message B { }|"}, "a.proto:2:8: 403 import not found\n", 1),
     # The same name in two files is told in the file that sees the other.
     ({"a.proto": 'S|import "b.proto";|message M { }|', "b.proto": "S|message M { }|"}, "a.proto:3:9: 405 name declared in a visible file\n", 1),
     # A package of a visible file, and a name of the wrong kind.
@@ -49,6 +50,10 @@ WORKSPACES = [
 
 # Files that only import each other, in a ring.
 RING = {f"f{n}.proto": f'S|import "f{(n + 1) % 50}.proto";|message M{n} {{ M{(n + 1) % 50} m = 1; }}|' for n in range(50)}
+
+# Files that each import the next one, and name a message of it and one of the last file, which only the last two see.
+CHAIN = {f"f{n}.proto": f'S|import "f{n + 1}.proto";|message M{n} {{ M{n + 1} a = 1; M7 b = 2; }}|' for n in range(1, 7)}
+CHAIN["f7.proto"] = "S|message M7 { M7 a = 1; }|"
 
 
 class Check(FolderTest):
@@ -79,6 +84,11 @@ class Check(FolderTest):
     def test_a_ring_of_imports(self):
         self.put_all(RING)
         lines = "".join(f"{path}:2:8: 404 import cycle\n" for path in sorted(RING))
+        self.assertEqual(self.run_check("--root", self.root), (lines.encode(), b"", 1))
+
+    def test_a_chain_of_imports(self):
+        self.put_all(CHAIN)
+        lines = "".join(f"f{n}.proto:3:24: 401 unresolved name\n" for n in range(1, 6))
         self.assertEqual(self.run_check("--root", self.root), (lines.encode(), b"", 1))
 
     def test_what_cannot_be_read_is_skipped(self):

@@ -305,14 +305,14 @@ class Roots(FolderTest):
 
 
 class Unreadable(FolderTest):
-    def run_as_nobody(self, root):
+    def run_as_nobody(self, root, command="serve"):
         """Runs the program so that permissions count: not as the user who may do everything."""
         if os.geteuid() != 0:
-            return run(b"", ("serve", "--root", root))
+            return run(b"", (command, "--root", root))
         program = self.holder / "protols"
         shutil.copy(stream.command()[0], program)
         program.chmod(0o755)
-        words = [program, "serve", "--root", root]
+        words = [program, command, "--root", root]
         done = subprocess.run(
             words, stdin=subprocess.DEVNULL, capture_output=True, timeout=stream.LIMIT, user=NOBODY, group=NOBODY, extra_groups=[]
         )
@@ -334,10 +334,12 @@ class Unreadable(FolderTest):
             self.put(name, PROTO3)
         with self.without_permissions(*(self.root / name for name in ("shut.proto", "shut.txt", "shut"))):
             self.assertEqual(self.run_as_nobody(self.root), (b"", SKIPPED * 2, 1))
+            self.assertEqual(self.run_as_nobody(self.root, "check"), (b"", SKIPPED * 2, 0))
 
     def test_a_root_that_may_not_be_read(self):
         with self.without_permissions(self.root):
             self.assertEqual(self.run_as_nobody(self.root), (b"", FOLDER, 3))
+            self.assertEqual(self.run_as_nobody(self.root, "check"), (b"", FOLDER, 3))
 
     def test_what_is_no_file_is_skipped(self):
         os.mkfifo(self.root / "pipe")
