@@ -5,7 +5,8 @@ Each file has 8 messages with messages and enums inside, a package and 5 imports
 own and of the files that it imports. Four times the files may take at most 4.8 times the time. Where `protoc` is on the PATH, or
 its library of Debian is there (protoc.c), it is timed on the same files (`--descriptor_set_out=/dev/null`), and `check` may take
 at most 3 times its time and at most its memory. After a change of one file, a blank, a declaration or an import more, its
-diagnostics may take at most 0.25 of the time of the first analysis. The status is 1 where a limit is passed.
+diagnostics may take at most 0.25 of the time of the first analysis. The status is 1 where a limit is passed. A declaration more in
+a file that all others import is timed too, and not judged: the names of all files are looked up again then.
 
 A time is the best of 5. The program is crates/protols/out/protols, or the one that PROTOLS names."""
 import os
@@ -41,13 +42,20 @@ PROTOC = 3
 CHANGED = 0.25
 
 
-def put_tree(folder, size):
-    """Writes the files of a workspace, and gives their paths."""
+# A file that all others import.
+HUB = "hub.proto"
+HUB_TEXT = 'syntax = "proto3";\npackage shop;\nmessage Hub { }\n'
+
+
+def put_tree(folder, size, hub=False):
+    """Writes the files of a workspace, on request with one that all others import, and gives their paths."""
     paths = [path(n) for n in range(size)]
     for n, place in enumerate(paths):
         file = folder / place
         file.parent.mkdir(parents=True, exist_ok=True)
-        file.write_text(ordinary(n))
+        file.write_text(ordinary(n) + (f'import "{HUB}";\n' if hub else ""))
+    if hub:
+        (folder / HUB).write_text(HUB_TEXT)
     return paths
 
 
@@ -63,8 +71,8 @@ def cost(command, cwd):
     return taken, usage.ru_maxrss / 1024
 
 
-def least(command, cwd):
-    runs = [cost(command, cwd) for _ in range(TIMES)]
+def least(runs):
+    """The least time of some runs, and the least memory."""
     return min(taken for taken, _ in runs), min(memory for _, memory in runs)
 
 
@@ -80,12 +88,55 @@ def checked(size, other):
     """The cost of a check, and that of the other command protoc, if there is one."""
     with tempfile.TemporaryDirectory() as holder:
         paths = put_tree(pathlib.Path(holder), size)
-        ours = least([*stream.command(("check",)), "--root", "."], holder)
-        if other is None:
-            return ours, None
         with open(pathlib.Path(holder) / "files", "w") as files:
             files.write("\n".join(paths))
-        return ours, least([other, "--descriptor_set_out=/dev/null", "@files"], holder)
+        ours, theirs = [], []
+        for _ in range(TIMES):
+            ours.append(cost([*stream.command(("check",)), "--root", "."], holder))
+            if other is not None:
+                theirs.append(cost([other, "--descriptor_set_out=/dev/null", "@files"], holder))
+        return least(ours), least(theirs) if theirs else None
+
+
+class Editor:
+    """An editor over a folder: it opens one document, changes it, and asks for its diagnostics."""
+
+    def __init__(self, holder, place, text):
+        self.uri = f"file://{holder}/{place}"
+        self.text = text
+        self.server = subprocess.Popen([*stream.command(), "--root", holder], stdin=subprocess.PIPE, stdout=subprocess.PIPE)
+        self.ask('{"jsonrpc":"2.0","id":1,"method":"initialize","params":{}}')
+
+    def __enter__(self):
+        return self
+
+    def __exit__(self, *_):
+        self.server.stdin.close()
+        self.server.stdout.close()
+        self.server.wait()
+
+    def ask(self, *bodies):
+        """The seconds from some messages to the reply to the last one, which tells no fault."""
+        start = time.perf_counter()
+        self.server.stdin.write(stream.frames(bodies))
+        self.server.stdin.flush()
+        length = int(self.server.stdout.readline().split(b":")[1])
+        self.server.stdout.readline()
+        reply = self.server.stdout.read(length)
+        if b'"items":[]' not in reply and b'"capabilities"' not in reply:
+            raise SystemExit(f"the reply is {reply[:300]!r}")
+        return time.perf_counter() - start
+
+    def after(self, notification):
+        return self.ask(notification, f'{{"jsonrpc":"2.0","id":2,"method":"textDocument/diagnostic","params":{{"textDocument":{{"uri":"{self.uri}"}}}}}}')
+
+    def open(self):
+        text = self.text.replace('"', '\\"').replace("\n", "\\n")
+        return self.after(f'{{"jsonrpc":"2.0","method":"textDocument/didOpen","params":{{"textDocument":{{"uri":"{self.uri}","version":1,"text":"{text}"}}}}}}')
+
+    def change(self, line, text):
+        place = f'{{"line":{line},"character":0}}'
+        return self.after(f'{{"jsonrpc":"2.0","method":"textDocument/didChange","params":{{"textDocument":{{"uri":"{self.uri}","version":2}},"contentChanges":[{{"range":{{"start":{place},"end":{place}}},"text":"{text}"}}]}}}}')
 
 
 def answer_times(size):
@@ -93,35 +144,21 @@ def answer_times(size):
     declaration more, and after an import more."""
     with tempfile.TemporaryDirectory() as holder:
         put_tree(pathlib.Path(holder), size)
-        place = path(size // 2)
-        uri = f"file://{holder}/{place}"
-        with subprocess.Popen([*stream.command(), "--root", holder], stdin=subprocess.PIPE, stdout=subprocess.PIPE) as server:
-            def ask(*bodies):
-                start = time.perf_counter()
-                server.stdin.write(stream.frames(bodies))
-                server.stdin.flush()
-                length = int(server.stdout.readline().split(b":")[1])
-                server.stdout.readline()
-                reply = server.stdout.read(length)
-                if b'"items":[]' not in reply and b'"capabilities"' not in reply:
-                    raise SystemExit(f"the reply is {reply[:300]!r}")
-                return time.perf_counter() - start
-
-            question = f'{{"jsonrpc":"2.0","id":2,"method":"textDocument/diagnostic","params":{{"textDocument":{{"uri":"{uri}"}}}}}}'
-            text = ordinary(size // 2).replace("\n", "\\n").replace('"', '\\"').replace("\\\\n", "\\n")
-            opened = f'{{"jsonrpc":"2.0","method":"textDocument/didOpen","params":{{"textDocument":{{"uri":"{uri}","version":1,"text":"{text}"}}}}}}'
-
-            def change(line, text):
-                place = f'{{"line":{line},"character":0}}'
-                return f'{{"jsonrpc":"2.0","method":"textDocument/didChange","params":{{"textDocument":{{"uri":"{uri}","version":2}},"contentChanges":[{{"range":{{"start":{place},"end":{place}}},"text":"{text}"}}]}}}}'
-
-            ask('{"jsonrpc":"2.0","id":1,"method":"initialize","params":{}}')
-            first = ask(opened, question)
-            blank = min(ask(change(0, " "), question) for _ in range(TIMES))
-            declared = min(ask(change(LAST_LINE, f"message Added{n} {{ }} "), question) for n in range(TIMES))
-            imported = min(ask(change(LAST_LINE, f'import \\"{path(n)}\\"; '), question) for n in range(TIMES))
-            server.stdin.close()
+        with Editor(holder, path(size // 2), ordinary(size // 2)) as editor:
+            first = editor.open()
+            blank = min(editor.change(0, " ") for _ in range(TIMES))
+            declared = min(editor.change(LAST_LINE, f"message Added{n} {{ }} ") for n in range(TIMES))
+            imported = min(editor.change(LAST_LINE, f'import \\"{path(n)}\\"; ') for n in range(TIMES))
         return first, blank, declared, imported
+
+
+def hub_times(size):
+    """The seconds of the first answer about a file that all others import, and of that after a declaration more in it."""
+    with tempfile.TemporaryDirectory() as holder:
+        put_tree(pathlib.Path(holder), size, hub=True)
+        with Editor(holder, HUB, HUB_TEXT) as editor:
+            first = editor.open()
+            return first, min(editor.change(LAST_LINE, f"message Added{n} {{ }} ") for n in range(TIMES))
 
 
 def main():
@@ -145,6 +182,8 @@ def main():
     for what, changed in zip(("a blank", "a declaration", "an import"), changes):
         print(f"the answer after {what} more in that file: {changed:.4f} s ({changed / first:.3f} of it)")
         kept = kept and changed <= CHANGED * first
+    first, changed = hub_times(SIZES[0])
+    print(f"a file that all import: first answer {first:.2f} s; after a declaration more in it {changed:.4f} s ({changed / first:.3f} of it)")
     print("kept" if kept else "NOT kept")
     return 0 if kept else 1
 

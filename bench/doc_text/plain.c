@@ -1,4 +1,4 @@
-/* The tasks of src/main.rt in plain C: byte by byte, no library but memcpy. The same words, sums and times. */
+/* The tasks of main.rt.txt in plain C: byte by byte, no library but memcpy. The same words, sums and times. */
 #include <stdint.h>
 #include <stdio.h>
 #include <stdlib.h>

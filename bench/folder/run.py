@@ -3,7 +3,7 @@
 files into memory.
 
 The trees have 5,000 and 10,000 files of 5 KB of ordinary proto3, 50 in a folder, which are in the system's cache. The
-input asks for nothing: it is `initialize` and `exit`. A time is the best of 9, in turn. The status is 1 where the program
+input asks for nothing: it is `initialize`, `shutdown` and `exit`. A time is the best of 9, in turn. The status is 1 where the program
 takes more than twice the time of the C program, or where twice the files take more than thrice the time.
 
 The program is crates/protols/out/protols, or another one that the variable PROTOLS names: `make build` builds it."""
