@@ -14,6 +14,8 @@ pub struct Position {
 /// start lies behind its end means the same bytes as the two turned round.
 #[derive(Clone, Copy, Debug, PartialEq, Eq)]
 pub struct Range {
+    /// Where it starts.
     pub start: Position,
+    /// The first place behind it.
     pub end: Position,
 }

@@ -34,9 +34,13 @@ impl Severity {
 /// what it says.
 #[derive(Clone, Copy, Debug)]
 pub struct Diagnostic<'m> {
+    /// Where it stands.
     pub range: Range,
+    /// How grave it is.
     pub severity: Severity,
+    /// Its number.
     pub code: u32,
+    /// What it says.
     pub message: &'m str,
 }
 

@@ -38,7 +38,7 @@ impl Message {
     /// What a body is, by the first of these tests that holds: it is no JSON text; it is no object;
     /// it is a response; its id is neither a whole number of 64 bits nor a string; `jsonrpc` is not
     /// "2.0", or `method` no string. Else it is a request where it has an id, and a notification
-    /// where it has none.
+    /// where it has none. An error is want of memory.
     pub fn parse(alloc: Global, body: &[u8]) -> Result<Message, AllocError>
         ensures { IfOk result (λ m. message_view m ≡ message_of body.now) }
     {

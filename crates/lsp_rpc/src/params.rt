@@ -98,6 +98,7 @@ pub struct VersionedDocument {
 /// The params of `textDocument/didChange` (Language Server Protocol 3.17, "DidChangeTextDocumentParams").
 #[derive(Drop)]
 pub struct DidChangeParams {
+    /// Which document is changed, and its version then.
     pub document: VersionedDocument,
     /// The changes in order. Each counts in the text that those before it leave.
     pub changes: Vec<Change>,

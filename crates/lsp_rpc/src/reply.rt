@@ -18,7 +18,7 @@ use crate::workspace::{DocumentReport, write_workspace};
 use json::Writer;
 use std::alloc::{AllocError, Global};
 
-/// The reply to `initialize`.
+/// The reply to `initialize`. An error is want of memory.
 pub fn initialize_reply(alloc: Global, id: &Id) -> Result<Vec<u8>, AllocError>
     ensures { IfOk result (λ b. b.items
         ≡ compact_text (reply.result_reply (id_view id.now) initialize_result)) }
@@ -29,7 +29,7 @@ pub fn initialize_reply(alloc: Global, id: &Id) -> Result<Vec<u8>, AllocError>
     Ok(out.into_inner())
 }
 
-/// The reply that gives the diagnostics of a document, in order, as a full report.
+/// The reply that gives the diagnostics of a document, in order, as a full report. An error is want of memory.
 pub fn report_reply(
     alloc: Global,
     id: &Id,
@@ -44,7 +44,7 @@ pub fn report_reply(
     Ok(out.into_inner())
 }
 
-/// The reply that gives the diagnostics of all documents of a workspace, in order, as full reports.
+/// The reply that gives the diagnostics of all documents of a workspace, in order, as full reports. An error is want of memory.
 pub fn workspace_reply(
     alloc: Global,
     id: &Id,
@@ -59,7 +59,7 @@ pub fn workspace_reply(
     Ok(out.into_inner())
 }
 
-/// The reply that says `null`, as to `shutdown`.
+/// The reply that says `null`, as to `shutdown`. An error is want of memory.
 pub fn null_reply(alloc: Global, id: &Id) -> Result<Vec<u8>, AllocError>
     ensures { IfOk result (λ b. b.items
         ≡ compact_text (reply.result_reply (id_view id.now) null)) }
@@ -95,7 +95,7 @@ fn write_id(out: &mut Writer, id: &Id) -> Result<(), AllocError>
 }
 
 /// The reply that refuses a message, under its id, or under `null` where it has none that can be
-/// repeated.
+/// repeated. An error is want of memory.
 pub fn error_reply(alloc: Global, id: Option<&Id>, code: ErrorCode) -> Result<Vec<u8>, AllocError>
     ensures { IfOk result (λ b. b.items
         ≡ compact_text (reply.error_reply (option_map (λ i. id_view i.now) id.entry) code)) }

@@ -12,6 +12,7 @@ use std::alloc::AllocError;
 /// The diagnostics of a document of the workspace, in order.
 #[derive(Debug, Drop)]
 pub struct DocumentReport<'m> {
+    /// What is wrong in the document, in order.
     pub diagnostics: Vec<Diagnostic<'m>>,
     /// The document's URI.
     pub uri: String,

@@ -15,15 +15,20 @@ use std::collections::BTreeMap;
 /// A document that is open in the editor: the version that the editor gave it, and its text.
 #[derive(Drop)]
 pub struct Document {
+    /// The version that the editor gave it last.
     pub version: i64,
+    /// The text, with all changes.
     pub text: Text,
 }
 
-/// The document that is open at a path, the text that is kept for the path, and the URI of the last open.
+/// What is known at a path.
 #[derive(Drop)]
 pub struct FileEntry {
+    /// The document that is open there.
     pub document: Option<Document>,
+    /// The text that was on disk there at the start, or that was saved last.
     pub kept: Option<Text>,
+    /// The URI of the last open.
     pub uri: Option<String>,
 }
 
@@ -43,7 +48,7 @@ impl FileEntry {
 }
 
 /// The files on disk by their paths. Of two files with one path the earlier counts. An `Err` comes only where memory was
-/// refused, here and below; then some of the changes may have been made.
+/// refused.
 pub fn from_disk(alloc: Global, files: Vec<DiskFile>) -> Result<Files, AllocError>
     ensures { IfOk result (λ found. files_view found.entries ≡ from_disk (map disk_view files.items)) }
 {
@@ -75,14 +80,15 @@ fn put_disk_file(files: &mut Files, file: DiskFile) -> Result<(), AllocError>
     put(files, file.path, entry)
 }
 
-/// The file at a path. Takes no memory.
+/// The file at a path; `None` where there is none. Takes no memory.
 pub fn get<'f>(files: &'f Files, path: &str) -> Option<&'f FileEntry>
     ensures { option_map (λ f. file_view f.now) result ≡ file_at path.now (files_view files.now.entries) }
 {
     files.get(path)
 }
 
-/// Opens a document at a path, in the place of one that is open. The kept text stays.
+/// Opens a document at a path, in the place of one that is open. The kept text stays. An `Err` comes only where memory was
+/// refused.
 pub fn open(files: &mut Files, path: String, opened: DidOpenParams) -> Result<(), AllocError>
     ensures { OnOk result (files_view files.new.entries ≡ opened_files (opened_view opened) (string_bytes path) (files_view files.old.entries)) }
 {
@@ -122,7 +128,7 @@ fn insert(files: &mut Files, path: String, opened: DidOpenParams) -> Result<(), 
 }
 
 /// Changes the document that is open at a path, by changes in order, and gives it their version. Where none is open, nothing
-/// changes.
+/// changes. An `Err` comes only where memory was refused; some of the changes may have been made then.
 pub fn change(files: &mut Files, path: &str, changed: DidChangeParams) -> Result<(), AllocError>
     ensures { OnOk result (files_view files.new.entries
         ≡ changed_files changed.document.version (map change_view changed.changes.items) path.now (files_view files.old.entries)) }
@@ -153,7 +159,8 @@ fn edit(text: &mut Text, changes: Vec<Change>) -> Result<(), AllocError>
     Ok(())
 }
 
-/// Keeps the text of the document that is open at a path. Where none is open, nothing changes.
+/// Keeps the text of the document that is open at a path. Where none is open, nothing changes. An `Err` comes only where memory
+/// was refused.
 pub fn save(alloc: Global, files: &mut Files, path: &str) -> Result<(), AllocError>
     ensures { OnOk result (files_view files.new.entries ≡ saved_files path.now (files_view files.old.entries)) }
 {

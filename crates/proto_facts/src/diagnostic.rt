@@ -10,8 +10,11 @@ use std::alloc::{AllocError, Global};
 /// Offsets count the text's bytes from 0.
 #[derive(Clone, Copy, Debug, PartialEq, Eq, PartialOrd, Ord)]
 pub struct Diag {
+    /// The first byte.
     pub start: usize,
+    /// The first byte behind it.
     pub end: usize,
+    /// What is wrong there.
     pub message: Message,
 }
 

@@ -38,10 +38,15 @@ pub struct ImportFact {
 /// What a declaration declares.
 #[derive(Clone, Copy, Debug, PartialEq, Eq)]
 pub enum DeclKind {
+    /// A `message`.
     Message,
+    /// An `enum`.
     EnumDef,
+    /// A `service`.
     Service,
+    /// An `rpc` of a service.
     Rpc,
+    /// A `oneof` of a message.
     Oneof,
     /// A field of a message, also in a oneof, and a map.
     Field,

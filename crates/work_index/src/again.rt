@@ -141,7 +141,7 @@ fn facts_at<'p>(pieces: &'p [Piece<FileWork>], file: usize) -> &'p FileFacts
 }
 
 /// The analysis of the workspace of some pieces, which are in the order of their paths, no path twice, after a change of the
-/// text of one file. It is given the analysis before the change, and the number of the file. Links again only that file, the
+/// text of one file. It is given the analysis before the change, and the file's number, from 0. Links again only that file, the
 /// files of which the imports say another thing than before, and those that see it where it declares other things than before
 /// or has another package. An `Err` comes only where memory was refused.
 pub fn analyse_again(

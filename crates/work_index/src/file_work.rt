@@ -29,7 +29,9 @@ pub struct FileWork {
 
 impl FileWork {
     /// Work that takes its memory from this allocator.
-    pub fn new(alloc: Global) -> FileWork {
+    pub fn new(alloc: Global) -> FileWork
+        ensures { result.alloc ≡ alloc }
+    {
         FileWork { alloc }
     }
 }
