@@ -29,7 +29,7 @@ ORDER = {
     "import_graph": "Paths Links Walks Views Closures Outlooks Laws".split(),
     "proto_resolve": "Files Sites Names Uses Finding FindingLaws ViewFaults Resolved Laws FaultLaws OrderLaws Seen Outlines".split(),
     "doc_text": "Lines Positions Edits Laws".split(),
-    "piece_collector": "Events History Board Runs Fault Laws".split(),
+    "piece_collector": "Events History Views Board Runs Fault Laws".split(),
     "work_index": "Workspace Pieces Changes Laws".split(),
     "lsp_workspace": "Files Diagnostics Reports Listing Disk View".split(),
     "lsp_session": "Configuration Session Stream Core Run Fault View".split(),
@@ -47,7 +47,7 @@ PRIVATE = {
     "proto_resolve": {"Places", "Views", "Tables"},
     "doc_text": {"Bytes", "Walks"},
     "lsp_rpc": {"Writing"},
-    "piece_collector": {"Lending", "Views"},
+    "piece_collector": {"Lending"},
     "lsp_workspace": {"Steps"},
     "lsp_session": {"Steps"},
 }
