@@ -73,6 +73,11 @@ class Documents(unittest.TestCase):
     def test_the_front_page_is_short(self):
         self.assertLess(len((ROOT / "README.md").read_text(encoding="utf-8").split()), 1500)
 
+    def test_the_lines_of_a_check_are_those_of_the_example(self):
+        shown = re.findall(r"^    (shop/.*)$", (ROOT / "README.md").read_text(encoding="utf-8"), re.MULTILINE)
+        self.assertTrue(shown)
+        self.assertEqual(shown, (ROOT / "examples/check.stdout").read_text(encoding="utf-8").splitlines()[: len(shown)])
+
     def test_the_words_of_diagnostics_are_those_of_the_code(self):
         rows = re.findall(r"^\| (\d{3}) \| ([^|]*?) \|", (ROOT / "docs/DIAGNOSTICS.md").read_text(encoding="utf-8"), re.MULTILINE)
         self.assertEqual([int(number) for number, _words in rows], [*range(201, 205), *range(301, 319), *range(401, 407)])
