@@ -11,7 +11,7 @@ all: build
 # The kit with its command rt has to be there: nothing else builds or proves Rattle.
 need-rt:
 	@if [ -z "$(RT)" ]; then \
-	  echo "protols is written in Rattle: put the Rattle kit's command rt on the PATH (README.md, 'Set-up')" >&2; \
+	  echo "protols is written in Rattle: put the Rattle kit's command rt on the PATH (README.md, 'Quick start')" >&2; \
 	  exit 1; \
 	fi
 
