@@ -1,0 +1,104 @@
+"""Tests of the documents: their links, the parts that are generated, and plain words. They need no built program."""
+import pathlib
+import re
+import subprocess
+import sys
+import unittest
+
+ROOT = pathlib.Path(__file__).resolve().parent.parent
+FENCE = re.compile(r"^(```|~~~).*?^\1", re.MULTILINE | re.DOTALL)
+CODE = re.compile(r"`[^`\n]*`")
+LINK = re.compile(r"\[[^\]]*\]\(([^)\s]+)\)")
+HEADING = re.compile(r"^#{1,6} +(.*?) *$", re.MULTILINE)
+
+# Words that only this repository's authors would use, each with plain ones.
+PRIVATE_WORDS = {
+    "want of memory": "out of memory",
+    "is told where": "is reported if",
+    "are told where": "are reported if",
+    "told only where": "reported only if",
+    "of ours beside": "other work on the machine",
+    "for want of": "for lack of",
+    "known to everybody": "fixed",
+}
+
+
+def documents():
+    """The documents of the repository, without what was built."""
+    return sorted(path for path in ROOT.rglob("*.md") if not {"out", ".git"} & set(path.relative_to(ROOT).parts))
+
+
+def anchor(heading):
+    """The anchor that a heading gets: lower case, without marks, with hyphens for spaces."""
+    plain = re.sub(r"\[([^\]]*)\]\([^)]*\)", r"\1", heading).replace("`", "")
+    return re.sub(r"[^\w\- ]", "", plain.lower()).replace(" ", "-")
+
+
+def anchors(document):
+    """All anchors of a document."""
+    return {anchor(heading) for heading in HEADING.findall(FENCE.sub("", document.read_text(encoding="utf-8")))}
+
+
+def targets(document):
+    """What the links of a document name, without those to the web."""
+    text = FENCE.sub("", document.read_text(encoding="utf-8"))
+    return [target for target in LINK.findall(CODE.sub("`code`", text)) if not re.match(r"[a-z]+:", target)]
+
+
+class Documents(unittest.TestCase):
+    def test_no_link_is_dead(self):
+        for document in documents():
+            for target in targets(document):
+                path, _mark, place = target.partition("#")
+                named = (document.parent / path).resolve() if path else document
+                with self.subTest(document=document.relative_to(ROOT).as_posix(), link=target):
+                    self.assertTrue(named.is_relative_to(ROOT) and named.exists(), "names nothing")
+                    if place:
+                        self.assertIn(place, anchors(named))
+
+    def test_words_are_plain(self):
+        for document in documents():
+            for number, line in enumerate(document.read_text(encoding="utf-8").splitlines(), 1):
+                for private, plain in PRIVATE_WORDS.items():
+                    with self.subTest(document=document.relative_to(ROOT).as_posix(), line=number):
+                        self.assertNotRegex(line, rf"\b{private}\b", f"say it in plain English: {plain}")
+
+    def test_each_library_has_a_readme(self):
+        for line in (ROOT / "crates.txt").read_text().splitlines():
+            crate = line.partition(":")[0]
+            if re.match(r"\w+:", line) and (ROOT / "crates" / crate / "specs").is_dir():
+                with self.subTest(crate=crate):
+                    self.assertTrue((ROOT / "crates" / crate / "README.md").is_file())
+
+    def test_the_front_page_is_short(self):
+        self.assertLess(len((ROOT / "README.md").read_text(encoding="utf-8").split()), 1500)
+
+    def test_the_lines_of_a_check_are_those_of_the_example(self):
+        shown = re.findall(r"^    (shop/.*)$", (ROOT / "README.md").read_text(encoding="utf-8"), re.MULTILINE)
+        self.assertTrue(shown)
+        self.assertEqual(shown, (ROOT / "examples/check.stdout").read_text(encoding="utf-8").splitlines()[: len(shown)])
+
+    def test_the_words_of_diagnostics_are_those_of_the_code(self):
+        rows = re.findall(r"^\| (\d{3}) \| ([^|]*?) \|", (ROOT / "docs/DIAGNOSTICS.md").read_text(encoding="utf-8"), re.MULTILINE)
+        self.assertEqual([int(number) for number, _words in rows], [*range(201, 205), *range(301, 319), *range(401, 407)])
+        code = "\n".join(path.read_text(encoding="utf-8") for path in sorted((ROOT / "crates").glob("*/src/*.rt")))
+        for number, words in rows:
+            for one in words.split(", "):
+                with self.subTest(number=number, words=one):
+                    self.assertIn(f'=> "{one}"', code)
+
+
+class Generated(unittest.TestCase):
+    def run_check(self, tool):
+        ended = subprocess.run([sys.executable, str(ROOT / "tools" / tool), "--check"], stdin=subprocess.DEVNULL, capture_output=True, text=True)
+        self.assertEqual((ended.returncode, ended.stdout + ended.stderr), (0, ""))
+
+    def test_the_table_of_wrong_bodies_is_current(self):
+        self.run_check("wrong_bodies_table.py")
+
+    def test_the_list_of_definitions_is_current(self):
+        self.run_check("definitions.py")
+
+
+if __name__ == "__main__":
+    unittest.main()
