@@ -1,13 +1,13 @@
 -- Where imports lead back, files have one number.
 use Rattle.std.proofs.Common.{◌≡◌, ℕ, ◌≤◌, List, map, get_or, arith}
-use Rattle.import_graph.specs.declared.links.LinkedFile.{LinkedFile}
+use Rattle.import_graph.specs.declared.imports.FileImports.{FileImports}
 use Rattle.import_graph.specs.Components.{Descends}
-use Rattle.import_graph.specs.Links.{targets}
+use Rattle.import_graph.specs.Imports.{targets}
 use Rattle.import_graph.specs.Views.{Imports, Reaches}
 use Rattle.import_graph.specs.Walks.{Walk, stay, go}
-use Rattle.import_graph.proofs.Linked.{imports_listed}
+use Rattle.import_graph.proofs.ImportEdges.{imports_listed}
 
-module _ (graph : List LinkedFile) (numbers : List ℕ) (descends : Descends (map targets graph) numbers) where
+module _ (graph : List FileImports) (numbers : List ℕ) (descends : Descends (map targets graph) numbers) where
   step_descends : (a b : ℕ) → Imports graph a b → get_or numbers b 0 ≤ get_or numbers a 0
   step_descends a b step = descends a b ((imports_listed graph a b).1 step)
 

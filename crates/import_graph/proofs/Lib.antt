@@ -2,7 +2,7 @@ pub mod Steps
 pub mod Search
 pub mod ByPath
 pub mod Calls
-pub mod Linked
+pub mod ImportEdges
 pub mod Views
 pub mod Closures
 pub mod SeesTest

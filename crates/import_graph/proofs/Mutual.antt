@@ -7,7 +7,7 @@ use Rattle.std.proofs.lemmas.List.{get_or_default, get_or_past, get_or_push, get
 use Rattle.std.proofs.lemmas.List.Elements.{All-contains, All-weaker, All-contains_itself}
 use Rattle.import_graph.specs.Walks.{AllWithin, Lists, Walk, stay, go, ReachedFrom}
 use Rattle.import_graph.specs.Ties.{IsInner, IsFirst, IsTied}
-use Rattle.import_graph.proofs.Linked.{filter_from, walk_map}
+use Rattle.import_graph.proofs.ImportEdges.{filter_from, walk_map}
 use Rattle.import_graph.proofs.Placing.{listed_within}
 use Rattle.import_graph.proofs.Search.{walk_snoc}
 

@@ -9,8 +9,8 @@ use Rattle.std.proofs.lemmas.Map.Views.{btree_set_contains_iff, length-le_from_b
 use Rattle.std.specs.BTreeSet.{IsOrdered, btree_set_len}
 use Rattle.std.specs.Ordering.{nat_cmp}
 use Rattle.import_graph.specs.Walks.{Lists, Walk, stay, go, ReachedFrom}
-use Rattle.import_graph.specs.Fronts.{IsSeen, weight, VisitsAll}
-use Rattle.import_graph.specs.declared.front.Front.{Front}
+use Rattle.import_graph.specs.FileSearches.{IsSeen, weight, VisitsAll}
+use Rattle.import_graph.specs.declared.file_search.FileSearch.{FileSearch}
 
 -- one more step at the end
 pub walk_snoc : {Step : ℕ → ℕ → Type 0} {a b c : ℕ} → Walk Step a b → Step b c → Walk Step a c
@@ -18,7 +18,7 @@ walk_snoc stay last = go last stay
 walk_snoc (go first rest) last = go first (walk_snoc rest last)
 
 -- what was seen is reached, and of a file that was gone on from all steps were seen
-pub record Searches (next : List (List ℕ)) (start : List ℕ) (s : Front) : Type 0 where
+pub record Searches (next : List (List ℕ)) (start : List ℕ) (s : FileSearch) : Type 0 where
   pub ordered : IsOrdered nat_cmp s.seen
   pub within : (g : ℕ) → IsSeen s g → g < length next
   pub sound : (g : ℕ) → IsSeen s g → ReachedFrom next start g
@@ -27,12 +27,12 @@ pub record Searches (next : List (List ℕ)) (start : List ℕ) (s : Front) : Ty
   pub waiting : (g : ℕ) → Contains s.pending.items g → IsSeen s g
 
 -- no more files were seen than there are
-pub seen_at_most : (n : ℕ) (s : Front) → IsOrdered nat_cmp s.seen → ((g : ℕ) → IsSeen s g → g < n) → btree_set_len s.seen ≤ n
+pub seen_at_most : (n : ℕ) (s : FileSearch) → IsOrdered nat_cmp s.seen → ((g : ℕ) → IsSeen s g → g < n) → btree_set_len s.seen ≤ n
 seen_at_most n s ordered within = length-le_from_below n s.seen.keys ordered
     (All-weaker (Contains s.seen.keys) (λ g. g < n) (λ g has. within g ((btree_set_contains_iff nat_cmp_total exact_unsigned s.seen g).1 has)) s.seen.keys
     (All-contains_itself s.seen.keys))
 
-pub Searches-init : (next : List (List ℕ)) (start : List ℕ) (s t : Front) → ((g : ℕ) → IsSeen s g → ⊥) → s.pending.items ≡ []
+pub Searches-init : (next : List (List ℕ)) (start : List ℕ) (s t : FileSearch) → ((g : ℕ) → IsSeen s g → ⊥) → s.pending.items ≡ []
     → ((g : ℕ) → Contains start g → g < length next) → VisitsAll s t start → Searches next start t
 Searches-init next start s t none empty there all = record {
   ordered = all.ordered;
@@ -44,7 +44,7 @@ Searches-init next start s t none empty there all = record {
 }
 
 -- `mid` is `old` with the last file that waits taken out
-module _ (next : List (List ℕ)) (start : List ℕ) (old mid new : Front) (f : ℕ)
+module _ (next : List (List ℕ)) (start : List ℕ) (old mid new : FileSearch) (f : ℕ)
     (so_far : Searches next start old) (seen : mid.seen ≡ old.seen) (popped : old.pending.items ≡ mid.pending.items ++ f ∷ [])
     (there : (g : ℕ) → Contains (get_or next f []) g → g < length next)
     (all : VisitsAll mid new (get_or next f [])) where
@@ -93,12 +93,12 @@ module _ (next : List (List ℕ)) (start : List ℕ) (old mid new : Front) (f : 
       rw (← seen, popped, length_push mid.pending.items f) (omega (arith, fewer, more, l))
 
 -- when none waits, what is reached was seen
-walk_seen : {next : List (List ℕ)} {start : List ℕ} {s : Front} → Searches next start s → s.pending.items ≡ []
+walk_seen : {next : List (List ℕ)} {start : List ℕ} {s : FileSearch} → Searches next start s → s.pending.items ≡ []
     → {a b : ℕ} → Walk (Lists next) a b → IsSeen s a → IsSeen s b
 walk_seen done empty stay m = m
 walk_seen {s = s} done empty (go {a} {b} step rest) m = walk_seen done empty rest
     (⊎_elim (λ mb. mb) (λ waits. let bad : Contains {X = ℕ} [] a = rw empty at waits in absurd (omega (arith, bad.1))) (done.closed a b m step))
 
-pub Searches-done : (next : List (List ℕ)) (start : List ℕ) (s : Front) → Searches next start s → s.pending.items ≡ []
+pub Searches-done : (next : List (List ℕ)) (start : List ℕ) (s : FileSearch) → Searches next start s → s.pending.items ≡ []
     → (g : ℕ) → ReachedFrom next start g → IsSeen s g
 Searches-done next start s done empty g (h, has, walk) = walk_seen done empty walk (done.started h has)

@@ -6,10 +6,10 @@ use Rattle.std.proofs.lemmas.List.Elements.{Contains-push, Contains-append_left,
 use Rattle.std.specs.Prelude.{Contains}
 use Rattle.std.specs.BTreeSet.{contains, IsOrdered, btree_set_len}
 use Rattle.std.specs.Ordering.{nat_cmp}
-use Rattle.import_graph.specs.Fronts.{IsSeen, Visits, VisitsAll}
-use Rattle.import_graph.specs.declared.front.Front.{Front}
+use Rattle.import_graph.specs.FileSearches.{IsSeen, Visits, VisitsAll}
+use Rattle.import_graph.specs.declared.file_search.FileSearch.{FileSearch}
 
-pub VisitsAll-none : (s : Front) → IsOrdered nat_cmp s.seen → VisitsAll s s []
+pub VisitsAll-none : (s : FileSearch) → IsOrdered nat_cmp s.seen → VisitsAll s s []
 VisitsAll-none s ordered = record {
   ordered = ordered;
   keeps = λ g m. m;
@@ -21,7 +21,7 @@ VisitsAll-none s ordered = record {
   lengths = refl;
 }
 
-module _ (old mid new : Front) (files : List ℕ) (f : ℕ) (all : VisitsAll old mid files) (one : Visits mid new f) where
+module _ (old mid new : FileSearch) (files : List ℕ) (f : ℕ) (all : VisitsAll old mid files) (one : Visits mid new f) where
   waits : (g : ℕ) → IsSeen new g → IsSeen mid g ⊎ Contains new.pending.items g
   waits g m = ⊎_elim inl (λ same. elim (cases_Bool (contains nat_cmp mid.seen f)) [
     | inl was ↦ inl (rw (← same) was)

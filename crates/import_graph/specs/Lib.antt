@@ -1,10 +1,10 @@
 pub mod Walks
 pub mod Paths
-pub mod Links
+pub mod Imports
 pub mod Views
 pub mod Closures
 pub mod Laws
-pub mod Fronts
+pub mod FileSearches
 pub mod Tours
 pub mod Components
 pub mod Ties

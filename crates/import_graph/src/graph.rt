@@ -5,14 +5,14 @@ ghost use Rattle.std.specs.List.Sorted.{IsStrictlyIncreasing};
 ghost use Rattle.import_graph.specs.Paths.{IsInPathOrder};
 
 use crate::components::{Components, components_of};
-use crate::front::{add, numbers, reached};
-use crate::links::{LinkedFile, completeness, links_of};
+use crate::file_search::{add, ascending, reached};
+use crate::imports::{FileImports, completeness, imports_of};
 use crate::paths::{FileNo, NamedFacts};
 use sqlite_items::Items;
 use std::alloc::{AllocError, Global};
 use std::marker::Model;
 
-/// The imports of the files of a workspace, which contracts see as the list of the files' links.
+/// The imports of the files of a workspace, which contracts see as the list of the files' edges.
 ///
 /// Files and imports are numbers from 0: a file is its place in the list that the graph is made of, an import its place
 /// among the imports of its file. The graph keeps the allocator that it is made with, and takes the memory of its answers
@@ -20,7 +20,7 @@ use std::marker::Model;
 #[derive(Drop)]
 pub struct Graph {
     alloc: Global,
-    files: Vec<LinkedFile>,
+    files: Vec<FileImports>,
     imports: Vec<Items<FileNo>>,
     public: Vec<Items<FileNo>>,
     // For each file whether all that it imports is there and not opaque.
@@ -30,10 +30,10 @@ pub struct Graph {
 
 impl Model for Graph {
     ghost use Rattle.std.specs.Prelude.{List};
-    ghost use Rattle.import_graph.specs.declared.links.LinkedFile.{LinkedFile};
-    ghost use Rattle.import_graph.specs.Links.{IsGraph};
+    ghost use Rattle.import_graph.specs.declared.imports.FileImports.{FileImports};
+    ghost use Rattle.import_graph.specs.Imports.{IsGraph};
 
-    ghost Value = { List LinkedFile };
+    ghost Value = { List FileImports };
 
     ghost view = { λ g. g.files.items };
 
@@ -41,7 +41,7 @@ impl Model for Graph {
 }
 
 impl Graph {
-    ghost use Rattle.import_graph.specs.Links.{graph_of, links_at, target_at};
+    ghost use Rattle.import_graph.specs.Imports.{graph_of, edges_at, target_at};
     ghost use Rattle.std.specs.List.{list_all};
     ghost use Rattle.import_graph.specs.Closures.{view_of, reaches, closes_cycle, is_complete, is_closed};
     ghost use Rattle.import_graph.specs.Views.{Imports, Sees, Reaches, ClosesCycle, IsClosed};
@@ -52,20 +52,20 @@ impl Graph {
         requires { IsInPathOrder files.now }
         ensures { IfOk result (λ g. g ≡ graph_of files.now) }
     {
-        let mut linked = Vec::new(alloc);
+        let mut file_imports = Vec::new(alloc);
         let mut imports = Vec::new(alloc);
         let mut public = Vec::new(alloc);
         for file in files {
-            let links = links_of(alloc, files, &file.facts)?;
-            imports.push(links.targets(alloc)?)?;
-            public.push(links.public_targets(alloc)?)?;
-            linked.push(links)?;
+            let imported = imports_of(alloc, files, &file.facts)?;
+            imports.push(imported.targets(alloc)?)?;
+            public.push(imported.public_targets(alloc)?)?;
+            file_imports.push(imported)?;
         }
-        let complete = completeness(alloc, linked.as_slice())?;
+        let complete = completeness(alloc, file_imports.as_slice())?;
         let components = components_of(alloc, imports.as_slice())?;
         Ok(Graph {
             alloc,
-            files: linked,
+            files: file_imports,
             imports,
             public,
             complete,
@@ -77,19 +77,19 @@ impl Graph {
     /// from 0, among the imports of its file. Takes no memory.
     pub fn import_of(&self, file: FileNo, import: usize) -> Option<FileNo>
         requires file { file < length self.now }
-        requires import { import < length (links_at self.now file) }
+        requires import { import < length (edges_at self.now file) }
         ensures value { result ≡ target_at self.now file import }
         ensures within { IfSome result (λ g. g < length self.now) }
     {
-        self.files[file].links.as_slice()[import].target
+        self.files[file].edges.as_slice()[import].target
     }
 
     // How many imports a file has.
     pub(crate) fn import_count(&self, file: FileNo) -> usize
         requires { file < length self.now }
-        ensures { result ≡ length (links_at self.now file) }
+        ensures { result ≡ length (edges_at self.now file) }
     {
-        self.files[file].links.as_slice().len()
+        self.files[file].edges.as_slice().len()
     }
 
     /// The numbers of the files that a file sees, ascending, each once: itself, its imports, and what public imports lead
@@ -118,7 +118,7 @@ impl Graph {
             self.imports[file].as_slice(),
         )?;
         add(&mut seen, file)?;
-        numbers(self.alloc, &seen)
+        ascending(self.alloc, &seen)
     }
 
     /// Whether an import closes a cycle: imports lead from the file that it names back to the importing one, or it names
@@ -126,7 +126,7 @@ impl Graph {
     /// file. `Err` where memory was refused.
     pub fn closes_cycle(&self, file: FileNo, import: usize) -> Result<bool, AllocError>
         requires file { file < length self.now }
-        requires import { import < length (links_at self.now file) }
+        requires import { import < length (edges_at self.now file) }
         ensures value { IfOk result (λ closes. closes ≡ closes_cycle self.now file (target_at self.now file import)) }
         ensures exact { IfOk result (λ closes. IsTrue closes ↔ ClosesCycle self.now file (target_at self.now file import)) }
     {

@@ -3,26 +3,26 @@
 //! `Graph::of` takes the files of a workspace, each with its path and its facts, in the order of their paths. A file is a
 //! number from then on, its place in that list, counted from 0. An import names the file whose path is its text. A file
 //! sees itself, the files that it imports, and what public imports lead to from there. The definitions are in specs/:
-//! Links.antt says what imports name, Views.antt what is seen and reached as walks from file to file, and Closures.antt
+//! Imports.antt says what imports name, Views.antt what is seen and reached as walks from file to file, and Closures.antt
 //! gives the same as functions of the graph; the laws say that both agree. Outlooks.antt says what a graph says of one file,
-//! which `look_alike` compares.
+//! which `same_outlook` compares.
 //!
 //! Which files lead to one another is found once, when the graph is made; that tells whether an import closes a cycle, and
 //! where it could not, a search would. What a file sees is searched when it is asked for, in time that grows with what the search meets.
 #![tactic(auto)]
 
 mod components;
-mod front;
+mod file_search;
 mod graph;
+mod imports;
 mod laws;
-mod links;
 mod outlook;
 mod paths;
 mod ties;
 mod tour;
 
 pub use graph::Graph;
+pub use imports::{FileImports, ImportEdge};
 pub use laws::{closure_law, one_view, view_law};
-pub use links::{Link, LinkedFile};
-pub use outlook::look_alike;
+pub use outlook::same_outlook;
 pub use paths::{FileNo, NamedFacts, are_in_path_order};

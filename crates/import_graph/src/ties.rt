@@ -6,7 +6,7 @@ ghost use Rattle.std.specs.Ordering.{nat_cmp};
 ghost use Rattle.import_graph.specs.Walks.{AllWithin};
 ghost use Rattle.import_graph.specs.Ties.{IsInner, IsFirst, IsTied};
 
-use crate::front::reached;
+use crate::file_search::reached;
 use crate::paths::FileNo;
 use crate::tour::importers;
 use sqlite_items::Items;

@@ -2,10 +2,10 @@
 
 ghost use Rattle.std.specs.Prelude.{◌≡◌, ◌<◌, length};
 ghost use Rattle.import_graph.specs.Paths.{IsInPathOrder};
-ghost use Rattle.import_graph.specs.Links.{graph_of, links_at};
+ghost use Rattle.import_graph.specs.Imports.{graph_of, links_at};
 
 use import_graph::{
-    FileNo, Graph, NamedFacts, are_in_path_order, closure_law, look_alike, one_view, view_law,
+    FileNo, Graph, NamedFacts, are_in_path_order, closure_law, one_view, same_outlook, view_law,
 };
 use proto_facts::{Name, facts};
 use proto_lex::lex;
@@ -308,7 +308,7 @@ fn mark(
     requires before { file < length before.now }
     requires after { file < length after.now }
 {
-    let alike = look_alike(old, new, file)?;
+    let alike = same_outlook(old, new, file)?;
     Ok(if alike { '=' } else { '!' })
 }
 

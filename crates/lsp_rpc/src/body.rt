@@ -8,7 +8,7 @@ use std::alloc::{AllocError, Global};
 
 // The JSON value of a body, if it is UTF-8 and one JSON text (RFC 8259) that nests at most 127
 // deep. Of a key that comes twice in an object the last value counts.
-pub(crate) fn json_of(alloc: Global, body: &[u8]) -> Result<Option<Value>, AllocError>
+pub fn json_of(alloc: Global, body: &[u8]) -> Result<Option<Value>, AllocError>
     ensures { IfOk result (λ o. option_map view o ≡ json_of body.now) }
 {
     match Value::from_slice(alloc, body) {
@@ -22,28 +22,28 @@ pub(crate) fn json_of(alloc: Global, body: &[u8]) -> Result<Option<Value>, Alloc
 }
 
 // Whether a value is an object that has the member.
-pub(crate) fn has(value: &Value, name: &str) -> bool
+pub fn has(value: &Value, name: &str) -> bool
     ensures { result ≡ has name.now (view value.now) }
 {
     value.get(name).is_some()
 }
 
 // The member, if it is a string.
-pub(crate) fn text_member<'v>(value: &'v Value, name: &str) -> Option<&'v str>
+pub fn text_member<'v>(value: &'v Value, name: &str) -> Option<&'v str>
     ensures { option_map (λ s. s.now) result ≡ text_member name.now (view value.now) }
 {
     value.get(name)?.as_str()
 }
 
 // The member, if it is a whole number from 0 to 2^64 - 1.
-pub(crate) fn natural_member(value: &Value, name: &str) -> Option<u64>
+pub fn natural_member(value: &Value, name: &str) -> Option<u64>
     ensures { result ≡ natural_member name.now (view value.now) }
 {
     value.get(name)?.as_u64()
 }
 
 // The member, or `null` where there is none. The rest of the value is dropped.
-pub(crate) fn take_member(mut value: Value, name: &str) -> Value
+pub fn take_member(mut value: Value, name: &str) -> Value
     ensures { view result ≡ member_or_null name.now (view value) }
 {
     match value.get_mut(name) {

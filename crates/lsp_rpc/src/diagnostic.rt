@@ -87,10 +87,7 @@ fn write_diagnostic(out: &mut Writer, diagnostic: &Diagnostic<'_>) -> Result<(),
 }
 
 // Writes the diagnostics of a document, in order, as an array.
-pub(crate) fn write_items(
-    out: &mut Writer,
-    diagnostics: &[Diagnostic<'_>],
-) -> Result<(), AllocError>
+pub fn write_items(out: &mut Writer, diagnostics: &[Diagnostic<'_>]) -> Result<(), AllocError>
     ensures { OnOk result
         (Adds out.old (array (items_of (map diagnostic_value (map diagnostic_view diagnostics.now)))) out.new) }
 {
@@ -103,10 +100,7 @@ pub(crate) fn write_items(
 }
 
 /// Writes the diagnostics of a document, in order, as a full report.
-pub(crate) fn write_report(
-    out: &mut Writer,
-    diagnostics: &[Diagnostic<'_>],
-) -> Result<(), AllocError>
+pub fn write_report(out: &mut Writer, diagnostics: &[Diagnostic<'_>]) -> Result<(), AllocError>
     ensures { OnOk result (Adds out.old (report_value (map diagnostic_view diagnostics.now)) out.new) }
 {
     out.begin_object()?;

@@ -17,7 +17,7 @@ pub enum Id {
 
 /// The id of a message, or `None` where it is missing, or neither a whole number of 64 bits nor a
 /// string.
-pub(crate) fn id_of(alloc: Global, message: &Value) -> Result<Option<Id>, AllocError>
+pub fn id_of(alloc: Global, message: &Value) -> Result<Option<Id>, AllocError>
     ensures { IfOk result (λ o. option_map id_view o ≡ id_of (view message.now)) }
 {
     match message.get("id") {

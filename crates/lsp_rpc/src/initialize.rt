@@ -8,7 +8,7 @@ use json::Writer;
 use std::alloc::AllocError;
 
 /// Writes the result of `initialize` (Language Server Protocol 3.17, "InitializeResult").
-pub(crate) fn write_initialize_result(out: &mut Writer) -> Result<(), AllocError>
+pub fn write_initialize_result(out: &mut Writer) -> Result<(), AllocError>
     ensures { OnOk result (Adds out.old spec.initialize_result out.new) }
 {
     out.begin_object()?;

@@ -23,7 +23,7 @@ pub fn initialize_reply(alloc: Global, id: &Id) -> Result<Vec<u8>, AllocError>
     ensures { IfOk result (λ b. b.items
         ≡ compact_text (reply.result_reply (id_view id.now) initialize_result)) }
 {
-    let mut out = result_begun(alloc, id)?;
+    let mut out = begin_result(alloc, id)?;
     write_initialize_result(&mut out)?;
     out.end_object()?;
     Ok(out.into_inner())
@@ -38,7 +38,7 @@ pub fn report_reply(
     ensures { IfOk result (λ b. b.items
         ≡ compact_text (reply.result_reply (id_view id.now) (report_value (map diagnostic_view diagnostics.now)))) }
 {
-    let mut out = result_begun(alloc, id)?;
+    let mut out = begin_result(alloc, id)?;
     write_report(&mut out, diagnostics)?;
     out.end_object()?;
     Ok(out.into_inner())
@@ -53,7 +53,7 @@ pub fn workspace_reply(
     ensures { IfOk result (λ b. b.items
         ≡ compact_text (reply.result_reply (id_view id.now) (workspace_value (map document_view reports.now)))) }
 {
-    let mut out = result_begun(alloc, id)?;
+    let mut out = begin_result(alloc, id)?;
     write_workspace(&mut out, reports)?;
     out.end_object()?;
     Ok(out.into_inner())
@@ -64,14 +64,14 @@ pub fn null_reply(alloc: Global, id: &Id) -> Result<Vec<u8>, AllocError>
     ensures { IfOk result (λ b. b.items
         ≡ compact_text (reply.result_reply (id_view id.now) null)) }
 {
-    let mut out = result_begun(alloc, id)?;
+    let mut out = begin_result(alloc, id)?;
     write_null(&mut out)?;
     out.end_object()?;
     Ok(out.into_inner())
 }
 
 /// A reply up to its result.
-fn result_begun(alloc: Global, id: &Id) -> Result<Writer, AllocError>
+fn begin_result(alloc: Global, id: &Id) -> Result<Writer, AllocError>
     ensures { IfOk result (λ out. Appends empty (reply.tokens_to_result (id_view id.now)) out) }
 {
     let mut out = new_text(alloc);

@@ -58,10 +58,7 @@ fn write_documents(out: &mut Writer, reports: &[DocumentReport<'_>]) -> Result<(
 }
 
 // Writes the reports of all documents, in order.
-pub(crate) fn write_workspace(
-    out: &mut Writer,
-    reports: &[DocumentReport<'_>],
-) -> Result<(), AllocError>
+pub fn write_workspace(out: &mut Writer, reports: &[DocumentReport<'_>]) -> Result<(), AllocError>
     ensures { OnOk result (Adds out.old (workspace_value (map document_view reports.now)) out.new) }
 {
     out.begin_object()?;

@@ -5,7 +5,7 @@ use Rattle.std.proofs.lemmas.List.Sums.{fold-append}
 use Rattle.serde_json.specs.Written.{compact_text}
 use Rattle.lsp_rpc.specs.Message.{message_of}
 use Rattle.lsp_session.specs.Configuration.{Configuration}
-use Rattle.lsp_session.specs.Core.{Event, Arrive, Process, messages, processed, done, waiting, CoreState, Stands, Advances}
+use Rattle.lsp_session.specs.Core.{Event, Arrive, Process, messages, processed, done, waiting, CoreState, IsAfter, Advances}
 use Rattle.lsp_session.specs.Session.{Run, start, turn, next, session}
 use Rattle.lsp_session.specs.Steps.{turns, Knows, replies_to}
 
@@ -53,7 +53,7 @@ pub done-all : (h : List Event) → processed h ≡ length (messages h) → done
 done-all h all = take_all (processed h) (messages h) (omega (arith, all))
 
 -- all that waited was processed
-pub advances : (config : Configuration) (old new : CoreState) (h : List Event) (replies : List (List ℕ)) → new.queue ≡ [] → new.state ≡ (turns old.state old.queue).state → replies ≡ map compact_text (turns old.state old.queue).replies → Stands config old h → Advances config new h replies
+pub advances : (config : Configuration) (old new : CoreState) (h : List Event) (replies : List (List ℕ)) → new.queue ≡ [] → new.state ≡ (turns old.state old.queue).state → replies ≡ map compact_text (turns old.state old.queue).replies → IsAfter config old h → Advances config new h replies
 advances config old new h replies queue state replied stands =
     let n = length (waiting h) in
     let later = replicate n Process ++ h in
@@ -66,7 +66,7 @@ advances config old new h replies queue state replied stands =
     let same : turns old.state old.queue ≡ turns (session config (done h)).state (map message_of (waiting h)) = rw (stands.state, stands.queue) refl in
     record {
       count = n;
-      stands = record {
+      is_after = record {
         known = omega (arith, none);
         state = state ∙ ap (λ t. t.state) same ∙ sym folded.state ∙ ap (λ r. r.state) (sym whole ∙ ap (session config) (sym over));
         queue = queue ∙ ap (map message_of) (sym (drop_all (processed later) (messages later) (omega (arith, none))));
@@ -77,11 +77,11 @@ advances config old new h replies queue state replied stands =
 
 -- ---- messages that are answered at once
 
-pub knows-none : (config : Configuration) (core : CoreState) → Stands config core [] → Knows config core []
-knows-none config core stands = record { history = []; stands = stands; came = refl; idle = refl }
+pub knows-none : (config : Configuration) (core : CoreState) → IsAfter config core [] → Knows config core []
+knows-none config core stands = record { history = []; is_after = stands; came = refl; idle = refl }
 
 pub knows-state : (config : Configuration) (core : CoreState) (bodies : List (List ℕ)) → Knows config core bodies → core.state ≡ (session config bodies).state
-knows-state config core bodies k = k.stands.state ∙ ap (λ b. (session config b).state) (done-all k.history k.idle ∙ k.came)
+knows-state config core bodies k = k.is_after.state ∙ ap (λ b. (session config b).state) (done-all k.history k.idle ∙ k.came)
 
 -- after an advance
 pub record KnowsMore (config : Configuration) (core : CoreState) (before after : List (List ℕ)) (replies : List (List ℕ)) : Type 0 where
@@ -95,24 +95,24 @@ knows-more config core h before after replies first all a =
     let came : messages later ≡ messages h = messages-processed a.count h in
     let none : processed later ≡ length (messages later) = a.all ∙ ap length (sym came) in
     record {
-      knows = record { history = later; stands = a.stands; came = came ∙ all; idle = none };
+      knows = record { history = later; is_after = a.is_after; came = came ∙ all; idle = none };
       replied = ap (λ b. (session config b).replies) (sym (done-all later none ∙ came ∙ all)) ∙ a.replied ∙ ap (λ b. (session config b).replies ++ replies) first;
     }
 
 -- an advance where nothing waits
-pub advanced : (config : Configuration) (old new : CoreState) (bodies replies : List (List ℕ)) → Knows config old bodies → ((h : List Event) → Stands config old h → Advances config new h replies) → KnowsMore config new bodies bodies replies
+pub advanced : (config : Configuration) (old new : CoreState) (bodies replies : List (List ℕ)) → Knows config old bodies → ((h : List Event) → IsAfter config old h → Advances config new h replies) → KnowsMore config new bodies bodies replies
 advanced config old new bodies replies k a =
-    knows-more config new k.history bodies bodies replies (done-all k.history k.idle ∙ k.came) k.came (a k.history k.stands)
+    knows-more config new k.history bodies bodies replies (done-all k.history k.idle ∙ k.came) k.came (a k.history k.is_after)
 
 -- a message, and then an advance
 pub answered : (config : Configuration) (old mid new : CoreState) (bodies : List (List ℕ)) (body : List ℕ) (replies : List (List ℕ)) → Knows config old bodies
-    → ((h : List Event) → Stands config old h → Stands config mid (Arrive body ∷ h)) → ((h : List Event) → Stands config mid h → Advances config new h replies)
+    → ((h : List Event) → IsAfter config old h → IsAfter config mid (Arrive body ∷ h)) → ((h : List Event) → IsAfter config mid h → Advances config new h replies)
     → KnowsMore config new bodies (bodies ++ body ∷ []) replies
 answered config old mid new bodies body replies k arrives a =
     let h = Arrive body ∷ k.history in
     let fits : processed k.history ≤ length (messages k.history) = omega (arith, k.idle) in
     let first : done h ≡ bodies = take-append-le (processed k.history) (messages k.history) (body ∷ []) fits ∙ done-all k.history k.idle ∙ k.came in
-    knows-more config new h bodies (bodies ++ body ∷ []) replies first (ap (λ b. b ++ body ∷ []) k.came) (a h (arrives k.history k.stands))
+    knows-more config new h bodies (bodies ++ body ∷ []) replies first (ap (λ b. b ++ body ∷ []) k.came) (a h (arrives k.history k.is_after))
 
 -- its replies are those to that message
 pub answered-replies : (config : Configuration) (core : CoreState) (bodies : List (List ℕ)) (body : List ℕ) (replies : List (List ℕ)) → KnowsMore config core bodies (bodies ++ body ∷ []) replies → replies ≡ replies_to config bodies body

@@ -34,7 +34,7 @@ pub record CoreState : Type 0 where
   pub queue : List MessageData
 
 -- the core is as after this history
-pub record Stands (config : Configuration) (core : CoreState) (h : List Event) : Type 0 where
+pub record IsAfter (config : Configuration) (core : CoreState) (h : List Event) : Type 0 where
   pub known : processed h ≤ length (messages h)
   pub state : core.state ≡ (session config (done h)).state
   pub queue : core.queue ≡ map message_of (waiting h)
@@ -42,6 +42,6 @@ pub record Stands (config : Configuration) (core : CoreState) (h : List Event) :
 -- The core is as after this history and an advance, which processed all messages that waited, with these replies.
 pub record Advances (config : Configuration) (core : CoreState) (h : List Event) (replies : List (List ℕ)) : Type 0 where
   pub count : ℕ
-  pub stands : Stands config core (replicate count Process ++ h)
+  pub is_after : IsAfter config core (replicate count Process ++ h)
   pub replied : (session config (done (replicate count Process ++ h))).replies ≡ (session config (done h)).replies ++ replies
   pub all : processed (replicate count Process ++ h) ≡ length (messages h)

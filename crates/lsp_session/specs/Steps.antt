@@ -11,7 +11,7 @@ use Rattle.serde_json.specs.Data.{Data}
 use Rattle.serde_json.specs.Written.{compact_text}
 use Rattle.lsp_rpc.specs.Message.{MessageData, message_of}
 use Rattle.lsp_session.specs.Configuration.{Configuration}
-use Rattle.lsp_session.specs.Core.{Event, messages, processed, CoreState, Stands}
+use Rattle.lsp_session.specs.Core.{Event, messages, processed, CoreState, IsAfter}
 use Rattle.lsp_session.specs.Session.{State, Turn, turn, silent, session}
 
 -- these replies, and then what a turn replies
@@ -28,7 +28,7 @@ turns s (m ∷ ms) = replying (turn s m).replies (turns (turn s m).state ms)
 -- the core has processed messages with these bodies, and none waits
 pub record Knows (config : Configuration) (core : CoreState) (bodies : List (List ℕ)) : Type 0 where
   pub history : List Event
-  pub stands : Stands config core history
+  pub is_after : IsAfter config core history
   pub came : messages history ≡ bodies
   pub idle : processed history ≡ length (messages history)
 

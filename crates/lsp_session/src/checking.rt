@@ -11,27 +11,27 @@ ghost use Rattle.lsp_session.specs.Stream.{SendsPrefix};
 use crate::config::Config;
 use crate::fault::ServeFault;
 use lsp_frame::{ByteSink, write_bytes};
-use lsp_workspace::{Linked, from_disk, has_errors, link, listing};
+use lsp_workspace::{Snapshot, from_disk, has_errors, listing, snapshot_of};
 use std::alloc::{AllocError, Global};
 
 // The analysis of the files of a configuration.
-fn link_files(alloc: Global, config: Config) -> Result<Linked, AllocError>
-    ensures { IfOk result (λ linked. linked ≡ workspace (files_of config)) }
+fn link_files(alloc: Global, config: Config) -> Result<Snapshot, AllocError>
+    ensures { IfOk result (λ snapshot. snapshot ≡ workspace (files_of config)) }
 {
     let (_root, disk_files) = config.into_parts();
     let files = from_disk(alloc, disk_files)?;
-    let linked = link(alloc, None, &files)?;
-    Ok(linked)
+    let snapshot = snapshot_of(alloc, None, &files)?;
+    Ok(snapshot)
 }
 
 // The lines of the files of a configuration, and whether there is an error.
-fn listed(alloc: Global, config: Config) -> Result<(Vec<u8>, bool), AllocError>
+fn lines_and_errors(alloc: Global, config: Config) -> Result<(Vec<u8>, bool), AllocError>
     ensures lines { IfOk result (λ found. found.0.items ≡ listing (workspace (files_of config))) }
     ensures errors { IfOk result (λ found. found.1 ≡ has_errors (workspace (files_of config))) }
 {
-    let linked = link_files(alloc, config)?;
-    let lines = listing(alloc, &linked)?;
-    let found = has_errors(&linked);
+    let snapshot = link_files(alloc, config)?;
+    let lines = listing(alloc, &snapshot)?;
+    let found = has_errors(&snapshot);
     Ok((lines, found))
 }
 
@@ -65,7 +65,7 @@ pub fn check<K: ByteSink>(alloc: Global, writer: &mut K, config: Config) -> Resu
     // The faults are want of memory, and the sink's, which is answered only where the sink failed in the call.
     ensures fault { IfErr result (IsWriteOrMemory (K.counts writer.old) (K.counts writer.new)) }
 {
-    let Ok((lines, found)) = listed(alloc, config) else {
+    let Ok((lines, found)) = lines_and_errors(alloc, config) else {
         return Err(ServeFault::Memory);
     };
     send(writer, lines.as_slice())?;

@@ -19,20 +19,22 @@ use lsp_rpc::{
     Diagnostic, DidChangeParams, DidOpenParams, ErrorCode, Id, Message, Method, document_uri,
     error_reply, initialize_reply, null_reply, report_reply, workspace_reply,
 };
-use lsp_workspace::{self as files, Files, Linked, document_diagnostics, link, workspace_reports};
+use lsp_workspace::{
+    self as files, Files, Snapshot, document_diagnostics, snapshot_of, workspace_reports,
+};
 use serde_json::Value;
 use std::alloc::{AllocError, Global};
 use workspace_uri::Root;
 
 /// A session with an editor.
 #[derive(Drop)]
-pub(crate) struct Session {
+pub struct Session {
     alloc: Global,
     root: Root,
     phase: Phase,
     files: Files,
     // The work on the files, as far as it was done.
-    linked: Option<Linked>,
+    snapshot: Option<Snapshot>,
 }
 
 impl Session {
@@ -49,7 +51,7 @@ impl Session {
             root,
             phase: Phase::Uninitialized,
             files,
-            linked: None,
+            snapshot: None,
         })
     }
 
@@ -79,7 +81,7 @@ impl Session {
     }
 
     // The text at a path, where it is one of the workspace.
-    fn text_at(&self, path: &str) -> Option<&Text>
+    fn open_or_disk_text(&self, path: &str) -> Option<&Text>
         ensures { option_map (λ t. t.now) result ≡ text_at path.now (state_of self.now).files }
     {
         files::get(&self.files, path)?.text()
@@ -133,27 +135,27 @@ impl Session {
     // What is wrong in the document of a path, which has this text, in the workspace, which is linked.
     fn found_in(
         &self,
-        linked: &Linked,
+        snapshot: &Snapshot,
         path: &str,
         text: &Text,
     ) -> Result<Vec<Diagnostic<'static>>, AllocError>
-        requires { linked.now ≡ workspace (state_of self.now).files }
+        requires { snapshot.now ≡ workspace (state_of self.now).files }
         ensures { IfOk result (λ found. map diagnostic_view found.items ≡ document_diagnostics (state_of self.now).files path.now text.now) }
     {
-        let found = document_diagnostics(self.alloc, linked, path, text)?;
+        let found = document_diagnostics(self.alloc, snapshot, path, text)?;
         Ok(found)
     }
 
     // Replies the diagnostics of the document at a path, where it is one of the workspace, which is linked.
-    fn report(&self, linked: &Linked, id: &Id, path: &str) -> Result<Option<Reply>, AllocError>
-        requires { linked.now ≡ workspace (state_of self.now).files }
+    fn report(&self, snapshot: &Snapshot, id: &Id, path: &str) -> Result<Option<Reply>, AllocError>
+        requires { snapshot.now ≡ workspace (state_of self.now).files }
         ensures { IfOk result (λ r. option_to_list r ≡ map compact_text
             (spec.diagnosed (state_of self.now) (id_view id.now) (spec.document_at path.now (state_of self.now).files)).replies) }
     {
-        let Some(text) = self.text_at(path) else {
+        let Some(text) = self.open_or_disk_text(path) else {
             return self.refuse(Some(id), ErrorCode::InvalidParams);
         };
-        let found = self.found_in(linked, path, text)?;
+        let found = self.found_in(snapshot, path, text)?;
         Ok(Some(Reply::new(report_reply(self.alloc, id, found.as_slice())?)))
     }
 
@@ -162,12 +164,12 @@ impl Session {
         ensures reply { IfOk result (λ r. option_to_list r ≡ map compact_text
             (spec.diagnosed (state_of self.old) (id_view id.now) (spec.document_at path.now (state_of self.old).files)).replies) }
     {
-        if self.text_at(path).is_none() {
+        if self.open_or_disk_text(path).is_none() {
             return self.refuse(Some(id), ErrorCode::InvalidParams);
         }
-        let linked = link(self.alloc, self.linked.take(), &self.files)?;
-        let reply = self.report(&linked, id, path)?;
-        self.linked = Some(linked);
+        let snapshot = snapshot_of(self.alloc, self.snapshot.take(), &self.files)?;
+        let reply = self.report(&snapshot, id, path)?;
+        self.snapshot = Some(snapshot);
         Ok(reply)
     }
 
@@ -187,10 +189,10 @@ impl Session {
         ensures reply { IfOk result (λ r. option_to_list r ≡ map compact_text
             (spec.all_diagnosed (state_of self.old) (id_view id.now)).replies) }
     {
-        let linked = link(self.alloc, self.linked.take(), &self.files)?;
-        let reports = workspace_reports(self.alloc, &self.root, &self.files, &linked)?;
+        let snapshot = snapshot_of(self.alloc, self.snapshot.take(), &self.files)?;
+        let reports = workspace_reports(self.alloc, &self.root, &self.files, &snapshot)?;
         let reply = Reply::new(workspace_reply(self.alloc, id, reports.as_slice())?);
-        self.linked = Some(linked);
+        self.snapshot = Some(snapshot);
         Ok(Some(reply))
     }
 

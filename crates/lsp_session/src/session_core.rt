@@ -2,7 +2,7 @@
 ghost use Rattle.std.specs.Prelude.{◌≡◌, ◌↔◌, ◌<◌, ℕ, List, ◌∷◌, [], ◌++◌, length, map, Some, None, IfOk, IfErr, IfSome, OnOk, IsTrue};
 ghost use Rattle.serde_json.specs.Written.{compact_text};
 ghost use Rattle.lsp_session.specs.Configuration.{Configuration};
-ghost use Rattle.lsp_session.specs.Core.{Event, Arrive, messages, processed, Stands, Advances};
+ghost use Rattle.lsp_session.specs.Core.{Event, Arrive, messages, processed, IsAfter, Advances};
 ghost use Rattle.lsp_session.specs.Steps.{turns, Knows, replies_to};
 ghost use Rattle.lsp_session.specs.Stream.{exit_of};
 ghost use Rattle.lsp_session.specs.View.{core_state};
@@ -33,7 +33,7 @@ impl Core {
 
     /// The core of a session before its first message. `Memory` where memory is refused.
     pub fn new(alloc: Global, config: Config) -> Result<Core, CoreFault>
-        ensures stands { IfOk result (λ core. Stands config (core_state core) []) }
+        ensures is_after { IfOk result (λ core. IsAfter config (core_state core) []) }
         ensures open { IfOk result (λ core. last_fault core ≡ None) }
     {
         match Session::new(alloc, config) {
@@ -55,7 +55,7 @@ impl Core {
         ensures open { OnOk result (last_fault self.new ≡ None) }
 
         // What the core stood for, it stands for with one more message.
-        ensures arrives { OnOk result ((config : Configuration) (h : List Event) → Stands config (core_state self.old) h → Stands config (core_state self.new) (Arrive body.now ∷ h)) }
+        ensures arrives { OnOk result ((config : Configuration) (h : List Event) → IsAfter config (core_state self.old) h → IsAfter config (core_state self.new) (Arrive body.now ∷ h)) }
     {
         if let Some(fault) = self.fault {
             return Err(fault);
@@ -76,7 +76,7 @@ impl Core {
 
     fn enqueue(&mut self, body: &[u8]) -> Result<(), AllocError>
         ensures fault { last_fault self.new ≡ last_fault self.old }
-        ensures arrives { OnOk result ((config : Configuration) (h : List Event) → Stands config (core_state self.old) h → Stands config (core_state self.new) (Arrive body.now ∷ h)) }
+        ensures arrives { OnOk result ((config : Configuration) (h : List Event) → IsAfter config (core_state self.old) h → IsAfter config (core_state self.new) (Arrive body.now ∷ h)) }
     {
         let message = Message::parse(self.alloc, body)?;
         self.queue.push_back(message)?;
@@ -92,7 +92,7 @@ impl Core {
         ensures open { OnOk result (last_fault self.new ≡ None) }
 
         // What the core stood for, it stands for with all its messages processed.
-        ensures advances { IfOk result (λ replies. (config : Configuration) (h : List Event) → Stands config (core_state self.old) h → Advances config (core_state self.new) h replies.items) }
+        ensures advances { IfOk result (λ replies. (config : Configuration) (h : List Event) → IsAfter config (core_state self.old) h → Advances config (core_state self.new) h replies.items) }
     {
         if let Some(fault) = self.fault {
             return Err(fault);
@@ -105,7 +105,7 @@ impl Core {
 
     fn process_all(&mut self) -> Result<Vec<Reply>, AllocError>
         ensures fault { last_fault self.new ≡ last_fault self.old }
-        ensures advances { IfOk result (λ replies. (config : Configuration) (h : List Event) → Stands config (core_state self.old) h → Advances config (core_state self.new) h replies.items) }
+        ensures advances { IfOk result (λ replies. (config : Configuration) (h : List Event) → IsAfter config (core_state self.old) h → Advances config (core_state self.new) h replies.items) }
     {
         let replies = self.drain()?;
         Ok(replies)
@@ -128,7 +128,7 @@ impl Core {
 
     /// Whether a message is queued that isn't processed.
     pub fn waits(&self) -> bool
-        ensures { (config : Configuration) (h : List Event) → Stands config (core_state self.now) h → IsTrue result ↔ (processed h < length (messages h)) }
+        ensures { (config : Configuration) (h : List Event) → IsAfter config (core_state self.now) h → IsTrue result ↔ (processed h < length (messages h)) }
     {
         !self.queue.is_empty()
     }
@@ -145,7 +145,7 @@ impl Core {
 }
 
 // Gives the core a message, and then an advance. None waited before.
-pub(crate) fn answer(core: &mut Core, body: &[u8]) -> Result<Vec<Reply>, CoreFault>
+pub fn answer(core: &mut Core, body: &[u8]) -> Result<Vec<Reply>, CoreFault>
     ensures { IfOk result (λ replies. (config : Configuration) (bodies : List (List ℕ)) → Knows config (core_state core.old) bodies
         → Knows config (core_state core.new) (bodies ++ body.now ∷ []) × (replies.items ≡ replies_to config bodies body.now)) }
 {

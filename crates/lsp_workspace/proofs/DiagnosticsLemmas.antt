@@ -7,7 +7,7 @@ use Rattle.doc_text.specs.Positions.{position_of}
 use Rattle.doc_text.specs.declared.encoding.Encoding.TheVariants.{Utf16}
 use Rattle.doc_text.specs.declared.position.Position.{Position}
 use Rattle.lsp_rpc.specs.Diagnostic.{DiagnosticData}
-use Rattle.proto_facts.specs.declared.diagnostic.Diag.{Diag}
+use Rattle.file_facts.specs.declared.diagnostic.Diag.{Diag}
 use Rattle.lsp_workspace.specs.Diagnostics.{diagnostic_between, diagnostic_at}
 
 -- the position of one of the offsets

@@ -12,7 +12,7 @@ use Rattle.std.proofs.lemmas.Map.Text.{is_eq-slice_cmp}
 use Rattle.std.proofs.lemmas.Simd.{map-map}
 use Rattle.lsp_rpc.specs.Diagnostic.{DiagnosticData}
 use Rattle.lsp_rpc.specs.Workspace.{DocumentData}
-use Rattle.proto_facts.specs.declared.diagnostic.Diag.{Diag}
+use Rattle.file_facts.specs.declared.diagnostic.Diag.{Diag}
 use Rattle.work_index.specs.Workspace.{Workspace, AnalysisData, analysis, diags_at}
 use Rattle.lsp_workspace.specs.Diagnostics.{placed}
 use Rattle.lsp_workspace.specs.Files.{Files, AreInPathOrder, workspace}

@@ -4,9 +4,9 @@ use Rattle.std.specs.List.{enumerate_from, flat_map, list_any}
 use Rattle.doc_text.specs.Positions.{position_of}
 use Rattle.doc_text.specs.declared.encoding.Encoding.TheVariants.{Utf16}
 use Rattle.doc_text.specs.declared.position.Position.{Position}
-use Rattle.proto_facts.specs.declared.diagnostic.Diag.{Diag}
-use Rattle.proto_facts.specs.declared.message.Message.{Message}
-use Rattle.proto_facts.specs.Messages as message
+use Rattle.file_facts.specs.declared.diagnostic.Diag.{Diag}
+use Rattle.file_facts.specs.declared.problem.Problem.{Problem}
+use Rattle.file_facts.specs.Problems as message
 use Rattle.work_index.specs.Workspace.{Workspace, AnalysisData, analysis}
 
 -- where a diagnostic stands: lines and columns count from 1, columns in UTF-16 units
@@ -14,10 +14,10 @@ abbrev pub place_of : List ℕ → Position → List ℕ
 place_of path place = path ++ codes ":" ++ decimal (place.line + 1) ++ codes ":" ++ decimal (place.character + 1)
 
 -- what it says, with the line's end
-abbrev pub words_of : Message → List ℕ
+abbrev pub words_of : Problem → List ℕ
 words_of m = codes ": " ++ decimal (message.code m) ++ codes " " ++ message.text m ++ codes "\n"
 
-abbrev pub line_at : List ℕ → Position → Message → List ℕ
+abbrev pub line_at : List ℕ → Position → Problem → List ℕ
 line_at path place m = place_of path place ++ words_of m
 
 abbrev pub line_of : List ℕ → List ℕ → Diag → List ℕ

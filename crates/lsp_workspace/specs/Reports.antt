@@ -3,7 +3,7 @@ use Rattle.std.specs.Prelude.{◌≡◌, ℕ, ℤ, List, [], Option, option_map,
 use Rattle.std.specs.List.{enumerate_from}
 use Rattle.lsp_rpc.specs.Diagnostic.{DiagnosticData}
 use Rattle.lsp_rpc.specs.Workspace.{DocumentData}
-use Rattle.proto_facts.specs.declared.diagnostic.Diag.{Diag}
+use Rattle.file_facts.specs.declared.diagnostic.Diag.{Diag}
 use Rattle.work_index.specs.Workspace.{AnalysisData, analysis, diags_at}
 use Rattle.workspace_uri.specs.Uri.{file_uri}
 use Rattle.lsp_workspace.specs.Diagnostics.{placed}

@@ -5,8 +5,8 @@ ghost use Rattle.lsp_rpc.specs.Diagnostic.{diagnostic_view};
 ghost use Rattle.lsp_workspace.specs.Diagnostics.{severity_of, diagnostic_between, diagnostic_at, placed};
 
 use doc_text::{Encoding, Position, Range, positions_of};
+use file_facts::Diag;
 use lsp_rpc::{Diagnostic, Severity};
-use proto_facts::Diag;
 use std::alloc::{AllocError, Global};
 
 fn severity_of(number: u32) -> Severity
@@ -20,7 +20,7 @@ fn severity_of(number: u32) -> Severity
 }
 
 // The positions at which some diagnostics of a text start.
-pub(crate) fn start_positions(
+pub fn start_positions(
     alloc: Global,
     text: &str,
     diags: &[Diag],
@@ -58,7 +58,7 @@ fn push_diagnostic(
 }
 
 // Some diagnostics of a text at their positions.
-pub(crate) fn placed(
+pub fn placed(
     alloc: Global,
     text: &str,
     diags: &[Diag],

@@ -8,12 +8,12 @@ ghost use Rattle.work_index.specs.Workspace.{analysis};
 ghost use Rattle.lsp_workspace.specs.Listing.{place_of, words_of, line_at, line_of, lines_of, listing, is_error, has_errors};
 
 use crate::diagnostics::start_positions;
-use crate::linked::Linked;
+use crate::snapshot::Snapshot;
 use doc_text::{Encoding, Position};
+use file_facts::{Diag, Problem};
 use itoa::Buffer;
 use piece_collector::Piece;
-use proto_facts::{Diag, Message};
-use proto_syntax::Items;
+use sqlite_items::Items;
 use std::alloc::{AllocError, Global};
 use work_index::FileWork;
 
@@ -38,7 +38,7 @@ fn push_place(out: &mut Vec<u8>, path: &str, place: Position) -> Result<(), Allo
 }
 
 // Adds what a diagnostic says, and the line's end.
-fn push_message(out: &mut Vec<u8>, message: Message) -> Result<(), AllocError>
+fn push_message(out: &mut Vec<u8>, message: Problem) -> Result<(), AllocError>
     ensures { OnOk result (out.new.items ≡ out.old.items ++ words_of message) }
 {
     out.extend_from_slice(b": ")?;
@@ -54,7 +54,7 @@ fn push_line(
     out: &mut Vec<u8>,
     path: &str,
     place: Position,
-    message: Message,
+    message: Problem,
 ) -> Result<(), AllocError>
     ensures { OnOk result (out.new.items ≡ out.old.items ++ line_at path.now place message) }
 {
@@ -99,11 +99,11 @@ fn push_lines(
 fn push_all_lines(
     alloc: Global,
     out: &mut Vec<u8>,
-    linked: &Linked,
+    snapshot: &Snapshot,
     pieces: &[Piece<FileWork>],
 ) -> Result<(), AllocError>
-    requires { workspace_of pieces.now ≡ linked.now }
-    ensures { OnOk result (out.new.items ≡ out.old.items ++ flat_map (lines_of (analysis linked.now)) (enumerate_from 0 (workspace_of pieces.now))) }
+    requires { workspace_of pieces.now ≡ snapshot.now }
+    ensures { OnOk result (out.new.items ≡ out.old.items ++ flat_map (lines_of (analysis snapshot.now)) (enumerate_from 0 (workspace_of pieces.now))) }
 {
     for (number, piece) in pieces.iter().enumerate() {
         push_lines(
@@ -111,7 +111,7 @@ fn push_all_lines(
             out,
             piece.path(),
             piece.text(),
-            linked.diagnostics(number),
+            snapshot.diagnostics(number),
         )?;
     }
     Ok(())
@@ -120,11 +120,11 @@ fn push_all_lines(
 /// A line for each diagnostic of the workspace: the path, the line and the column where it starts, both from 1 and columns
 /// in UTF-16 units, its number and what it says, as `a.proto:3:24: 401 unresolved name`. An `Err` comes only where
 /// memory was refused.
-pub fn listing(alloc: Global, linked: &Linked) -> Result<Vec<u8>, AllocError>
-    ensures { IfOk result (λ lines. lines.items ≡ listing linked.now) }
+pub fn listing(alloc: Global, snapshot: &Snapshot) -> Result<Vec<u8>, AllocError>
+    ensures { IfOk result (λ lines. lines.items ≡ listing snapshot.now) }
 {
     let mut out = Vec::new(alloc);
-    push_all_lines(alloc, &mut out, linked, linked.pieces())?;
+    push_all_lines(alloc, &mut out, snapshot, snapshot.pieces())?;
     Ok(out)
 }
 
@@ -141,8 +141,8 @@ fn any_error(diags: &Items<Diag>) -> bool
 }
 
 /// Whether one of the diagnostics of the workspace is an error, and not an information. Takes no memory.
-pub fn has_errors(linked: &Linked) -> bool
-    ensures { result ≡ has_errors linked.now }
+pub fn has_errors(snapshot: &Snapshot) -> bool
+    ensures { result ≡ has_errors snapshot.now }
 {
-    linked.analysis().all_diagnostics().iter().any(any_error)
+    snapshot.analysis().all_diagnostics().iter().any(any_error)
 }

@@ -13,11 +13,11 @@ ghost use Rattle.lsp_workspace.specs.View.{file_view, files_view};
 
 use crate::diagnostics::placed;
 use crate::files::{self, FileEntry, Files};
-use crate::linked::Linked;
+use crate::snapshot::Snapshot;
 use doc_text::Text;
+use file_facts::Diag;
 use lsp_rpc::{Diagnostic, DocumentReport};
 use piece_collector::Piece;
-use proto_facts::Diag;
 use std::alloc::{AllocError, Global};
 use work_index::FileWork;
 use workspace_uri::Root;
@@ -26,13 +26,17 @@ use workspace_uri::Root;
 /// where memory was refused.
 pub fn document_diagnostics(
     alloc: Global,
-    linked: &Linked,
+    snapshot: &Snapshot,
     path: &str,
     text: &Text,
 ) -> Result<Vec<Diagnostic<'static>>, AllocError>
-    ensures { IfOk result (λ found. map diagnostic_view found.items ≡ placed text.now (diags_at (analysis linked.now) path.now)) }
+    ensures { IfOk result (λ found. map diagnostic_view found.items ≡ placed text.now (diags_at (analysis snapshot.now) path.now)) }
 {
-    placed(alloc, text.as_str(), linked.analysis().diagnostics_at(path))
+    placed(
+        alloc,
+        text.as_str(),
+        snapshot.analysis().diagnostics_at(path),
+    )
 }
 
 // The URI of the last open of a file, or else that of the path below the root.
@@ -85,14 +89,14 @@ fn numbered_report(
     alloc: Global,
     root: &Root,
     files: &Files,
-    linked: &Linked,
+    snapshot: &Snapshot,
     number: usize,
     piece: &Piece<FileWork>,
 ) -> Result<DocumentReport<'static>, AllocError>
-    requires { number < length linked.now }
-    ensures { IfOk result (λ report. document_view report ≡ numbered_report (root_text root.now) (files_view files.now.entries) (analysis linked.now) (number, (piece.now.path, piece.now.text))) }
+    requires { number < length snapshot.now }
+    ensures { IfOk result (λ report. document_view report ≡ numbered_report (root_text root.now) (files_view files.now.entries) (analysis snapshot.now) (number, (piece.now.path, piece.now.text))) }
 {
-    report_of(alloc, root, files, piece, linked.diagnostics(number))
+    report_of(alloc, root, files, piece, snapshot.diagnostics(number))
 }
 
 // The reports of the files of the workspace, which are these.
@@ -100,16 +104,16 @@ fn all_reports(
     alloc: Global,
     root: &Root,
     files: &Files,
-    linked: &Linked,
+    snapshot: &Snapshot,
     pieces: &[Piece<FileWork>],
 ) -> Result<Vec<DocumentReport<'static>>, AllocError>
-    requires { workspace_of pieces.now ≡ linked.now }
+    requires { workspace_of pieces.now ≡ snapshot.now }
     ensures { IfOk result (λ reports. map document_view reports.items
-        ≡ map (numbered_report (root_text root.now) (files_view files.now.entries) (analysis linked.now)) (enumerate_from 0 linked.now)) }
+        ≡ map (numbered_report (root_text root.now) (files_view files.now.entries) (analysis snapshot.now)) (enumerate_from 0 snapshot.now)) }
 {
     let mut reports = Vec::new(alloc);
     for (number, piece) in pieces.iter().enumerate() {
-        reports.push(numbered_report(alloc, root, files, linked, number, piece)?)?;
+        reports.push(numbered_report(alloc, root, files, snapshot, number, piece)?)?;
     }
     Ok(reports)
 }
@@ -119,10 +123,10 @@ pub fn workspace_reports(
     alloc: Global,
     root: &Root,
     files: &Files,
-    linked: &Linked,
+    snapshot: &Snapshot,
 ) -> Result<Vec<DocumentReport<'static>>, AllocError>
-    requires { linked.now ≡ workspace (files_view files.now.entries) }
+    requires { snapshot.now ≡ workspace (files_view files.now.entries) }
     ensures { IfOk result (λ reports. map document_view reports.items ≡ workspace_reports (root_text root.now) (files_view files.now.entries)) }
 {
-    all_reports(alloc, root, files, linked, linked.pieces())
+    all_reports(alloc, root, files, snapshot, snapshot.pieces())
 }

@@ -8,7 +8,7 @@ use Rattle.std.specs.Cmp.Lexicographic.{slice_cmp, bytes_decides}
 use Rattle.std.specs.Ordering.{nat_cmp}
 use Rattle.piece_collector.specs.declared.verdict.Verdict.TheVariants.{Taken}
 use Rattle.piece_collector.specs.Views.{SlotView, TextAt, text_in, done_at, verdict_at, AreCurrent}
-use Rattle.piece_collector.proofs.Stands.{taken_fits, same_of, same_text}
+use Rattle.piece_collector.proofs.IsAfter.{taken_fits, same_of, same_text}
 
 abbrev IsCurrent : List ℕ → Option SlotView → Type 0
 IsCurrent p w = IfSome w (λ s. IfSome s.piece (λ piece. piece ≡ text_in p s))

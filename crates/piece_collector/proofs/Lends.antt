@@ -15,7 +15,7 @@ use Rattle.piece_collector.specs.Views.{SlotView, BoardView, TextAt, text_in, as
 use Rattle.piece_collector.specs.Lending.{emptied, piece_in, TakesAll, put_back}
 use Rattle.piece_collector.specs.History.{Standing, stands_at}
 use Rattle.piece_collector.specs.Events.{Event}
-use Rattle.piece_collector.specs.Board.{Stands, slot_at, text_at, text_for, IsFull, IsTextsOf, IsTextsIn, Ascends}
+use Rattle.piece_collector.specs.Board.{IsAfter, slot_at, current_text, text_for, IsFull, IsTextsOf, IsTextsIn, Ascends}
 use Rattle.piece_collector.proofs.Index.{opened, slot_lent}
 use Rattle.piece_collector.proofs.Listed.{joined}
 
@@ -165,15 +165,15 @@ lent_same m n last l v is here rest full current p =
     at (Some s) c = ap (λ o. Some (record s { piece = o })) (sym c)
 
 -- the texts of the slots are those that the events make current
-pub texts_of : (v : BoardView) (o : ℕ) (es : List Event) (ts : List TextAt) → Stands o v es → IsTextsIn v ts → IsTextsOf o es ts
+pub texts_of : (v : BoardView) (o : ℕ) (es : List Event) (ts : List TextAt) → IsAfter o v es → IsTextsIn v ts → IsTextsOf o es ts
 texts_of v o es ts s t = record { ascends = t.ascends; each = λ p. t.each p ∙ (ap (option_map (text_in p)) (s.each p) ∙ at p (stands_at o es p)) }
   where
-    at : (p : List ℕ) (x : Option Standing) → option_map (text_in p) (option_map (slot_at p) x) ≡ option_map (text_at p) x
+    at : (p : List ℕ) (x : Option Standing) → option_map (text_in p) (option_map (slot_at p) x) ≡ option_map (current_text p) x
     at p None = refl
     at p (Some x) = refl
 
 -- whether it is lent is nothing that a board stands for
-pub stands_lent : (v w : BoardView) (b : Bool) (o : ℕ) (es : List Event) → w ≡ record v { is_lent = b } → Stands o v es → Stands o w es
+pub stands_lent : (v w : BoardView) (b : Bool) (o : ℕ) (es : List Event) → w ≡ record v { is_lent = b } → IsAfter o v es → IsAfter o w es
 stands_lent v w b o es is s = record { last = ap (λ x. x.last) is ∙ s.last; each = λ p. ap (slot_of p) is ∙ s.each p }
 
 -- nor is it anything of its texts

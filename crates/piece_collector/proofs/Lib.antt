@@ -7,5 +7,5 @@ mod Next
 mod Same
 mod Search
 mod Standing
-mod Stands
+mod IsAfter
 mod Writes

@@ -12,9 +12,9 @@ use Rattle.std.proofs.lemmas.Map.Text.{is_eq-slice_cmp}
 use Rattle.piece_collector.specs.Views.{SlotView, BoardView, seen, done_at}
 use Rattle.piece_collector.specs.History.{Entry, Gave, State, Wanted, Out, Held, Standing, is_before, wants, standing, history, stands_at, is_wanted, paths, earlier, first, first_wanted, text_of, stamp_of, state_of, since}
 use Rattle.piece_collector.specs.Events.{Event, NextJob}
-use Rattle.piece_collector.specs.Board.{Stands, slot_at, IsFirstWanted}
+use Rattle.piece_collector.specs.Board.{IsAfter, slot_at, IsFirstWanted}
 use Rattle.piece_collector.proofs.Standing.{standing-job, after_job, given}
-use Rattle.piece_collector.proofs.Stands.{stands_done, stands_same}
+use Rattle.piece_collector.proofs.IsAfter.{stands_done, stands_same}
 use Rattle.piece_collector.proofs.Search.{wanted_known, filter_has, filter_only, not_before_self}
 
 less_of : (r : Ordering) → is_lt r ≡ true → r ≡ Less
@@ -109,7 +109,7 @@ none_given : (o : ℕ) (h : List Entry) (q : List ℕ) → standing o q (Gave No
 none_given o h q = elim (text_of q h) as (λ w. option_map (λ t. record { text = t; stamp = stamp_of o q h; state = state_of q (stamp_of o q h) t (Gave None ∷ since q h) }) w ≡ option_map {U = Standing} (λ x. x) (option_map (λ t. record { text = t; stamp = stamp_of o q h; state = state_of q (stamp_of o q h) t (since q h) }) w)) [ None ↦ refl | Some t ↦ refl ]
 
 -- no job was given
-pub stands_none : (v : BoardView) (o : ℕ) (es : List Event) → IsFirstWanted o es None → Stands o v es → Stands o v (NextJob ∷ es)
+pub stands_none : (v : BoardView) (o : ℕ) (es : List Event) → IsFirstWanted o es None → IsAfter o v es → IsAfter o v (NextJob ∷ es)
 stands_none v o es w s =
     let g = first_is_given o es None w in
     stands_same v o es NextJob (λ q x. x) (record { stamps = refl; each = λ q. ap (λ g. standing o q (Gave g ∷ history o es)) g ∙ none_given o (history o es) q }) (λ q x h. refl) s
@@ -126,7 +126,7 @@ gone_out p q x h true e d = rw (d, e) (at x.state (h e))
 
 -- a job was given
 pub stands_given : (m n : BTreeMap (String Global) SlotView) (last : ℕ) (l : Bool) (v : BoardView) (o : ℕ) (es : List Event) (p : List ℕ) → seen last m l ≡ v → v.is_lent ≡ false
-    → IsFirstWanted o es (Some p) → ((q : List ℕ) → get_by_text n q ≡ done_at p (λ s. record s { is_out = true }) q (get_by_text m q)) → Stands o v es → Stands o (seen last n l) (NextJob ∷ es)
+    → IsFirstWanted o es (Some p) → ((q : List ℕ) → get_by_text n q ≡ done_at p (λ s. record s { is_out = true }) q (get_by_text m q)) → IsAfter o v es → IsAfter o (seen last n l) (NextJob ∷ es)
 stands_given m n last l v o es p is here w put s =
     let g = first_is_given o es (Some p) w in
     stands_done m n last l v o es p (λ s. record s { is_out = true }) NextJob (λ q. after_job q p) is here put

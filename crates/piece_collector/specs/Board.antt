@@ -15,17 +15,17 @@ is_out_in Out = true
 is_out_in Held = false
 
 -- the current text of p with its stamp, where p stands so
-abbrev pub text_at : List ℕ → Standing → TextAt
-text_at p x = record { path = p; stamp = x.stamp; text = x.text }
+abbrev pub current_text : List ℕ → Standing → TextAt
+current_text p x = record { path = p; stamp = x.stamp; text = x.text }
 
 -- the slot of a path that stands so: where the path is held, it has a piece of its current text
 abbrev pub slot_at : List ℕ → Standing → SlotView
-slot_at p x = record { text = x.text; stamp = x.stamp; is_out = is_out_in x.state; piece = cond (is_held x.state) (Some (text_at p x)) None }
+slot_at p x = record { text = x.text; stamp = x.stamp; is_out = is_out_in x.state; piece = cond (is_held x.state) (Some (current_text p x)) None }
 
 -- The board stands for these events, the latest first, which began at the opening stamp o: its last stamp is o and as
 -- many as texts were set, and each path is known, and has the text, the stamp, the state and the piece, that the events
 -- make of it.
-pub record Stands (o : ℕ) (b : BoardView) (es : List Event) : Type 0 where
+pub record IsAfter (o : ℕ) (b : BoardView) (es : List Event) : Type 0 where
   pub last : b.last ≡ o + sets (history o es)
   pub each : (p : List ℕ) → slot_of p b ≡ option_map (slot_at p) (stands_at o es p)
 
@@ -53,7 +53,7 @@ Ascends ts = IsStrictlySortedBy (slice_cmp nat_cmp) (map (λ t. t.path) ts)
 -- these are the current texts of all paths that the events make known, with their stamps, in path order
 pub record IsTextsOf (o : ℕ) (es : List Event) (ts : List TextAt) : Type 0 where
   pub ascends : Ascends ts
-  pub each : (p : List ℕ) → text_for p ts ≡ option_map (text_at p) (stands_at o es p)
+  pub each : (p : List ℕ) → text_for p ts ≡ option_map (current_text p) (stands_at o es p)
 
 -- these are the texts of all known paths of the board, with their stamps, in path order
 pub record IsTextsIn (b : BoardView) (ts : List TextAt) : Type 0 where

@@ -8,7 +8,7 @@ use Rattle.piece_collector.specs.declared.verdict.Verdict.{Verdict}
 use Rattle.piece_collector.specs.Events.{Event, SetText, Remove, NextJob, Offer, Fail}
 use Rattle.piece_collector.specs.History.{verdicts}
 use Rattle.piece_collector.specs.Views.{BoardView}
-use Rattle.piece_collector.specs.Board.{Stands}
+use Rattle.piece_collector.specs.Board.{IsAfter}
 
 -- the event by its path, stamp and text
 abbrev pub event_of : {W O : Type 0} → BoardEvent W O → Event
@@ -25,7 +25,7 @@ followed h (e ∷ es) = followed (e ∷ h) es
 
 -- the board stands for h and all listed events, and these are the verdicts of the listed ones in their order
 pub record Ran (o : ℕ) (h es : List Event) (b : BoardView) (vs : List Verdict) : Type 0 where
-  pub stands : Stands o b (followed h es)
+  pub is_after : IsAfter o b (followed h es)
   pub answers : verdicts o (followed h es) ≡ verdicts o h ++ vs
 
 -- An event can be refused with this fault, at a board with this last stamp: a text with 502 exactly where no stamp is
@@ -43,5 +43,5 @@ pub record Stopped (o : ℕ) (h es : List Event) (b : BoardView) (fault : BoardF
   pub event : Event
   pub later : List Event
   pub parts : es ≡ before ++ event ∷ later
-  pub stands : Stands o b (followed h before)
+  pub is_after : IsAfter o b (followed h before)
   pub refused : IsRefusedWith b.last event fault

@@ -2,7 +2,7 @@
 ghost use Rattle.std.specs.Prelude.{◌≡◌, ℕ, ◌+◌, ◌↔◌, List, [], ◌∷◌, Bool, true, false, IfOk, OnOk, OnErr, Err, Some, None, option_map, string_bytes, is_some, IsTrue, IfSome};
 ghost use Rattle.piece_collector.specs.Events.{Event, SetText, Remove, NextJob, Offer, Fail};
 ghost use Rattle.piece_collector.specs.History.{verdict_on, failure_on, stands_at, first_wanted, history};
-ghost use Rattle.piece_collector.specs.Board.{Stands, IsFirstWanted, IsComplete, IsFull, IsTextsOf, IsTextsIn, text_at};
+ghost use Rattle.piece_collector.specs.Board.{IsAfter, IsFirstWanted, IsComplete, IsFull, IsTextsOf, IsTextsIn, current_text};
 ghost use Rattle.piece_collector.specs.Views.{slot_of};
 ghost use Rattle.piece_collector.specs.declared.fault.BoardFault.TheVariants.{Exhausted};
 
@@ -51,7 +51,7 @@ impl<W: Work> Board<W> {
     /// A board that knows no path, for pieces of this work. Its first stamp is 1. It keeps the allocator, and takes no
     /// memory yet.
     pub fn new(alloc: Global, work: W) -> Board<W>
-        ensures stands { Stands 0 result [] }
+        ensures is_after { IsAfter 0 result [] }
         ensures here { result.is_lent ≡ false }
     {
         Board::counting_from(alloc, work, 0)
@@ -60,7 +60,7 @@ impl<W: Work> Board<W> {
     /// A board that knows no path, for pieces of this work. Its first stamp is the one after `stamp`. It keeps the
     /// allocator, and takes no memory yet.
     pub fn counting_from(alloc: Global, _work: W, stamp: u64) -> Board<W>
-        ensures stands { Stands stamp result [] }
+        ensures is_after { IsAfter stamp result [] }
         ensures here { result.is_lent ≡ false }
     {
         Board {
@@ -78,7 +78,7 @@ impl<W: Work> Board<W> {
     /// Refused with 502 where the last stamp was `u64::MAX`, and with 501 where memory was; the board is as before.
     pub fn set_text(&mut self, path: String, text: String) -> Result<u64, BoardFault>
         requires { self.old.is_lent ≡ false }
-        ensures stands { OnOk result ((opening : ℕ) (events : List Event) → Stands opening self.old events → Stands opening self.new (SetText (string_bytes path) (string_bytes text) ∷ events)) }
+        ensures is_after { OnOk result ((opening : ℕ) (events : List Event) → IsAfter opening self.old events → IsAfter opening self.new (SetText (string_bytes path) (string_bytes text) ∷ events)) }
         ensures stamp { IfOk result (λ stamp. (stamp ≡ self.old.last + 1) × (stamp ≡ self.new.last)) }
         ensures here { self.new.is_lent ≡ false }
 
@@ -99,7 +99,7 @@ impl<W: Work> Board<W> {
     /// Forgets a path, with its text and its piece. Answers whether it was known; where it wasn't, nothing changes.
     pub fn remove(&mut self, path: &str) -> bool
         requires { self.old.is_lent ≡ false }
-        ensures stands { (opening : ℕ) (events : List Event) → Stands opening self.old events → Stands opening self.new (Remove path.now ∷ events) }
+        ensures is_after { (opening : ℕ) (events : List Event) → IsAfter opening self.old events → IsAfter opening self.new (Remove path.now ∷ events) }
         ensures known { result ≡ is_some (slot_of path.now self.old) }
         ensures here { self.new.is_lent ≡ false }
     {
@@ -111,11 +111,11 @@ impl<W: Work> Board<W> {
     /// wanted. Where memory is refused the board is as before.
     pub fn next_job(&mut self) -> Result<Option<Job>, AllocError>
         requires { self.old.is_lent ≡ false }
-        ensures stands { OnOk result ((opening : ℕ) (events : List Event) → Stands opening self.old events → Stands opening self.new (NextJob ∷ events)) }
-        ensures first { IfOk result (λ job. (opening : ℕ) (events : List Event) → Stands opening self.old events → IsFirstWanted opening events (option_map (λ j. j.path) job)) }
+        ensures is_after { OnOk result ((opening : ℕ) (events : List Event) → IsAfter opening self.old events → IsAfter opening self.new (NextJob ∷ events)) }
+        ensures first { IfOk result (λ job. (opening : ℕ) (events : List Event) → IsAfter opening self.old events → IsFirstWanted opening events (option_map (λ j. j.path) job)) }
 
         // The job has the path's current stamp and text.
-        ensures text { IfOk result (λ job. (opening : ℕ) (events : List Event) → Stands opening self.old events → IfSome job (λ j. option_map (text_at j.path) (stands_at opening events j.path) ≡ Some j)) }
+        ensures text { IfOk result (λ job. (opening : ℕ) (events : List Event) → IsAfter opening self.old events → IfSome job (λ j. option_map (current_text j.path) (stands_at opening events j.path) ≡ Some j)) }
         ensures here { self.new.is_lent ≡ false }
         ensures err { OnErr result (self.new ≡ self.old) }
     {
@@ -131,8 +131,8 @@ impl<W: Work> Board<W> {
     /// the verdict says why.
     pub fn offer(&mut self, piece: Piece<W>) -> Verdict
         requires { self.old.is_lent ≡ false }
-        ensures stands { (opening : ℕ) (events : List Event) → Stands opening self.old events → Stands opening self.new (Offer piece.path piece.stamp piece.text ∷ events) }
-        ensures verdict { (opening : ℕ) (events : List Event) → Stands opening self.old events → result ≡ verdict_on piece.stamp piece.text (stands_at opening events piece.path) }
+        ensures is_after { (opening : ℕ) (events : List Event) → IsAfter opening self.old events → IsAfter opening self.new (Offer piece.path piece.stamp piece.text ∷ events) }
+        ensures verdict { (opening : ℕ) (events : List Event) → IsAfter opening self.old events → result ≡ verdict_on piece.stamp piece.text (stands_at opening events piece.path) }
         ensures here { self.new.is_lent ≡ false }
     {
         let verdict = slots::judge_piece(&self.slots, &piece);
@@ -148,8 +148,8 @@ impl<W: Work> Board<W> {
     /// is known and has no piece yet, and the stamp is the current one; the path is wanted from then on.
     pub fn fail(&mut self, path: &str, stamp: u64) -> Verdict
         requires { self.old.is_lent ≡ false }
-        ensures stands { (opening : ℕ) (events : List Event) → Stands opening self.old events → Stands opening self.new (Fail path.now stamp ∷ events) }
-        ensures verdict { (opening : ℕ) (events : List Event) → Stands opening self.old events → result ≡ failure_on stamp (stands_at opening events path.now) }
+        ensures is_after { (opening : ℕ) (events : List Event) → IsAfter opening self.old events → IsAfter opening self.new (Fail path.now stamp ∷ events) }
+        ensures verdict { (opening : ℕ) (events : List Event) → IsAfter opening self.old events → result ≡ failure_on stamp (stands_at opening events path.now) }
         ensures here { self.new.is_lent ≡ false }
     {
         let verdict = slots::judge(&self.slots, path, stamp);
@@ -164,7 +164,7 @@ impl<W: Work> Board<W> {
     pub fn is_complete(&self) -> bool
         requires { self.now.is_lent ≡ false }
         ensures full { IsTrue result ↔ IsFull self.now }
-        ensures complete { (opening : ℕ) (events : List Event) → Stands opening self.now events → (IsTrue result ↔ IsComplete opening events) }
+        ensures complete { (opening : ℕ) (events : List Event) → IsAfter opening self.now events → (IsTrue result ↔ IsComplete opening events) }
     {
         slots::are_held(&self.slots, &self.unheld)
     }
@@ -181,13 +181,13 @@ impl<W: Work> Board<W> {
     pub fn lend_all(&mut self) -> Result<Lent<W>, AllocError>
         requires here { self.old.is_lent ≡ false }
         requires full { IsFull self.old }
-        ensures texts { IfOk result (λ lent. (opening : ℕ) (events : List Event) → Stands opening self.old events → IsTextsOf opening events lent) }
+        ensures texts { IfOk result (λ lent. (opening : ℕ) (events : List Event) → IsAfter opening self.old events → IsTextsOf opening events lent) }
 
         // These are what `take_back` asks for.
         ensures back { IfOk result (λ lent. IsTextsIn self.new lent) }
 
         // Lending is no event.
-        ensures stands { OnOk result ((opening : ℕ) (events : List Event) → Stands opening self.old events → Stands opening self.new events) }
+        ensures is_after { OnOk result ((opening : ℕ) (events : List Event) → IsAfter opening self.old events → IsAfter opening self.new events) }
         ensures lent { OnOk result (self.new ≡ record self.old { is_lent = true }) }
         ensures err { OnErr result (self.new ≡ self.old) }
     {
@@ -203,7 +203,7 @@ impl<W: Work> Board<W> {
     pub fn take_back(&mut self, lent: Lent<W>)
         requires lent { self.old.is_lent ≡ true }
         requires texts { IsTextsIn self.old lent }
-        ensures stands { (opening : ℕ) (events : List Event) → Stands opening self.old events → Stands opening self.new events }
+        ensures is_after { (opening : ℕ) (events : List Event) → IsAfter opening self.old events → IsAfter opening self.new events }
         ensures here { self.new ≡ record self.old { is_lent = false } }
     {
         slots::restore_all(&mut self.slots, lent.into_pieces());

@@ -11,11 +11,11 @@ pub trait Work: Drop {
     type Out: Drop + Send;
 
     /// When a product stands for the value of a text. It is a fact about the type, whichever value does the work.
-    ghost stands: { Self.Out → List ℕ → Type 0 };
+    ghost is_product_of: { Self.Out → List ℕ → Type 0 };
 
     /// Works on a text. Gives a product that stands for its value, or an error where memory was refused.
     fn work(&self, text: &str) -> Result<Self::Out, AllocError>
-        ensures { IfOk result (λ out. stands out text.now) };
+        ensures { IfOk result (λ out. is_product_of out text.now) };
 }
 
 /// What was made of a text, with the text and its path and stamp. The product stands for the value of the text: a piece
@@ -25,7 +25,7 @@ pub struct Piece<W: Work> {
     stamp: u64,
     text: String,
     out: W::Out,
-    ghost true_to_text: { ∥ W.stands out (string_bytes text) ∥₁ },
+    ghost true_to_text: { ∥ W.is_product_of out (string_bytes text) ∥₁ },
 }
 
 impl<W: Work> Drop for Piece<W> {
@@ -92,7 +92,7 @@ impl<W: Work> Piece<W> {
 
     /// The product, which stands for the value of the piece's text.
     pub fn out(&self) -> &W::Out
-        ensures { ∥ W.stands result.now self.now.text ∥₁ }
+        ensures { ∥ W.is_product_of result.now self.now.text ∥₁ }
     {
         &self.out
     }

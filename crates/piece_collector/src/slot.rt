@@ -8,7 +8,7 @@ use std::marker::Model;
 
 /// The text of a path, whether a job for it was given, and the piece that was made of it.
 #[derive(Drop)]
-pub(crate) struct Slot<W: Work> {
+pub struct Slot<W: Work> {
     text: String,
     stamp: u64,
     is_out: bool,

@@ -16,7 +16,7 @@ use std::alloc::{AllocError, Global};
 use std::collections::{BTreeMap, BTreeSet};
 
 /// A job for the path is out, or isn't.
-pub(crate) fn set_out<W: Work>(slots: &mut BTreeMap<String, Slot<W>>, path: &str, is_out: bool)
+pub fn set_out<W: Work>(slots: &mut BTreeMap<String, Slot<W>>, path: &str, is_out: bool)
     ensures each { (q : List ℕ) → get_by_text slots.new q ≡ done_at path.now (λ s. record s { is_out = is_out }) q (get_by_text slots.old q) }
     ensures ordered { IsOrderedMap string_cmp slots.new }
 {
@@ -26,7 +26,7 @@ pub(crate) fn set_out<W: Work>(slots: &mut BTreeMap<String, Slot<W>>, path: &str
 }
 
 /// Keeps the piece of a known path.
-pub(crate) fn keep<W: Work>(slots: &mut BTreeMap<String, Slot<W>>, piece: Piece<W>)
+pub fn keep<W: Work>(slots: &mut BTreeMap<String, Slot<W>>, piece: Piece<W>)
     ensures each { (q : List ℕ) → get_by_text slots.new q ≡ done_at piece.path (λ s. record s { is_out = false; piece = Some piece }) q (get_by_text slots.old q) }
     ensures ordered { IsOrderedMap string_cmp slots.new }
 {
@@ -48,7 +48,7 @@ fn take_piece<W: Work>(slots: &mut BTreeMap<String, Slot<W>>, path: &str) -> Opt
 }
 
 /// What a failure of the path is answered.
-pub(crate) fn judge<W: Work>(slots: &BTreeMap<String, Slot<W>>, path: &str, stamp: u64) -> Verdict
+pub fn judge<W: Work>(slots: &BTreeMap<String, Slot<W>>, path: &str, stamp: u64) -> Verdict
     ensures { result ≡ failure_at stamp (get_by_text slots.now path.now) }
 {
     match slots.get(path) {
@@ -58,7 +58,7 @@ pub(crate) fn judge<W: Work>(slots: &BTreeMap<String, Slot<W>>, path: &str, stam
 }
 
 /// What an offer of the piece is answered.
-pub(crate) fn judge_piece<W: Work>(slots: &BTreeMap<String, Slot<W>>, piece: &Piece<W>) -> Verdict
+pub fn judge_piece<W: Work>(slots: &BTreeMap<String, Slot<W>>, piece: &Piece<W>) -> Verdict
     ensures { result ≡ verdict_at piece.now.stamp piece.now.text (get_by_text slots.now piece.now.path) }
 {
     match slots.get(piece.path()) {
@@ -104,7 +104,7 @@ fn first_wanted<'a, W: Work>(
 }
 
 /// Whether each known path among these is held.
-pub(crate) fn are_held<W: Work>(slots: &BTreeMap<String, Slot<W>>, paths: &BTreeSet<String>) -> bool
+pub fn are_held<W: Work>(slots: &BTreeMap<String, Slot<W>>, paths: &BTreeSet<String>) -> bool
     ensures { result ≡ is_none (find (λ k. is_unheld (get_by_text slots.now (string_bytes k))) paths.now.keys) }
 {
     for path in paths {
@@ -129,7 +129,7 @@ fn job_of<W: Work>(
 }
 
 /// The job of the first wanted path among these.
-pub(crate) fn first_job<W: Work>(
+pub fn first_job<W: Work>(
     slots: &BTreeMap<String, Slot<W>>,
     paths: &BTreeSet<String>,
 ) -> Result<Option<Job>, AllocError>
@@ -145,7 +145,7 @@ pub(crate) fn first_job<W: Work>(
 }
 
 /// The known paths, in order.
-pub(crate) fn paths<W: Work>(
+pub fn paths<W: Work>(
     alloc: Global,
     slots: &BTreeMap<String, Slot<W>>,
 ) -> Result<Vec<String>, AllocError>
@@ -160,7 +160,7 @@ pub(crate) fn paths<W: Work>(
 }
 
 /// Takes the pieces of these paths, where there is room for them.
-pub(crate) fn take_all<W: Work>(
+pub fn take_all<W: Work>(
     slots: &mut BTreeMap<String, Slot<W>>,
     paths: Vec<String>,
     pieces: &mut Vec<Piece<W>>,
@@ -200,7 +200,7 @@ fn restore<W: Work>(slots: &mut BTreeMap<String, Slot<W>>, piece: Piece<W>)
 }
 
 /// Puts these pieces back, each at its path.
-pub(crate) fn restore_all<W: Work>(slots: &mut BTreeMap<String, Slot<W>>, pieces: Vec<Piece<W>>)
+pub fn restore_all<W: Work>(slots: &mut BTreeMap<String, Slot<W>>, pieces: Vec<Piece<W>>)
     ensures each { (q : List ℕ) → get_by_text slots.new q ≡ put_back pieces.items q (get_by_text slots.old q) }
     ensures keys { keys slots.new ≡ keys slots.old }
 {

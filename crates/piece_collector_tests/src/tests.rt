@@ -18,7 +18,7 @@ impl Work for Length {
 
     ghost use Rattle.std.specs.Prelude.{◌≡◌, length};
 
-    ghost stands = { λ out text. out ≡ length text };
+    ghost is_product_of = { λ out text. out ≡ length text };
 
     fn work(&self, text: &str) -> Result<usize, AllocError> {
         Ok(text.len())
@@ -34,7 +34,7 @@ impl Work for Refused {
 
     ghost use Rattle.std.specs.Prelude.{◌≡◌, length};
 
-    ghost stands = { λ out text. out ≡ length text };
+    ghost is_product_of = { λ out text. out ≡ length text };
 
     fn work(&self, _text: &str) -> Result<usize, AllocError> {
         Err(AllocError)

@@ -1,10 +1,3 @@
-pub mod DeclOrder
-pub mod DiagOrder
-pub mod FactsLaws
-pub mod IdentifierLaws
-pub mod MessageOrder
-pub mod Nesting
-pub mod Ordered
 pub mod OverlapLemmas
 pub mod Places
 pub mod ReachLemmas

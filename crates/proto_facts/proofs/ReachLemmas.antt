@@ -3,8 +3,8 @@ use Rattle.std.proofs.Common.{◌≡◌, map, sym, Option, Some, None, Bool, tru
 use Rattle.std.specs.Prelude.{nat_le}
 use Rattle.std.specs.List.{list_any, AllWithin}
 use Rattle.proto_facts.specs.Reach.{between, holds, reach_of, is_held}
-use Rattle.proto_facts.specs.Checks.{lies_in, overlap}
-use Rattle.proto_facts.specs.declared.part.Interval.{Interval}
+use Rattle.file_facts.specs.Checks.{lies_in, overlap}
+use Rattle.file_facts.specs.declared.part.Interval.{Interval}
 use Rattle.proto_facts.specs.declared.reach.Reach.{Reach}
 
 tail : (P : Reach → Type 0) (x : Reach) (xs : List Reach) (low high : ℕ) → AllWithin P (x ∷ xs) (suc low) (suc high) → AllWithin P xs low high

@@ -4,14 +4,14 @@ use Rattle.std.proofs.lemmas.Grind.{flat_map-append}
 use Rattle.std.proofs.Math.Seq.{drop-cons}
 use Rattle.std.proofs.Common.{Option, length-append, ◌≡◌, ℕ, ◌+◌, ◌<◌, length, get_or, drop, append_assoc, add-one, List, [], ◌∷◌, ◌++◌, refl, sym, ap, ◌∙◌, subst}
 use Rattle.std.specs.Prelude.{map}
-use Rattle.proto_syntax.specs.declared.node.Node.{Node, out-Node, roll-Node, map-Node}
-use Rattle.proto_syntax.specs.declared.node.Node.TheVariants as node
-use Rattle.proto_syntax.specs.declared.node.Node.TheOpen.{Node-F}
-use Rattle.proto_syntax.specs.declared.node.Node.TheFolds.{fold-roll-Node, fold_out-Node, ind-Node}
-use Rattle.proto_facts.specs.Decls.{decls_of, decls_in}
-use Rattle.proto_facts.specs.declared.fact.Decl.{Decl}
-use Rattle.proto_facts.specs.declared.fact.DeclKind.{DeclKind}
-use Rattle.proto_facts.specs.Tree.{seen, seen_step, inside, inside_of, all_of, itself, Seen, all_statements}
+use Rattle.syntax_tree.specs.declared.node.Node.{Node, out-Node, roll-Node, map-Node}
+use Rattle.syntax_tree.specs.declared.node.Node.TheVariants as node
+use Rattle.syntax_tree.specs.declared.node.Node.TheOpen.{Node-F}
+use Rattle.syntax_tree.specs.declared.node.Node.TheFolds.{fold-roll-Node, fold_out-Node, ind-Node}
+use Rattle.file_facts.specs.Decls.{decls_of, decls_in}
+use Rattle.file_facts.specs.declared.fact.Decl.{Decl}
+use Rattle.file_facts.specs.declared.fact.DeclKind.{DeclKind}
+use Rattle.file_facts.specs.Tree.{seen, seen_step, inside, inside_of, all_of, itself, Seen, all_statements}
 
 abbrev Same : Node → Type 0
 Same n = (seen n).0 ≡ n

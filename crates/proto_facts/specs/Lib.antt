@@ -1,14 +1,2 @@
-pub mod Text
-pub mod Numbers
-pub mod Tree
-pub mod Messages
-pub mod Order
-pub mod Diags
-pub mod Decls
-pub mod Members
-pub mod Checks
 pub mod Seen
-pub mod Facts
-pub mod IdentifierLaws
 pub mod Reach
-pub mod Nesting

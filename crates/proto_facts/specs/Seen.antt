@@ -6,9 +6,9 @@ use Rattle.std.specs.BTreeSet.{BTreeSet, contains, contains_text}
 use Rattle.std.specs.HashSet.{HashSet, contains_by}
 use Rattle.std.specs.Ordering.{nat_cmp}
 use Rattle.std.specs.declared.alloc.Global.{Global}
-use Rattle.proto_facts.specs.declared.part.Member.{Member}
-use Rattle.proto_facts.specs.declared.part.ReservedName.{ReservedName}
-use Rattle.proto_facts.specs.Checks.{is_value, has_value}
+use Rattle.file_facts.specs.declared.part.Member.{Member}
+use Rattle.file_facts.specs.declared.part.ReservedName.{ReservedName}
+use Rattle.file_facts.specs.Checks.{is_value, has_value}
 use denote.Ref.{Bor}
 
 abbrev pub has : BTreeSet ℕ → Option ℕ → Bool

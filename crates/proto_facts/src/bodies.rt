@@ -2,27 +2,25 @@
 
 ghost use Rattle.std.specs.Prelude.{◌≡◌, ◌++◌, [], ◌∷◌, OnOk, IfOk, length, filter, List, if◌then◌else◌};
 ghost use Rattle.std.specs.List.{flat_map};
-ghost use Rattle.proto_syntax.specs.declared.node.Node.{out-Node};
-ghost use Rattle.proto_facts.specs.Members as body;
-ghost use Rattle.proto_facts.specs.Checks as spec;
+ghost use Rattle.syntax_tree.specs.declared.node.Node.{out-Node};
+ghost use Rattle.file_facts.specs.Members as body;
+ghost use Rattle.file_facts.specs.Checks as spec;
 
 use crate::checks::{
     add_backwards, add_bounds, add_kept_free, add_labels, add_name_reserved, add_name_twice,
     add_out_of_range, add_used_twice, diag, runs_forwards,
 };
-use crate::diagnostic::Diag;
 use crate::members::{
     add_fields, add_intervals, add_names, add_plain_fields, add_values, allows_alias, is, labels,
 };
-use crate::message::Message;
 use crate::numbers::ZERO_VALUE;
 use crate::overlaps::add_range_twice;
-use crate::part::{Interval, Member, Numbering};
 use crate::reach::add_number_reserved;
-use crate::text::text_at;
-use proto_syntax::{Items, MapField, Node, Span, TypeName};
+use file_facts::{Diag, Interval, Member, Numbering, Problem, text_at};
+use sqlite_items::Items;
 use std::alloc::{AllocError, Global};
 use std::collections::BTreeSet;
+use syntax_tree::{MapField, Node, Span, TypeName};
 
 fn good_intervals(alloc: Global, found: &[Interval]) -> Result<Vec<Interval>, AllocError>
     ensures { IfOk result (λ v. v.items ≡ filter spec.runs_forwards found.now) }
@@ -165,12 +163,12 @@ fn add_first(name: Span, values: &[Member], diags: &mut Items<Diag>) -> Result<(
     ensures { OnOk result (diags.new ≡ diags.old ++ spec.first_diags name values.now) }
 {
     match values {
-        [] => diags.push(diag(Message::FirstNotZero, name)),
+        [] => diags.push(diag(Problem::FirstNotZero, name)),
         [first, ..] => {
             if is_zero(first.value) {
                 Ok(())
             } else {
-                diags.push(diag(Message::FirstNotZero, first.number))
+                diags.push(diag(Problem::FirstNotZero, first.number))
             }
         }
     }
@@ -244,7 +242,7 @@ fn add_key(text: &str, field: &MapField, diags: &mut Items<Diag>) -> Result<(), 
     if is_map_key(text, &field.key) {
         Ok(())
     } else {
-        diags.push(diag(Message::MapKey, field.key.span))
+        diags.push(diag(Problem::MapKey, field.key.span))
     }
 }
 

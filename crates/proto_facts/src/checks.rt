@@ -4,28 +4,26 @@ ghost use Rattle.std.specs.Prelude.{◌≡◌, ◌++◌, ◌∷◌, [], IfOk, If
 ghost use Rattle.std.specs.List.{list_any, flat_map, filter_map};
 ghost use Rattle.std.specs.Option.{option_to_list};
 ghost use Rattle.std.specs.Str.{bytes_eq};
-ghost use Rattle.proto_syntax.specs.declared.node.Node.{out-Node};
-ghost use Rattle.proto_facts.specs.Diags as diags;
-ghost use Rattle.proto_facts.specs.Members as body;
-ghost use Rattle.proto_facts.specs.Numbers as numbers;
-ghost use Rattle.proto_facts.specs.Checks as spec;
+ghost use Rattle.syntax_tree.specs.declared.node.Node.{out-Node};
+ghost use Rattle.file_facts.specs.Diags as diags;
+ghost use Rattle.file_facts.specs.Members as body;
+ghost use Rattle.file_facts.specs.Numbers as numbers;
+ghost use Rattle.file_facts.specs.Checks as spec;
 ghost use Rattle.std.specs.Prelude.{List};
-ghost use Rattle.proto_facts.specs.declared.part.ReservedName.{ReservedName};
-ghost use Rattle.proto_facts.specs.declared.part.Numbering.{Numbering};
+ghost use Rattle.file_facts.specs.declared.part.ReservedName.{ReservedName};
+ghost use Rattle.file_facts.specs.declared.part.Numbering.{Numbering};
 ghost use Rattle.proto_facts.specs.Seen as spec_seen;
 
-use crate::diagnostic::Diag;
 use crate::members::ranges_in;
-use crate::message::Message;
 use crate::numbers::value_of;
-use crate::part::{Interval, Member, Numbering, ReservedName};
 use crate::seen::{note_text, note_value};
-use crate::text::text_at;
-use proto_syntax::{Items, Node, Number, RangeEnd, ReservedRange, Span};
+use file_facts::{Diag, Interval, Member, Numbering, Problem, ReservedName, text_at};
+use sqlite_items::Items;
 use std::alloc::{AllocError, Global};
 use std::collections::BTreeSet;
+use syntax_tree::{Node, Number, RangeEnd, ReservedRange, Span};
 
-pub fn diag(message: Message, span: Span) -> Diag
+pub fn diag(message: Problem, span: Span) -> Diag
     ensures { result ≡ diags.diag message span }
 {
     Diag {
@@ -35,7 +33,7 @@ pub fn diag(message: Message, span: Span) -> Diag
     }
 }
 
-pub fn diag_if(wrong: bool, message: Message, span: Span) -> Option<Diag>
+pub fn diag_if(wrong: bool, message: Problem, span: Span) -> Option<Diag>
     ensures { result ≡ spec.diag_if wrong message span }
 {
     if wrong {
@@ -54,21 +52,21 @@ pub fn add(found: Option<Diag>, diags: &mut Items<Diag>) -> Result<(), AllocErro
     }
 }
 
-fn out_of_range(numbering: Numbering) -> Message
+fn out_of_range(numbering: Numbering) -> Problem
     ensures { result ≡ spec.out_of_range numbering }
 {
     match numbering {
-        Numbering::Fields => Message::NumberOutOfRange,
-        Numbering::Values => Message::EnumNumberOutOfRange,
+        Numbering::Fields => Problem::NumberOutOfRange,
+        Numbering::Values => Problem::EnumNumberOutOfRange,
     }
 }
 
-fn used_twice(numbering: Numbering) -> Message
+fn used_twice(numbering: Numbering) -> Problem
     ensures { result ≡ spec.used_twice numbering }
 {
     match numbering {
-        Numbering::Fields => Message::NumberUsedTwice,
-        Numbering::Values => Message::EnumNumberUsedTwice,
+        Numbering::Fields => Problem::NumberUsedTwice,
+        Numbering::Values => Problem::EnumNumberUsedTwice,
     }
 }
 
@@ -110,7 +108,7 @@ fn kept_free(member: Member) -> Option<Diag>
 {
     diag_if(
         is_kept_free(member.value),
-        Message::NumberKeptFree,
+        Problem::NumberKeptFree,
         member.number,
     )
 }
@@ -146,7 +144,7 @@ fn backwards(interval: Interval) -> Option<Diag>
 {
     diag_if(
         !runs_forwards(interval),
-        Message::RangeBackwards,
+        Problem::RangeBackwards,
         interval.span,
     )
 }
@@ -166,7 +164,7 @@ pub fn add_labels(labels: &[Span], diags: &mut Items<Diag>) -> Result<(), AllocE
     ensures { OnOk result (diags.new ≡ diags.old ++ spec.label_diags labels.now) }
 {
     'labels: for label in labels {
-        diags.push(diag(Message::LabelNotAllowed, *label))?;
+        diags.push(diag(Problem::LabelNotAllowed, *label))?;
     }
     Ok(())
 }
@@ -248,7 +246,7 @@ pub fn add_name_twice(
 {
     'names: for name in names {
         let again = note_text(alloc, seen, name.text.as_str())?;
-        add(diag_if(again, Message::ReservedTwice, name.span), diags)?;
+        add(diag_if(again, Problem::ReservedTwice, name.span), diags)?;
     }
     Ok(())
 }
@@ -258,7 +256,7 @@ fn name_reserved(text: &str, reserved: &BTreeSet<String>, member: Member) -> Opt
 {
     diag_if(
         reserved.contains(text_at(text, member.name)),
-        Message::NameReserved,
+        Problem::NameReserved,
         member.name,
     )
 }

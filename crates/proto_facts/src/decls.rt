@@ -1,17 +1,17 @@
 // The declarations of a tree.
 
 ghost use Rattle.std.specs.Prelude.{◌≡◌, ◌++◌, ◌∷◌, [], length, OnOk, IfOk, None};
-ghost use Rattle.proto_facts.specs.Decls as spec;
-ghost use Rattle.proto_facts.specs.declared.fact.DeclKind.TheVariants as kinds;
+ghost use Rattle.file_facts.specs.Decls as spec;
+ghost use Rattle.file_facts.specs.declared.fact.DeclKind.TheVariants as kinds;
 
-use crate::fact::{Decl, DeclKind};
-use crate::text::{joined, text_at};
-use proto_syntax::{Items, Node, Span};
+use file_facts::{Decl, DeclKind, joined, text_at};
+use sqlite_items::Items;
 use std::alloc::{AllocError, Global};
+use syntax_tree::{Node, Span};
 
 // Where a statement stands, and so what it declares there.
 #[derive(Clone, Copy)]
-pub struct Place<'a> {
+pub struct Enclosing<'a> {
     // What a field is declared as there: as a field or as an extension.
     pub members: DeclKind,
     // What full names begin with there; empty at the top of a file without a package.
@@ -26,7 +26,7 @@ fn declared(
     text: &str,
     kind: DeclKind,
     name: Span,
-    place: Place<'_>,
+    place: Enclosing<'_>,
 ) -> Result<Decl, AllocError>
     ensures { IfOk result (λ d. d ≡ spec.declared text.now kind name place.entry.scope.now place.entry.parent) }
 {
@@ -44,7 +44,7 @@ fn add_decls(
     alloc: Global,
     text: &str,
     nodes: &[Node],
-    place: Place<'_>,
+    place: Enclosing<'_>,
     found: &mut Items<Decl>,
 ) -> Result<(), AllocError>
     ensures { OnOk result (found.new ≡ found.old ++ spec.decls_in text.now nodes.now place.entry.members place.entry.scope.now place.entry.parent (length found.old)) }
@@ -61,7 +61,7 @@ fn add_own(
     text: &str,
     kind: DeclKind,
     name: Span,
-    place: Place<'_>,
+    place: Enclosing<'_>,
     found: &mut Items<Decl>,
 ) -> Result<(), AllocError>
     ensures { OnOk result (found.new ≡ found.old ++ spec.declared text.now kind name place.entry.scope.now place.entry.parent ∷ []) }
@@ -77,7 +77,7 @@ fn add_scope(
     kind: DeclKind,
     name: Span,
     items: &[Node],
-    place: Place<'_>,
+    place: Enclosing<'_>,
     found: &mut Items<Decl>,
 ) -> Result<(), AllocError>
     ensures { OnOk result (found.new ≡ found.old ++ spec.scope_decls text.now kind name items.now place.entry.scope.now place.entry.parent (length found.old)) }
@@ -86,7 +86,7 @@ fn add_scope(
     let decl = declared(alloc, text, kind, name, place)?;
     let inner = decl.full_name.copy(alloc)?;
     found.push(decl)?;
-    let inside = Place {
+    let inside = Enclosing {
         members: DeclKind::Field,
         scope: inner.as_str(),
         parent: Some(own),
@@ -102,12 +102,12 @@ fn add_block(
     kind: DeclKind,
     name: Span,
     items: &[Node],
-    place: Place<'_>,
+    place: Enclosing<'_>,
     found: &mut Items<Decl>,
 ) -> Result<(), AllocError>
     ensures { OnOk result (found.new ≡ found.old ++ spec.block_decls text.now kind name items.now place.entry.scope.now place.entry.parent (length found.old)) }
 {
-    let inside = Place {
+    let inside = Enclosing {
         members: DeclKind::Field,
         scope: place.scope,
         parent: Some(found.len()),
@@ -122,12 +122,12 @@ fn add_extensions(
     alloc: Global,
     text: &str,
     items: &[Node],
-    place: Place<'_>,
+    place: Enclosing<'_>,
     found: &mut Items<Decl>,
 ) -> Result<(), AllocError>
     ensures { OnOk result (found.new ≡ found.old ++ spec.decls_in text.now items.now kinds.Extension place.entry.scope.now place.entry.parent (length found.old)) }
 {
-    let inside = Place {
+    let inside = Enclosing {
         members: DeclKind::Extension,
         scope: place.scope,
         parent: place.parent,
@@ -141,7 +141,7 @@ pub fn add_decl(
     alloc: Global,
     text: &str,
     node: &Node,
-    place: Place<'_>,
+    place: Enclosing<'_>,
     found: &mut Items<Decl>,
 ) -> Result<(), AllocError>
     ensures { OnOk result (found.new ≡ found.old ++ spec.decls_of text.now node.now place.entry.members place.entry.scope.now place.entry.parent (length found.old)) }

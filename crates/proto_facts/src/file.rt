@@ -3,40 +3,38 @@
 ghost use Rattle.std.specs.Prelude.{◌≡◌, ◌<◌, ◌^◌, ◌++◌, [], ◌∷◌, OnOk, IfOk, ℕ, List, map, nat_lt};
 ghost use Rattle.std.specs.List.{list_any, filter_map};
 ghost use Rattle.std.specs.Option.{option_to_list};
-ghost use Rattle.proto_syntax.specs.declared.node.Node.{out-Node};
-ghost use Rattle.proto_facts.specs.Diags as said;
-ghost use Rattle.proto_facts.specs.Facts as spec;
-ghost use Rattle.proto_facts.specs.Checks as checks;
+ghost use Rattle.syntax_tree.specs.declared.node.Node.{out-Node};
+ghost use Rattle.file_facts.specs.Diags as said;
+ghost use Rattle.file_facts.specs.Facts as spec;
+ghost use Rattle.file_facts.specs.Checks as checks;
 
 use crate::checks::{add, diag, diag_if};
-use crate::diagnostic::Diag;
-use crate::fact::{Decl, ImportFact, PackageFact};
 use crate::members::is;
-use crate::message::Message;
 use crate::seen::note_name;
-use crate::stated::{StatedPackage, StatedSyntax};
 use crate::text::{dotted, literal_text};
+use file_facts::{Decl, Diag, ImportFact, PackageFact, Problem, StatedPackage, StatedSyntax};
 use proto_lex::Reason;
-use proto_syntax::{Fault, Items, Literal, Node, Problem, Span};
+use sqlite_items::Items;
 use std::alloc::{AllocError, Global};
 use std::collections::HashSet;
+use syntax_tree::{Fault, Literal, Node, Span, SyntaxProblem};
 
 // The longest text that is analysed.
 const MAX_TEXT: usize = 16_777_216;
 
 // ---- bad tokens and statements
 
-fn message_of(problem: Problem) -> Message
-    ensures { result ≡ said.message_of problem }
+fn problem_of(problem: SyntaxProblem) -> Problem
+    ensures { result ≡ said.problem_of problem }
 {
     match problem {
-        Problem::BadToken(Reason::Character) => Message::IllegalCharacter,
-        Problem::BadToken(Reason::Number) => Message::MalformedNumber,
-        Problem::BadToken(Reason::String) => Message::UnfinishedString,
-        Problem::BadToken(Reason::Comment) => Message::UnfinishedComment,
-        Problem::NotUnderstood => Message::NotUnderstood,
-        Problem::TooDeep => Message::TooDeep,
-        Problem::Unfinished => Message::Unfinished,
+        SyntaxProblem::BadToken(Reason::Character) => Problem::IllegalCharacter,
+        SyntaxProblem::BadToken(Reason::Number) => Problem::MalformedNumber,
+        SyntaxProblem::BadToken(Reason::String) => Problem::UnfinishedString,
+        SyntaxProblem::BadToken(Reason::Comment) => Problem::UnfinishedComment,
+        SyntaxProblem::NotUnderstood => Problem::NotUnderstood,
+        SyntaxProblem::TooDeep => Problem::TooDeep,
+        SyntaxProblem::Unfinished => Problem::Unfinished,
     }
 }
 
@@ -45,7 +43,7 @@ pub fn add_faults(faults: &[Fault], diags: &mut Items<Diag>) -> Result<(), Alloc
     ensures { OnOk result (diags.new ≡ diags.old ++ map said.diag_of faults.now) }
 {
     'faults: for fault in faults {
-        diags.push(diag(message_of(fault.problem), fault.span))?;
+        diags.push(diag(problem_of(fault.problem), fault.span))?;
     }
     Ok(())
 }
@@ -98,8 +96,8 @@ fn not_proto3(found: &[StatedSyntax]) -> Option<Diag>
     ensures { result ≡ spec.not_proto3 found.now }
 {
     match found {
-        [] => Some(diag(Message::NotProto3, Span { start: 0, end: 0 })),
-        [first, ..] => diag_if(!first.is_proto3, Message::NotProto3, first.span),
+        [] => Some(diag(Problem::NotProto3, Span { start: 0, end: 0 })),
+        [first, ..] => diag_if(!first.is_proto3, Problem::NotProto3, first.span),
     }
 }
 
@@ -110,7 +108,7 @@ pub fn opaque(text: &str, found: &[StatedSyntax]) -> Option<Diag>
     if text.len() <= MAX_TEXT {
         not_proto3(found)
     } else {
-        Some(diag(Message::TextTooLong, Span { start: 0, end: 0 }))
+        Some(diag(Problem::TextTooLong, Span { start: 0, end: 0 }))
     }
 }
 
@@ -138,14 +136,14 @@ fn start_of(node: &Node) -> usize
     }
 }
 
-fn bad_start(problem: Problem, span: Span) -> Option<usize>
+fn bad_start(problem: SyntaxProblem, span: Span) -> Option<usize>
     ensures { result ≡ spec.bad_start problem span }
 {
     match problem {
-        Problem::BadToken(_) => None,
-        Problem::NotUnderstood => Some(span.start),
-        Problem::TooDeep => Some(span.start),
-        Problem::Unfinished => Some(span.start),
+        SyntaxProblem::BadToken(_) => None,
+        SyntaxProblem::NotUnderstood => Some(span.start),
+        SyntaxProblem::TooDeep => Some(span.start),
+        SyntaxProblem::Unfinished => Some(span.start),
     }
 }
 
@@ -204,7 +202,7 @@ fn syntax_late(earliest: usize, stated: StatedSyntax) -> Option<Diag>
 {
     diag_if(
         earliest < stated.span.start,
-        Message::SyntaxNotFirst,
+        Problem::SyntaxNotFirst,
         stated.span,
     )
 }
@@ -273,7 +271,7 @@ fn add_packages_twice(found: &[StatedPackage], diags: &mut Items<Diag>) -> Resul
     ensures { OnOk result (diags.new ≡ diags.old ++ map spec.package_twice found.now) }
 {
     'found: for stated in found {
-        diags.push(diag(Message::PackageTwice, stated.name))?;
+        diags.push(diag(Problem::PackageTwice, stated.name))?;
     }
     Ok(())
 }
@@ -350,7 +348,7 @@ pub fn add_imported_twice(
     let mut seen = HashSet::with_capacity(alloc, imports.len())?;
     'names: for name in imports {
         let again = note_name(&mut seen, name.path.as_str())?;
-        add(diag_if(again, Message::ImportedTwice, name.span), diags)?;
+        add(diag_if(again, Problem::ImportedTwice, name.span), diags)?;
     }
     Ok(())
 }
@@ -369,7 +367,7 @@ pub fn add_declared_twice(
     'names: for name in decls {
         let again = note_name(&mut seen, name.full_name.as_str())?;
         add(
-            diag_if(again, Message::DeclaredTwice, name.name_span),
+            diag_if(again, Problem::DeclaredTwice, name.name_span),
             diags,
         )?;
     }

@@ -3,14 +3,12 @@ ghost use Rattle.std.specs.Prelude.{◌≡◌, ◌++◌, ◌||◌, [], IfOk, OnO
 ghost use Rattle.std.specs.List.{list_any};
 ghost use Rattle.std.specs.List.Sorted.{IsNonDecreasingBy};
 ghost use Rattle.proto_facts.specs.Reach as spec;
-ghost use Rattle.proto_facts.specs.Checks as checks;
+ghost use Rattle.file_facts.specs.Checks as checks;
 
 use crate::checks::{add, diag_if};
-use crate::diagnostic::Diag;
-use crate::message::Message;
-use crate::part::Interval;
 use crate::reach::{FEW, Reach, ends, is_between, sorted_reaches};
-use proto_syntax::Items;
+use file_facts::{Diag, Interval, Problem};
+use sqlite_items::Items;
 use std::alloc::{AllocError, Global};
 
 // Whether an interval shares a number with one of the sorted ones, or is met already.
@@ -71,7 +69,7 @@ fn add_met(good: &[Interval], met: &[bool], diags: &mut Items<Diag>) -> Result<(
 {
     'good: for (i, interval) in good.iter().enumerate() {
         let again = met[i];
-        add(diag_if(again, Message::ReservedTwice, interval.span), diags)?;
+        add(diag_if(again, Problem::ReservedTwice, interval.span), diags)?;
     }
     Ok(())
 }
@@ -104,7 +102,7 @@ fn range_twice(before: &[Interval], interval: Interval) -> Option<Diag>
     ensures { result ≡ checks.range_twice before.now interval }
 {
     let again = overlaps_one(before, interval);
-    diag_if(again, Message::ReservedTwice, interval.span)
+    diag_if(again, Problem::ReservedTwice, interval.span)
 }
 
 // Adds the ranges that share a number with an earlier one, by a look at each pair.

@@ -2,17 +2,15 @@
 
 ghost use Rattle.std.specs.Prelude.{◌≡◌, ◌+◌, ◌<◌, ℕ, List, IfOk, OnOk, ◌++◌, Some, length, map, take, slice_index, nat_lt, nat_le};
 ghost use Rattle.std.specs.List.{list_any, filter_map};
-ghost use Rattle.proto_facts.specs.declared.message.Message.TheVariants as m;
+ghost use Rattle.file_facts.specs.declared.problem.Problem.TheVariants as m;
 ghost use Rattle.std.specs.List.Sorted.{IsNonDecreasingBy};
 ghost use Rattle.proto_facts.specs.Reach as spec;
-ghost use Rattle.proto_facts.specs.Checks as checks;
-ghost use Rattle.proto_facts.specs.declared.part.Interval.{Interval};
+ghost use Rattle.file_facts.specs.Checks as checks;
+ghost use Rattle.file_facts.specs.declared.part.Interval.{Interval};
 
 use crate::checks::{add, diag_if};
-use crate::diagnostic::Diag;
-use crate::message::Message;
-use crate::part::{Interval, Member};
-use proto_syntax::Items;
+use file_facts::{Diag, Interval, Member, Problem};
+use sqlite_items::Items;
 use std::alloc::{AllocError, Global};
 
 // So many intervals are looked at one by one; more are put in order first.
@@ -79,7 +77,7 @@ fn number_reserved(sorted: &[Reach], ends: &[u64], member: Member) -> Option<Dia
         Some(value) => is_between(sorted, ends, value, value),
         None => false,
     };
-    diag_if(held, Message::NumberReserved, member.number)
+    diag_if(held, Problem::NumberReserved, member.number)
 }
 
 fn lies_in(value: Option<u32>, interval: Interval) -> bool
@@ -101,7 +99,7 @@ fn number_in(good: &[Interval], member: Member) -> Option<Diag>
     ensures { result ≡ checks.number_reserved good.now member }
 {
     let is_reserved = is_in(good, member.value);
-    diag_if(is_reserved, Message::NumberReserved, member.number)
+    diag_if(is_reserved, Problem::NumberReserved, member.number)
 }
 
 // Adds the members whose numbers are reserved, by a look at each interval.

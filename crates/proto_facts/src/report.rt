@@ -2,19 +2,20 @@
 
 ghost use Rattle.std.specs.Prelude.{◌≡◌, ◌++◌, [], ◌∷◌, OnOk, IfOk, None, Some, List};
 ghost use Rattle.std.specs.List.{filter_map};
-ghost use Rattle.proto_facts.specs.Facts as spec;
-ghost use Rattle.proto_syntax.specs.Read.{value_tree};
+ghost use Rattle.file_facts.specs.Facts as spec;
+ghost use Rattle.syntax_tree.specs.Read.{value_tree};
 
-use crate::diagnostic::{Diag, in_order};
-use crate::fact::{Decl, FileFacts, ImportFact, SyntaxFact};
 use crate::file::{
     add_declared_twice, add_faults, add_imported_twice, add_imports, add_package_diags,
     add_packages, add_starts, add_stated, add_syntax_late, first_package, opaque,
 };
-use crate::stated::{StatedPackage, StatedSyntax};
 use crate::walk::add_statements;
-use proto_syntax::{FileTree, Items};
+use file_facts::{
+    Decl, Diag, FileFacts, ImportFact, StatedPackage, StatedSyntax, SyntaxFact, in_order,
+};
+use sqlite_items::Items;
 use std::alloc::{AllocError, Global};
+use syntax_tree::FileTree;
 
 // The facts of a file that is not analysed.
 fn opaque_facts(alloc: Global, diag: Diag) -> Result<FileFacts, AllocError>

@@ -4,7 +4,7 @@ ghost use Rattle.std.specs.Prelude.{◌≡◌, ◌||◌, ℕ, List, IfOk, OnOk, 
 ghost use Rattle.std.specs.BTreeSet.{contains, contains_text};
 ghost use Rattle.std.specs.Ordering.{nat_cmp};
 ghost use Rattle.std.specs.Str.{bytes_eq};
-ghost use Rattle.proto_facts.specs.Checks as checks;
+ghost use Rattle.file_facts.specs.Checks as checks;
 ghost use Rattle.proto_facts.specs.Seen as spec;
 
 use std::alloc::{AllocError, Global};

@@ -2,17 +2,17 @@
 
 ghost use Rattle.std.specs.Prelude.{◌≡◌, ◌++◌, OnOk, None, length};
 ghost use Rattle.std.specs.List.{flat_map};
-ghost use Rattle.proto_facts.specs.Checks as checks;
-ghost use Rattle.proto_facts.specs.Decls as declared;
-ghost use Rattle.proto_facts.specs.declared.fact.DeclKind.TheVariants as kind;
-ghost use Rattle.proto_facts.specs.Tree as spec;
+ghost use Rattle.file_facts.specs.Checks as checks;
+ghost use Rattle.file_facts.specs.Decls as declared;
+ghost use Rattle.file_facts.specs.declared.fact.DeclKind.TheVariants as kind;
+ghost use Rattle.file_facts.specs.Tree as spec;
 
 use crate::bodies::add_statement_diags;
-use crate::decls::{Place, add_decl};
-use crate::diagnostic::Diag;
-use crate::fact::{Decl, DeclKind};
-use proto_syntax::{Items, Node};
+use crate::decls::{Enclosing, add_decl};
+use file_facts::{Decl, DeclKind, Diag};
+use sqlite_items::Items;
 use std::alloc::{AllocError, Global};
+use syntax_tree::Node;
 
 // Adds what is wrong in each statement of a list, and in those inside it.
 #[cycle(statements)]
@@ -44,7 +44,7 @@ pub fn add_statements(
     ensures decls { OnOk result (decls.new ≡ decls.old ++ declared.decls_in text.now nodes.now kind.Field scope.now None (length decls.old)) }
     ensures diags { OnOk result (diags.new ≡ diags.old ++ flat_map (checks.statement_diags text.now) (spec.all_statements nodes.now)) }
 {
-    let top = Place {
+    let top = Enclosing {
         members: DeclKind::Field,
         scope,
         parent: None,

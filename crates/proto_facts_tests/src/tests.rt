@@ -1,12 +1,13 @@
 // What `facts` finds in texts, with the real lexer and parser.
-use proto_facts::{
-    Diag, FileFacts, Message, Name, SyntaxFact, decls_in_order, facts, in_order, joined,
-    messages_in_order, names_are_identifiers, names_nest, one_list_in_order, one_value_of_facts,
-    text_at,
+use facts_laws::{
+    decls_in_order, names_are_identifiers, names_nest, one_list_in_order, one_value_of_facts,
+    problems_in_order,
 };
+use proto_facts::{Diag, FileFacts, Name, Problem, SyntaxFact, facts, in_order, joined, text_at};
 use proto_lex::lex;
-use proto_syntax::{Span, identifiers_law, names_law, parse, type_names_law};
+use proto_syntax::{Span, parse};
 use std::test::Fail;
+use syntax_laws::{identifiers_law, names_law, type_names_law};
 
 // The facts of a text.
 fn facts_of(rt: &HostRuntime, text: &str) -> Result<FileFacts, Fail> {
@@ -225,11 +226,11 @@ fn diagnostics_in_order(rt: HostRuntime) -> Result<(), Fail> {
     let found = in_order(
         rt.alloc(),
         &[
-            diag(2, Message::NameIsPackage),
-            diag(2, Message::UnfinishedString),
-            diag(1, Message::Unresolved),
-            diag(2, Message::MalformedNumber),
-            diag(2, Message::UnfinishedString),
+            diag(2, Problem::NameIsPackage),
+            diag(2, Problem::UnfinishedString),
+            diag(1, Problem::Unresolved),
+            diag(2, Problem::MalformedNumber),
+            diag(2, Problem::UnfinishedString),
         ],
     )?;
     let mut line = String::new(rt.alloc());
@@ -244,10 +245,10 @@ fn diagnostics_in_order(rt: HostRuntime) -> Result<(), Fail> {
         line.as_str(),
         "1 401 1 unresolved name, 2 201 1 malformed number, 2 201 1 unfinished string, 2 406 1 name is a package, "
     );
-    assert_eq!(rt; Message::NotProto3.severity(), 3);
+    assert_eq!(rt; Problem::NotProto3.severity(), 3);
     let name = Name::of(String::from_str(rt.alloc(), "a.b")?);
     assert_eq!(rt; name.copy(rt.alloc())?.as_str(), "a.b");
-    messages_in_order();
+    problems_in_order();
     one_list_in_order();
     one_value_of_facts();
     names_law();

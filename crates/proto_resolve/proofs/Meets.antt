@@ -8,11 +8,11 @@ use Rattle.std.proofs.lemmas.Bool.Decides.{nat_tests}
 use Rattle.std.proofs.lemmas.List.{length-map}
 use Rattle.std.proofs.lemmas.List.Elements.{All-nil, All-cons, All-append, All-weaker}
 use Rattle.std.proofs.lemmas.Slice.Eq.{bytes_eq-Decides}
-use Rattle.proto_facts.specs.declared.fact.Decl.{Decl}
-use Rattle.proto_facts.specs.declared.fact.PackageFact.{PackageFact}
+use Rattle.file_facts.specs.declared.fact.Decl.{Decl}
+use Rattle.file_facts.specs.declared.fact.PackageFact.{PackageFact}
 use Rattle.import_graph.specs.declared.paths.NamedFacts.{NamedFacts}
-use Rattle.import_graph.specs.declared.links.LinkedFile.{LinkedFile}
-use Rattle.import_graph.specs.Links.{graph_of, links_of}
+use Rattle.import_graph.specs.declared.imports.FileImports.{FileImports}
+use Rattle.import_graph.specs.Imports.{graph_of, imports_of}
 use Rattle.import_graph.specs.Views.{Sees}
 use Rattle.import_graph.specs.Closures.{view_of, sees}
 use Rattle.import_graph.specs.Laws.{ViewLaw}
@@ -150,7 +150,7 @@ package_within (x ∷ files) zero p e = omega arith
 package_within (x ∷ files) (suc g) p e = omega (arith, package_within files g p e)
 
 module _ (files : List NamedFacts) (law : ViewLaw files) (f : ℕ) (name : List ℕ) where
-  abbrev graph : List LinkedFile
+  abbrev graph : List FileImports
   graph = graph_of files
 
   abbrev view : List ℕ
@@ -160,7 +160,7 @@ module _ (files : List NamedFacts) (law : ViewLaw files) (f : ℕ) (name : List 
   named = all_named files name
 
   as_long : length graph ≡ length files
-  as_long = length-map files (λ x. links_of files x.facts)
+  as_long = length-map files (λ x. imports_of files x.facts)
 
   pub seen_so : (g : ℕ) → is_seen view g ≡ true → Sees graph f g
   seen_so g e =

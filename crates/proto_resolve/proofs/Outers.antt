@@ -9,9 +9,9 @@ use Rattle.std.proofs.lemmas.List.{append_assoc, take-append-drop}
 use Rattle.std.proofs.lemmas.Slice.Eq.{bytes_eq-Decides}
 use Rattle.std.proofs.Math.Seq.{drop-append_seam, take-append_seam}
 use Rattle.import_graph.specs.declared.paths.NamedFacts.{NamedFacts}
-use Rattle.proto_facts.specs.declared.fact.PackageFact.{PackageFact}
-use Rattle.proto_facts.specs.Nesting.{NamesNest}
-use Rattle.proto_facts.specs.Text.{joined}
+use Rattle.file_facts.specs.declared.fact.PackageFact.{PackageFact}
+use Rattle.file_facts.specs.Nesting.{NamesNest}
+use Rattle.file_facts.specs.Text.{joined}
 use Rattle.proto_resolve.specs.declared.target.DeclRef.{DeclRef}
 use Rattle.proto_resolve.specs.declared.target.Target.TheVariants.{Declared}
 use Rattle.proto_resolve.specs.Files.{all_named, begins, ends_component, facts_at, has_package, is_within}

@@ -7,18 +7,18 @@ use Rattle.std.proofs.Math.Path.{fun_ext}
 use Rattle.std.proofs.Math.Seq.{map-set_same}
 use Rattle.std.proofs.lemmas.List.{length-map, length-set, get_or-map}
 use Rattle.std.proofs.lemmas.Simd.{map-map}
-use Rattle.proto_facts.specs.declared.fact.Decl.{Decl}
-use Rattle.proto_facts.specs.declared.fact.DeclKind.{DeclKind}
-use Rattle.proto_facts.specs.declared.fact.FileFacts.{FileFacts}
-use Rattle.import_graph.specs.declared.links.Link.{Link}
-use Rattle.import_graph.specs.declared.links.LinkedFile.{LinkedFile}
+use Rattle.file_facts.specs.declared.fact.Decl.{Decl}
+use Rattle.file_facts.specs.declared.fact.DeclKind.{DeclKind}
+use Rattle.file_facts.specs.declared.fact.FileFacts.{FileFacts}
+use Rattle.import_graph.specs.declared.imports.ImportEdge.{ImportEdge}
+use Rattle.import_graph.specs.declared.imports.FileImports.{FileImports}
 use Rattle.import_graph.specs.declared.paths.NamedFacts.{NamedFacts}
-use Rattle.import_graph.specs.Links.{graph_of, links_of, linked}
+use Rattle.import_graph.specs.Imports.{graph_of, imports_of, edge_of}
 use Rattle.import_graph.specs.Paths.{IsInPathOrder, slash}
 use Rattle.proto_resolve.specs.declared.target.DeclRef.{DeclRef}
 use Rattle.proto_resolve.specs.Files.{all_decls, all_named, decl_at, facts_at, no_decl, no_facts}
 use Rattle.proto_resolve.specs.Outlines.{declared, imported, import_outline, with_facts}
-use Rattle.proto_resolve.specs.Seen.{told}
+use Rattle.proto_resolve.specs.Seen.{exports}
 use Rattle.proto_resolve.proofs.Order.{numbered, refs}
 
 -- elements at one place of lists that say the same
@@ -47,33 +47,33 @@ asking file = (file.path, import_outline file.facts)
 abbrev named : List Asking → List ℕ → Option ℕ
 named all path = if starts_with nat_eq path (slash ∷ []) then None else position (λ a. bytes_eq a.0 path) all
 
-abbrev link : List Asking → List ℕ × Bool → Link
-link all i = record { target = named all i.0; is_public = i.1 }
+abbrev edge : List Asking → List ℕ × Bool → ImportEdge
+edge all i = record { target = named all i.0; is_public = i.1 }
 
-abbrev links : List Asking → Asking → LinkedFile
-links all a = record { links = map (link all) a.1.1; is_opaque = a.1.0 }
+abbrev edges : List Asking → Asking → FileImports
+edges all a = record { edges = map (edge all) a.1.1; is_opaque = a.1.0 }
 
-one_link : (files : List NamedFacts) → linked files ≡ (λ i. link (map asking files) (imported i))
+one_link : (files : List NamedFacts) → edge_of files ≡ (λ i. edge (map asking files) (imported i))
 one_link files = fun_ext (λ i. ap (λ found. record { target = if starts_with nat_eq i.path (slash ∷ []) then None else found; is_public = i.is_public }) (sym (position-map (λ a. bytes_eq a.0 i.path) asking files)))
 
-one_file : (files : List NamedFacts) (file : NamedFacts) → links_of files file.facts ≡ links (map asking files) (asking file)
+one_file : (files : List NamedFacts) (file : NamedFacts) → imports_of files file.facts ≡ edges (map asking files) (asking file)
 one_file files file =
     let imports = let facts = file.facts in facts.imports in
     let opaque = (import_outline file.facts).0 in
-    ap (λ ls. record { links = ls; is_opaque = opaque }) (ap (λ f. map f imports) (one_link files) ∙ sym (map-map (link (map asking files)) imported imports))
+    ap (λ ls. record { edges = ls; is_opaque = opaque }) (ap (λ f. map f imports) (one_link files) ∙ sym (map-map (edge (map asking files)) imported imports))
 
-graph_is : (files : List NamedFacts) → graph_of files ≡ map (links (map asking files)) (map asking files)
-graph_is files = ap (λ f. map f files) (fun_ext (one_file files)) ∙ sym (map-map (links (map asking files)) asking files)
+graph_is : (files : List NamedFacts) → graph_of files ≡ map (edges (map asking files)) (map asking files)
+graph_is files = ap (λ f. map f files) (fun_ext (one_file files)) ∙ sym (map-map (edges (map asking files)) asking files)
 
 -- files that say the same to the graph have one graph
 pub same_graph : (old new : List NamedFacts) → map asking old ≡ map asking new → graph_of old ≡ graph_of new
-same_graph old new same = graph_is old ∙ ap (λ all. map (links all) all) same ∙ sym (graph_is new)
+same_graph old new same = graph_is old ∙ ap (λ all. map (edges all) all) same ∙ sym (graph_is new)
 
 -- ---- the names
 
 -- what a file says to those that see it
 abbrev pub telling : NamedFacts → List (DeclKind × List ℕ) × Option (List ℕ)
-telling file = told file.facts
+telling file = exports file.facts
 
 same_refs : (f n : ℕ) (a b : List Decl) → map declared a ≡ map declared b → map (numbered f) (enumerate_from n a) ≡ map (numbered f) (enumerate_from n b)
 same_refs f n [] [] same = refl
@@ -93,12 +93,12 @@ decls_from n (x ∷ old) (y ∷ new) same =
 pub same_decls : (old new : List NamedFacts) → map telling old ≡ map telling new → all_decls old ≡ all_decls new
 same_decls old new same = decls_from 0 old new same
 
-told_is : (files : List NamedFacts) (g : ℕ) → told (facts_at files g) ≡ get_or (map telling files) g (told no_facts)
-told_is files g = sym (ap (λ all. get_or all g (told no_facts)) (sym (map-map told (λ file. file.facts) files)) ∙ math.get_or-map told (map (λ file. file.facts) files) g no_facts)
+told_is : (files : List NamedFacts) (g : ℕ) → exports (facts_at files g) ≡ get_or (map telling files) g (exports no_facts)
+told_is files g = sym (ap (λ all. get_or all g (exports no_facts)) (sym (map-map exports (λ file. file.facts) files)) ∙ math.get_or-map exports (map (λ file. file.facts) files) g no_facts)
 
 -- at each place they tell the same
-pub told_at : (old new : List NamedFacts) → map telling old ≡ map telling new → (g : ℕ) → told (facts_at old g) ≡ told (facts_at new g)
-told_at old new same g = told_is old g ∙ ap (λ all. get_or all g (told no_facts)) same ∙ sym (told_is new g)
+pub told_at : (old new : List NamedFacts) → map telling old ≡ map telling new → (g : ℕ) → exports (facts_at old g) ≡ exports (facts_at new g)
+told_at old new same g = told_is old g ∙ ap (λ all. get_or all g (exports no_facts)) same ∙ sym (told_is new g)
 
 declared_at : (a b : List Decl) (n : ℕ) → map declared a ≡ map declared b → declared (get_or a n no_decl) ≡ declared (get_or b n no_decl)
 declared_at a b n same = sym (math.get_or-map declared a n no_decl) ∙ ap (λ all. get_or all n (declared no_decl)) same ∙ math.get_or-map declared b n no_decl
@@ -122,8 +122,8 @@ module _ (files : List NamedFacts) (f : ℕ) (file : NamedFacts) (facts : FileFa
   keeps_asking same = map-set_same asking files f (record { path = file.path; facts = facts }) file
       (ap (λ o. (file.path, o)) (same ∙ ap import_outline (here files f file there is)) ∙ ap asking is)
 
-  pub keeps_telling : told facts ≡ told (facts_at files f) → map telling (set files f (record { path = file.path; facts = facts })) ≡ map telling files
-  keeps_telling same = map-set_same telling files f (record { path = file.path; facts = facts }) file (same ∙ ap told (here files f file there is) ∙ ap telling is)
+  pub keeps_telling : exports facts ≡ exports (facts_at files f) → map telling (set files f (record { path = file.path; facts = facts })) ≡ map telling files
+  keeps_telling same = map-set_same telling files f (record { path = file.path; facts = facts }) file (same ∙ ap exports (here files f file there is) ∙ ap telling is)
 
 -- ---- the order of the files
 

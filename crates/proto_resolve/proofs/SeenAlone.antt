@@ -7,18 +7,18 @@ use Rattle.std.proofs.Math.Path.{fun_ext}
 use Rattle.std.proofs.lemmas.Bool.{cases_Bool}
 use Rattle.std.proofs.lemmas.Bool.Decides.{Decides-eqb}
 use Rattle.std.proofs.lemmas.List.Elements.{All-head, All-tail}
-use Rattle.proto_syntax.specs.declared.node.FileTree.{FileTree}
-use Rattle.proto_facts.specs.declared.diagnostic.Diag.{Diag}
-use Rattle.proto_facts.specs.declared.fact.Decl.{Decl}
-use Rattle.proto_facts.specs.declared.fact.DeclKind.{DeclKind}
-use Rattle.proto_facts.specs.declared.fact.FileFacts.{FileFacts}
-use Rattle.proto_facts.specs.declared.fact.ImportFact.{ImportFact}
-use Rattle.proto_facts.specs.declared.message.Message.TheVariants as m
-use Rattle.proto_facts.specs.Diags.{diag}
-use Rattle.proto_facts.specs.Order.{in_order}
-use Rattle.proto_facts.specs.Text.{joined}
+use Rattle.syntax_tree.specs.declared.node.FileTree.{FileTree}
+use Rattle.file_facts.specs.declared.diagnostic.Diag.{Diag}
+use Rattle.file_facts.specs.declared.fact.Decl.{Decl}
+use Rattle.file_facts.specs.declared.fact.DeclKind.{DeclKind}
+use Rattle.file_facts.specs.declared.fact.FileFacts.{FileFacts}
+use Rattle.file_facts.specs.declared.fact.ImportFact.{ImportFact}
+use Rattle.file_facts.specs.declared.problem.Problem.TheVariants as m
+use Rattle.file_facts.specs.Diags.{diag}
+use Rattle.file_facts.specs.Order.{in_order}
+use Rattle.file_facts.specs.Text.{joined}
 use Rattle.import_graph.specs.declared.paths.NamedFacts.{NamedFacts}
-use Rattle.import_graph.specs.Links.{graph_of, target_at}
+use Rattle.import_graph.specs.Imports.{graph_of, target_at}
 use Rattle.import_graph.specs.Closures.{is_closed, view_of}
 use Rattle.import_graph.specs.Outlooks.{import_outlook, imports_outlook}
 use Rattle.import_graph.proofs.Outlooks.{said_at}
@@ -32,21 +32,21 @@ use Rattle.proto_resolve.specs.declared.uses.NameUse.{NameUse}
 use Rattle.proto_resolve.specs.Files.{all_decls, all_named, decl_at, facts_at, has_package}
 use Rattle.proto_resolve.specs.Names.{first_declared, first_text, found, has_kind, is_holder, is_seen, is_type, joined_all, meaning, scope_of, settles, settles_at, texts_of}
 use Rattle.proto_resolve.specs.Resolved.{resolved, sites_at}
-use Rattle.proto_resolve.specs.Seen.{told, SeenLaw, SeesTheSame}
+use Rattle.proto_resolve.specs.Seen.{exports, SeenLaw, SeesTheSame}
 use Rattle.proto_resolve.specs.Sites.{names_of_file}
 use Rattle.proto_resolve.specs.Uses.{prefixes, uses}
-use Rattle.proto_resolve.specs.ViewFaults.{decl_faults, faults_of_meaning, faults_of_target, import_faults, is_declared_elsewhere, name_faults, view_faults}
+use Rattle.proto_resolve.specs.ViewDiagnostics.{decl_diagnostics, diagnostics_of_meaning, diagnostics_of_target, import_diagnostics, is_declared_elsewhere, name_diagnostics, view_diagnostics}
 use Rattle.proto_resolve.proofs.Alike.{any_agree, any_alike, filter_kept, filter_swap, find_alike}
 use Rattle.proto_resolve.proofs.Firsts.{find_passes, is_another, is_own, is_visible}
-use Rattle.proto_resolve.proofs.Told.{as_many, decls_alike, kind_at, name_at, within_alike}
+use Rattle.proto_resolve.proofs.Exports.{as_many, decls_alike, kind_at, name_at, within_alike}
 
 abbrev has_name : List NamedFacts → List ℕ → DeclRef → Bool
 has_name files name r = bytes_eq (let d = decl_at files r in d.full_name) name
 
 module _ (old new : List NamedFacts) (f : ℕ) (view : List ℕ) (lengths : length old ≡ length new) (own : facts_at old f ≡ facts_at new f)
-    (seen : All (λ g. told (facts_at old g) ≡ told (facts_at new g)) view) where
+    (seen : All (λ g. exports (facts_at old g) ≡ exports (facts_at new g)) view) where
   abbrev TellsTheSame : ℕ → Type 0
-  TellsTheSame g = told (facts_at old g) ≡ told (facts_at new g)
+  TellsTheSame g = exports (facts_at old g) ≡ exports (facts_at new g)
 
   -- f itself, or a file of the view
   abbrev is_near : ℕ → Bool
@@ -76,7 +76,7 @@ module _ (old new : List NamedFacts) (f : ℕ) (view : List ℕ) (lengths : leng
 
   near_tells : (g : ℕ) → is_near g ≡ true → TellsTheSame g
   near_tells g e = elim (cases_Bool (g == f)) [
-    | inl same ↦ let equal : g ≡ f = (Decides-eqb g f).0 same in rw equal (ap (λ (facts : FileFacts). told facts) own)
+    | inl same ↦ let equal : g ≡ f = (Decides-eqb g f).0 same in rw equal (ap (λ (facts : FileFacts). exports facts) own)
     | inr other ↦ seen_tells view seen g (rw other at e)
   ]
 
@@ -184,51 +184,51 @@ module _ (old new : List NamedFacts) (f : ℕ) (view : List ℕ) (lengths : leng
 
   -- ---- what is wrong
 
-  meaning_faults_alike : (n : NameSite) (t : Option Target) → IsNear t → faults_of_meaning old f view n t ≡ faults_of_meaning new f view n t
-  meaning_faults_alike n None e = refl
-  meaning_faults_alike n (Some t) e = ap (λ (fits : Bool). if fits then [] else diag m.WrongKind n.span ∷ []) (kind_alike (is_type n.needs) (Some t) e)
+  meaning_diagnostics_alike : (n : NameSite) (t : Option Target) → IsNear t → diagnostics_of_meaning old f view n t ≡ diagnostics_of_meaning new f view n t
+  meaning_diagnostics_alike n None e = refl
+  meaning_diagnostics_alike n (Some t) e = ap (λ (fits : Bool). if fits then [] else diag m.WrongKind n.span ∷ []) (kind_alike (is_type n.needs) (Some t) e)
 
-  name_faults_alike : (n : NameSite) → name_faults old f view n ≡ name_faults new f view n
-  name_faults_alike n =
-      ap (λ (t : Option Target). faults_of_meaning old f view n t) (meaning_alike n)
-      ∙ meaning_faults_alike n (meaning new f view n) (meaning_near n (scope_of new f view n))
+  name_diagnostics_alike : (n : NameSite) → name_diagnostics old f view n ≡ name_diagnostics new f view n
+  name_diagnostics_alike n =
+      ap (λ (t : Option Target). diagnostics_of_meaning old f view n t) (meaning_alike n)
+      ∙ meaning_diagnostics_alike n (meaning new f view n) (meaning_near n (scope_of new f view n))
 
   elsewhere_alike : (name : List ℕ) → is_declared_elsewhere old f view name ≡ is_declared_elsewhere new f view name
   elsewhere_alike name = any_alike near (all_named old name) (all_named new name) (named_alike name) (is_another f view) another_near
 
-  abbrev decl_faults_by : Decl → Bool → Bool → List Diag
-  decl_faults_by d elsewhere has =
+  abbrev decl_diagnostics_by : Decl → Bool → Bool → List Diag
+  decl_diagnostics_by d elsewhere has =
       (if elsewhere then diag m.DeclaredElsewhere d.name_span ∷ [] else []) ++ (if has then diag m.NameIsPackage d.name_span ∷ [] else [])
 
-  decl_faults_alike : (d : Decl) → decl_faults old f view d ≡ decl_faults new f view d
-  decl_faults_alike d =
-      ap (λ (elsewhere : Bool). decl_faults_by d elsewhere (list_any (has_package old d.full_name) view)) (elsewhere_alike d.full_name)
-      ∙ ap (λ (has : Bool). decl_faults_by d (is_declared_elsewhere new f view d.full_name) has) (has_alike d.full_name)
+  decl_diagnostics_alike : (d : Decl) → decl_diagnostics old f view d ≡ decl_diagnostics new f view d
+  decl_diagnostics_alike d =
+      ap (λ (elsewhere : Bool). decl_diagnostics_by d elsewhere (list_any (has_package old d.full_name) view)) (elsewhere_alike d.full_name)
+      ∙ ap (λ (has : Bool). decl_diagnostics_by d (is_declared_elsewhere new f view d.full_name) has) (has_alike d.full_name)
 
 -- ---- the whole
 
--- the faults of an import by what it names and whether it closes a cycle
-abbrev import_faults_by : ImportFact → Option ℕ × Bool → List Diag
-import_faults_by i (None, closes) = diag m.ImportNotFound i.span ∷ []
-import_faults_by i (Some g, closes) = if closes then diag m.ImportCycle i.span ∷ [] else []
+-- the diagnostics of an import by what it names and whether it closes a cycle
+abbrev import_diagnostics_by : ImportFact → Option ℕ × Bool → List Diag
+import_diagnostics_by i (None, closes) = diag m.ImportNotFound i.span ∷ []
+import_diagnostics_by i (Some g, closes) = if closes then diag m.ImportCycle i.span ∷ [] else []
 
-target_faults : (files : List NamedFacts) (f : ℕ) (i : ImportFact) (t : Option ℕ) → faults_of_target files f i t ≡ import_faults_by i (import_outlook (graph_of files) f t)
-target_faults files f i None = refl
-target_faults files f i (Some g) = refl
+target_diagnostics : (files : List NamedFacts) (f : ℕ) (i : ImportFact) (t : Option ℕ) → diagnostics_of_target files f i t ≡ import_diagnostics_by i (import_outlook (graph_of files) f t)
+target_diagnostics files f i None = refl
+target_diagnostics files f i (Some g) = refl
 
-import_faults_said : (files : List NamedFacts) (f : ℕ) (e : ℕ × ImportFact) → import_faults files f e ≡ import_faults_by e.1 (get_or (imports_outlook (graph_of files) f) e.0 (None, false))
-import_faults_said files f e =
-    target_faults files f e.1 (target_at (graph_of files) f e.0)
-    ∙ ap (import_faults_by e.1) (sym (said_at (graph_of files) f e.0))
+import_diagnostics_said : (files : List NamedFacts) (f : ℕ) (e : ℕ × ImportFact) → import_diagnostics files f e ≡ import_diagnostics_by e.1 (get_or (imports_outlook (graph_of files) f) e.0 (None, false))
+import_diagnostics_said files f e =
+    target_diagnostics files f e.1 (target_at (graph_of files) f e.0)
+    ∙ ap (import_diagnostics_by e.1) (sym (said_at (graph_of files) f e.0))
 
-import_faults_alike : (old new : List NamedFacts) (f : ℕ) → imports_outlook (graph_of old) f ≡ imports_outlook (graph_of new) f → (e : ℕ × ImportFact) → import_faults old f e ≡ import_faults new f e
-import_faults_alike old new f same e =
-    import_faults_said old f e
-    ∙ ap (λ (said : List (Option ℕ × Bool)). import_faults_by e.1 (get_or said e.0 (None, false))) same
-    ∙ sym (import_faults_said new f e)
+import_diagnostics_alike : (old new : List NamedFacts) (f : ℕ) → imports_outlook (graph_of old) f ≡ imports_outlook (graph_of new) f → (e : ℕ × ImportFact) → import_diagnostics old f e ≡ import_diagnostics new f e
+import_diagnostics_alike old new f same e =
+    import_diagnostics_said old f e
+    ∙ ap (λ (said : List (Option ℕ × Bool)). import_diagnostics_by e.1 (get_or said e.0 (None, false))) same
+    ∙ sym (import_diagnostics_said new f e)
 
-abbrev faults_by : Bool → FileFacts → (NameSite → List Diag) → (ℕ × ImportFact → List Diag) → (Decl → List Diag) → List NameSite → List Diag
-faults_by closed facts of_names of_imports of_decls sites =
+abbrev diagnostics_by : Bool → FileFacts → (NameSite → List Diag) → (ℕ × ImportFact → List Diag) → (Decl → List Diag) → List NameSite → List Diag
+diagnostics_by closed facts of_names of_imports of_decls sites =
     (if closed then flat_map of_names sites else []) ++ (flat_map of_imports (enumerate_from 0 facts.imports) ++ flat_map of_decls facts.decls)
 
 module _ (old new : List NamedFacts) (f : ℕ) (same : SeesTheSame old new f) (text : List ℕ) (tree : FileTree) where
@@ -253,33 +253,33 @@ module _ (old new : List NamedFacts) (f : ℕ) (same : SeesTheSame old new f) (t
       ∙ ap (λ (facts : FileFacts). uses old f view (names_of_file text facts tree.nodes)) same.own
       ∙ uses_alike old new f view same.files same.own same.seen sites
 
-  -- the faults by the files as they were, by a view, whether it is closed, and the facts of f
-  abbrev old_faults : List ℕ → Bool → FileFacts → List Diag
-  old_faults seen closed facts =
-      faults_by closed facts (name_faults old f seen) (import_faults old f) (decl_faults old f seen) (names_of_file text facts tree.nodes)
+  -- the diagnostics by the files as they were, by a view, whether it is closed, and the facts of f
+  abbrev old_diagnostics : List ℕ → Bool → FileFacts → List Diag
+  old_diagnostics seen closed facts =
+      diagnostics_by closed facts (name_diagnostics old f seen) (import_diagnostics old f) (decl_diagnostics old f seen) (names_of_file text facts tree.nodes)
 
-  abbrev faults : (NameSite → List Diag) → (ℕ × ImportFact → List Diag) → (Decl → List Diag) → List Diag
-  faults of_names of_imports of_decls = faults_by (is_closed (graph_of new) f) (facts_at new f) of_names of_imports of_decls sites
+  abbrev diagnostics : (NameSite → List Diag) → (ℕ × ImportFact → List Diag) → (Decl → List Diag) → List Diag
+  diagnostics of_names of_imports of_decls = diagnostics_by (is_closed (graph_of new) f) (facts_at new f) of_names of_imports of_decls sites
 
-  faults_same : view_faults old f (sites_at old f text tree) ≡ view_faults new f sites
-  faults_same =
-      ap (λ (seen : List ℕ). old_faults seen (is_closed (graph_of old) f) (facts_at old f)) view_same
-      ∙ ap (λ (closed : Bool). old_faults view closed (facts_at old f)) closed_same
-      ∙ ap (λ (facts : FileFacts). old_faults view (is_closed (graph_of new) f) facts) same.own
-      ∙ ap (λ (of_names : NameSite → List Diag). faults of_names (import_faults old f) (decl_faults old f view))
-      (fun_ext (name_faults_alike old new f view same.files same.own same.seen))
-      ∙ ap (λ (of_imports : ℕ × ImportFact → List Diag). faults (name_faults new f view) of_imports (decl_faults old f view))
-      (fun_ext (import_faults_alike old new f imports_same))
-      ∙ ap (λ (of_decls : Decl → List Diag). faults (name_faults new f view) (import_faults new f) of_decls)
-      (fun_ext (decl_faults_alike old new f view same.files same.own same.seen))
+  diagnostics_same : view_diagnostics old f (sites_at old f text tree) ≡ view_diagnostics new f sites
+  diagnostics_same =
+      ap (λ (seen : List ℕ). old_diagnostics seen (is_closed (graph_of old) f) (facts_at old f)) view_same
+      ∙ ap (λ (closed : Bool). old_diagnostics view closed (facts_at old f)) closed_same
+      ∙ ap (λ (facts : FileFacts). old_diagnostics view (is_closed (graph_of new) f) facts) same.own
+      ∙ ap (λ (of_names : NameSite → List Diag). diagnostics of_names (import_diagnostics old f) (decl_diagnostics old f view))
+      (fun_ext (name_diagnostics_alike old new f view same.files same.own same.seen))
+      ∙ ap (λ (of_imports : ℕ × ImportFact → List Diag). diagnostics (name_diagnostics new f view) of_imports (decl_diagnostics old f view))
+      (fun_ext (import_diagnostics_alike old new f imports_same))
+      ∙ ap (λ (of_decls : Decl → List Diag). diagnostics (name_diagnostics new f view) (import_diagnostics new f) of_decls)
+      (fun_ext (decl_diagnostics_alike old new f view same.files same.own same.seen))
 
   abbrev links : List NameUse → List Diag → Links
   links listed wrong = record { uses = listed; diags = in_order wrong }
 
   resolved_same : resolved old f text tree ≡ resolved new f text tree
   resolved_same =
-      ap (λ (listed : List NameUse). links listed (view_faults old f (sites_at old f text tree))) uses_same
-      ∙ ap (λ (wrong : List Diag). links (uses new f view sites) wrong) faults_same
+      ap (λ (listed : List NameUse). links listed (view_diagnostics old f (sites_at old f text tree))) uses_same
+      ∙ ap (λ (wrong : List Diag). links (uses new f view sites) wrong) diagnostics_same
 
 pub seen_law : SeenLaw
 seen_law old new f within same text tree = resolved_same old new f same text tree

@@ -1,13 +1,13 @@
 -- The declarations and packages of all files. A file is its number in the list, counted from 0.
 use Rattle.std.specs.Prelude.{ℕ, List, [], ◌∷◌, Bool, true, false, ◌&&◌, ◌==◌, drop, length, Option, Some, None, slice_index_or, map, filter, bytes_eq, nat_eq}
 use Rattle.std.specs.List.{enumerate_from, flat_map, starts_with}
-use Rattle.proto_facts.specs.declared.fact.FileFacts.{FileFacts}
-use Rattle.proto_facts.specs.declared.fact.PackageFact.{PackageFact}
-use Rattle.proto_facts.specs.declared.fact.Decl.{Decl}
-use Rattle.proto_facts.specs.declared.fact.DeclKind.TheVariants.{Field}
-use Rattle.proto_facts.specs.declared.message.Message.TheVariants.{NotProto3}
-use Rattle.proto_facts.specs.Diags.{diag, nowhere}
-use Rattle.proto_facts.specs.Facts.{opaque_facts}
+use Rattle.file_facts.specs.declared.fact.FileFacts.{FileFacts}
+use Rattle.file_facts.specs.declared.fact.PackageFact.{PackageFact}
+use Rattle.file_facts.specs.declared.fact.Decl.{Decl}
+use Rattle.file_facts.specs.declared.fact.DeclKind.TheVariants.{Field}
+use Rattle.file_facts.specs.declared.problem.Problem.TheVariants.{NotProto3}
+use Rattle.file_facts.specs.Diags.{diag, nowhere}
+use Rattle.file_facts.specs.Facts.{opaque_facts}
 use Rattle.import_graph.specs.declared.paths.NamedFacts.{NamedFacts}
 use Rattle.proto_resolve.specs.declared.target.DeclRef.{DeclRef}
 

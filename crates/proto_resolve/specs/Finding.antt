@@ -1,8 +1,8 @@
 -- What a file finds at a full name, said without a search. A file is its number in the list of all files, by path.
 use Rattle.std.specs.Prelude.{◌≡◌, ◌⊎◌, ℕ, ◌<◌, List, ◌∷◌, ◌++◌, Option, Some, None, length}
-use Rattle.proto_facts.specs.declared.fact.PackageFact.{PackageFact}
+use Rattle.file_facts.specs.declared.fact.PackageFact.{PackageFact}
 use Rattle.import_graph.specs.declared.paths.NamedFacts.{NamedFacts}
-use Rattle.import_graph.specs.Links.{graph_of}
+use Rattle.import_graph.specs.Imports.{graph_of}
 use Rattle.import_graph.specs.Views.{Sees}
 use Rattle.proto_resolve.specs.declared.target.DeclRef.{DeclRef}
 use Rattle.proto_resolve.specs.declared.target.Target.{Target}

@@ -1,7 +1,7 @@
 -- The law of what stands at a full name.
 use Rattle.std.specs.Prelude.{◌≡◌, ◌↔◌, ℕ, List, Option}
 use Rattle.import_graph.specs.declared.paths.NamedFacts.{NamedFacts}
-use Rattle.import_graph.specs.Links.{graph_of}
+use Rattle.import_graph.specs.Imports.{graph_of}
 use Rattle.import_graph.specs.Closures.{view_of}
 use Rattle.proto_resolve.specs.declared.target.Target.{Target}
 use Rattle.proto_resolve.specs.Names.{found}

@@ -2,8 +2,8 @@
 use Rattle.std.specs.Prelude.{◌≡◌, ℕ, ◌<◌, ◌==◌, List, [], ◌∷◌, Bool, true, false, Option, Some, None, slice_index_or, map, find, length, ⊤, option_and_then, option_map, if◌then◌else◌}
 use Rattle.std.specs.List.{list_any}
 use Rattle.std.specs.Option.{option_or}
-use Rattle.proto_facts.specs.declared.fact.DeclKind.{DeclKind}
-use Rattle.proto_facts.specs.declared.fact.DeclKind.TheVariants.{Message, EnumDef, Service}
+use Rattle.file_facts.specs.declared.fact.DeclKind.{DeclKind}
+use Rattle.file_facts.specs.declared.fact.DeclKind.TheVariants.{Message, EnumDef, Service}
 use Rattle.import_graph.specs.declared.paths.NamedFacts.{NamedFacts}
 use Rattle.proto_resolve.specs.declared.site.NameSite.{NameSite}
 use Rattle.proto_resolve.specs.declared.site.Needs.{Needs}
@@ -11,7 +11,7 @@ use Rattle.proto_resolve.specs.declared.site.Needs.TheVariants as needs
 use Rattle.proto_resolve.specs.declared.target.DeclRef.{DeclRef}
 use Rattle.proto_resolve.specs.declared.target.Target.{Target}
 use Rattle.proto_resolve.specs.declared.target.Target.TheVariants.{Declared, Package}
-use Rattle.proto_facts.specs.Text.{joined}
+use Rattle.file_facts.specs.Text.{joined}
 use Rattle.proto_resolve.specs.Files.{all_named, decl_at, has_package}
 
 -- whether the view has the file

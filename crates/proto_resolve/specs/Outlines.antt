@@ -1,11 +1,11 @@
 -- What files say of their imports, and other facts of a file.
 use Rattle.std.specs.Prelude.{ℕ, List, [], Bool, slice_index_or, slice_set, map}
-use Rattle.proto_facts.specs.declared.fact.Decl.{Decl}
-use Rattle.proto_facts.specs.declared.fact.DeclKind.{DeclKind}
-use Rattle.proto_facts.specs.declared.fact.ImportFact.{ImportFact}
-use Rattle.proto_facts.specs.declared.fact.FileFacts.{FileFacts}
+use Rattle.file_facts.specs.declared.fact.Decl.{Decl}
+use Rattle.file_facts.specs.declared.fact.DeclKind.{DeclKind}
+use Rattle.file_facts.specs.declared.fact.ImportFact.{ImportFact}
+use Rattle.file_facts.specs.declared.fact.FileFacts.{FileFacts}
 use Rattle.import_graph.specs.declared.paths.NamedFacts.{NamedFacts}
-use Rattle.import_graph.specs.Links.{is_opaque}
+use Rattle.import_graph.specs.Imports.{is_opaque}
 
 -- what a declaration says to other files
 abbrev pub declared : Decl → DeclKind × List ℕ

@@ -1,16 +1,16 @@
 -- What is known of a file by what it sees.
 use Rattle.std.specs.Prelude.{ℕ, List}
-use Rattle.proto_syntax.specs.declared.node.FileTree.{FileTree}
-use Rattle.proto_facts.specs.Order.{in_order}
+use Rattle.syntax_tree.specs.declared.node.FileTree.{FileTree}
+use Rattle.file_facts.specs.Order.{in_order}
 use Rattle.import_graph.specs.declared.paths.NamedFacts.{NamedFacts}
-use Rattle.import_graph.specs.Links.{graph_of}
+use Rattle.import_graph.specs.Imports.{graph_of}
 use Rattle.import_graph.specs.Closures.{view_of}
 use Rattle.proto_resolve.specs.declared.resolve.Links.{Links}
 use Rattle.proto_resolve.specs.declared.site.NameSite.{NameSite}
 use Rattle.proto_resolve.specs.Files.{facts_at}
 use Rattle.proto_resolve.specs.Sites.{names_of_file}
 use Rattle.proto_resolve.specs.Uses.{uses}
-use Rattle.proto_resolve.specs.ViewFaults.{view_faults}
+use Rattle.proto_resolve.specs.ViewDiagnostics.{view_diagnostics}
 
 -- the names of a file among the files
 abbrev pub sites_at : List NamedFacts → ℕ → List ℕ → FileTree → List NameSite
@@ -20,5 +20,5 @@ sites_at files f text tree = names_of_file text (facts_at files f) tree.nodes
 abbrev pub resolved : List NamedFacts → ℕ → List ℕ → FileTree → Links
 resolved files f text tree = record {
   uses = uses files f (view_of (graph_of files) f) (sites_at files f text tree);
-  diags = in_order (view_faults files f (sites_at files f text tree));
+  diags = in_order (view_diagnostics files f (sites_at files f text tree));
 }

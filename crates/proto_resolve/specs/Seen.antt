@@ -1,10 +1,10 @@
 -- What is known of a file by what it sees depends on no more than that.
 use Rattle.std.specs.Prelude.{◌≡◌, ℕ, ◌<◌, List, Option, All, length, map, option_map}
-use Rattle.proto_syntax.specs.declared.node.FileTree.{FileTree}
-use Rattle.proto_facts.specs.declared.fact.FileFacts.{FileFacts}
-use Rattle.proto_facts.specs.declared.fact.DeclKind.{DeclKind}
+use Rattle.syntax_tree.specs.declared.node.FileTree.{FileTree}
+use Rattle.file_facts.specs.declared.fact.FileFacts.{FileFacts}
+use Rattle.file_facts.specs.declared.fact.DeclKind.{DeclKind}
 use Rattle.import_graph.specs.declared.paths.NamedFacts.{NamedFacts}
-use Rattle.import_graph.specs.Links.{graph_of}
+use Rattle.import_graph.specs.Imports.{graph_of}
 use Rattle.import_graph.specs.Closures.{view_of}
 use Rattle.import_graph.specs.Outlooks.{outlook}
 use Rattle.proto_resolve.specs.Files.{facts_at}
@@ -12,8 +12,8 @@ use Rattle.proto_resolve.specs.Resolved.{resolved}
 
 -- What a file's facts say to the files that see it: the kinds and full names of its declarations, in order, and its package's
 -- full name.
-abbrev pub told : FileFacts → List (DeclKind × List ℕ) × Option (List ℕ)
-told facts = (map (λ d. (d.kind, d.full_name)) facts.decls, option_map (λ p. p.full_name) facts.«package»)
+abbrev pub exports : FileFacts → List (DeclKind × List ℕ) × Option (List ℕ)
+exports facts = (map (λ d. (d.kind, d.full_name)) facts.decls, option_map (λ p. p.full_name) facts.«package»)
 
 -- there are as many files, their imports say the same of f, f says the same by itself, and each file that f sees says the same
 -- to it
@@ -21,7 +21,7 @@ pub record SeesTheSame (old new : List NamedFacts) (f : ℕ) : Type 0 where
   pub files : length old ≡ length new
   pub imports : outlook (graph_of old) f ≡ outlook (graph_of new) f
   pub own : facts_at old f ≡ facts_at new f
-  pub seen : All (λ g. told (facts_at old g) ≡ told (facts_at new g)) (view_of (graph_of new) f)
+  pub seen : All (λ g. exports (facts_at old g) ≡ exports (facts_at new g)) (view_of (graph_of new) f)
 
 -- where a file sees the same, the same is known of it
 abbrev pub SeenLaw : Type 0

@@ -2,8 +2,8 @@
 use Rattle.std.specs.Prelude.{ℕ, List, [], ◌∷◌, Option, is_some, option_map, if◌then◌else◌}
 use Rattle.std.specs.List.{enumerate_from, flat_map, filter_map}
 use Rattle.import_graph.specs.declared.paths.NamedFacts.{NamedFacts}
-use Rattle.proto_syntax.specs.declared.node.Span.{Span}
-use Rattle.proto_facts.specs.Text.{joined}
+use Rattle.syntax_tree.specs.declared.node.Span.{Span}
+use Rattle.file_facts.specs.Text.{joined}
 use Rattle.proto_resolve.specs.declared.site.NameSite.{NameSite}
 use Rattle.proto_resolve.specs.declared.site.Component.{Component}
 use Rattle.std.specs.Option.{option_map_or}

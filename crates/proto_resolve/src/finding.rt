@@ -8,7 +8,7 @@ ghost use Rattle.proto_resolve.specs.Names.{found, first_declared, is_seen, pack
 use crate::index::Index;
 use crate::target::{DeclRef, Target};
 use crate::view::View;
-use proto_facts::Name;
+use file_facts::Name;
 use std::alloc::{AllocError, Global};
 
 // The first declaration of a file, among declarations by file.

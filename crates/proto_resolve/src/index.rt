@@ -1,14 +1,14 @@
 // What has to be known of all files.
 use crate::target::DeclRef;
+use file_facts::FileFacts;
 use import_graph::Graph;
-use proto_facts::FileFacts;
 
 /// The facts of all files, with their declarations by name. A file is its number in the list of all files, by path,
 /// counted from 0.
 pub trait Index {
     ghost use Rattle.std.specs.Prelude.{List, ◌≡◌, ◌<◌, length};
     ghost use Rattle.import_graph.specs.declared.paths.NamedFacts.{NamedFacts};
-    ghost use Rattle.import_graph.specs.Links.{graph_of};
+    ghost use Rattle.import_graph.specs.Imports.{graph_of};
     ghost use Rattle.proto_resolve.specs.Files.{facts_at, all_named};
 
     /// The files, by path.

@@ -3,26 +3,24 @@
 //!
 //! `resolve_file` asks an [`Index`] for facts, imports and declarations by name; a [`Table`] is such an index. What is found
 //! at a full name, and what a name means in its scopes, stands in specs/Names.antt; which names a file has in
-//! specs/Sites.antt; the diagnostics 401 to 406 in specs/ViewFaults.antt. The law `finding_law` says what is found at a full
+//! specs/Sites.antt; the diagnostics 401 to 406 in specs/ViewDiagnostics.antt. The law `finding_law` says what is found at a full
 //! name as the relation in specs/Finding.antt, without a search; `scope_law` says that a name is looked for in the innermost
 //! scope that settles it, and `uses_law` that each component of a name with a meaning has one use. `seen_law` says that what is
-//! known of a file by what it sees depends on no more than that. `fault_law` says for what reason each of the
-//! diagnostics 401 to 406 is there, and that there is no other. `names_in_order` and `uses_in_order`: names, their components
-//! and their uses stand by their offsets.
+//! known of a file by what it sees depends on no more than that. `diagnostic_law` says for what reason each of the
+//! diagnostics 401 to 406 is there, and that there is no other.
 #![tactic(auto)]
 
-mod fault_laws;
-mod faults;
+mod diagnostic_laws;
+mod diagnostics;
 mod finding;
 mod finding_laws;
 mod full_names;
 mod index;
 mod laws;
-mod order_laws;
 mod outline;
 mod packages;
-mod place;
 mod resolve;
+mod scope_chain;
 mod scopes;
 mod site;
 mod sites;
@@ -32,12 +30,11 @@ mod uses;
 mod view;
 mod views;
 
-pub use fault_laws::fault_law;
+pub use diagnostic_laws::diagnostic_law;
 pub use finding_laws::finding_law;
 pub use index::Index;
 pub use laws::{scope_law, seen_law, uses_law};
-pub use order_laws::{names_in_order, uses_in_order};
-pub use outline::{import_alike, tell_alike};
+pub use outline::{same_exports, same_imports};
 pub use resolve::{Links, resolve_file};
 pub use table::Table;
 pub use target::{DeclRef, Target};

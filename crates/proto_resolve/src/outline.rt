@@ -1,10 +1,10 @@
 // What facts say to other files.
 ghost use Rattle.std.specs.Prelude.{◌≡◌, ◌↔◌, map, option_map, IsTrue};
-ghost use Rattle.import_graph.specs.Links.{is_opaque};
-ghost use Rattle.proto_resolve.specs.Seen.{told};
+ghost use Rattle.import_graph.specs.Imports.{is_opaque};
+ghost use Rattle.proto_resolve.specs.Seen.{exports};
 ghost use Rattle.proto_resolve.specs.Outlines.{declared, imported, import_outline};
 
-use proto_facts::{Decl, FileFacts, ImportFact, PackageFact, SyntaxFact};
+use file_facts::{Decl, FileFacts, ImportFact, PackageFact, SyntaxFact};
 
 fn is_alike(a: &Decl, b: &Decl) -> bool
     ensures { IsTrue result ↔ (declared a.now ≡ declared b.now) }
@@ -38,8 +38,8 @@ fn have_one_name(a: &Option<PackageFact>, b: &Option<PackageFact>) -> bool
 
 /// Whether facts say the same to the files that see theirs: the same kinds and full names of declarations, in order, and the
 /// same package. Takes no memory.
-pub fn tell_alike(a: &FileFacts, b: &FileFacts) -> bool
-    ensures { IsTrue result ↔ (told a.now ≡ told b.now) }
+pub fn same_exports(a: &FileFacts, b: &FileFacts) -> bool
+    ensures { IsTrue result ↔ (exports a.now ≡ exports b.now) }
 {
     declare_alike(a.decls.as_slice(), b.decls.as_slice()) && have_one_name(&a.package, &b.package)
 }
@@ -72,7 +72,7 @@ fn is_opaque(syntax: SyntaxFact) -> bool
 
 /// Whether facts say the same of imports: the same paths, in order, which of them are public, and whether the file is opaque.
 /// Takes no memory.
-pub fn import_alike(a: &FileFacts, b: &FileFacts) -> bool
+pub fn same_imports(a: &FileFacts, b: &FileFacts) -> bool
     ensures { IsTrue result ↔ (import_outline a.now ≡ import_outline b.now) }
 {
     is_opaque(a.syntax) == is_opaque(b.syntax)

@@ -2,14 +2,15 @@
 ghost use Rattle.std.specs.Prelude.{◌≡◌, ◌<◌, length, IfOk};
 ghost use Rattle.proto_resolve.specs.Resolved.{resolved};
 
-use crate::faults::faults_of;
+use crate::diagnostics::view_diagnostics;
 use crate::index::Index;
 use crate::sites::names_of_file;
 use crate::uses::{NameUse, resolve_names};
 use crate::views::view_of;
-use proto_facts::{Diag, in_order};
-use proto_syntax::{FileTree, Items};
+use file_facts::{Diag, in_order};
+use sqlite_items::Items;
 use std::alloc::{AllocError, Global};
+use syntax_tree::FileTree;
 
 /// What is known of a file by what it sees.
 #[derive(Debug, Drop)]
@@ -35,7 +36,7 @@ pub fn resolve_file<I: Index>(
     let view = view_of(alloc, index, file)?;
     let sites = names_of_file(alloc, text, index.facts(file), tree.nodes.as_slice())?;
     let names = resolve_names(alloc, index, &view, sites.as_slice())?;
-    let found = faults_of(alloc, index, &view, names.faults)?;
+    let found = view_diagnostics(alloc, index, &view, names.diagnostics)?;
     let diags = in_order(alloc, found.as_slice())?;
     Ok(Links {
         uses: names.uses,

@@ -10,7 +10,7 @@ use crate::index::Index;
 use crate::site::{NameSite, Needs};
 use crate::target::{DeclRef, Target};
 use crate::view::View;
-use proto_facts::DeclKind;
+use file_facts::DeclKind;
 use std::alloc::{AllocError, Global};
 
 pub fn is_type(needs: Needs, kind: DeclKind) -> bool

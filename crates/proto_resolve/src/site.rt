@@ -1,7 +1,8 @@
 // The names that stand in a file.
-use crate::place::Scopes;
-use proto_facts::Name;
-use proto_syntax::{Items, Span};
+use crate::scope_chain::Scopes;
+use file_facts::Name;
+use sqlite_items::Items;
+use syntax_tree::Span;
 
 // What a name has to mean where it stands.
 #[derive(Clone, Copy, Debug, PartialEq, Eq)]

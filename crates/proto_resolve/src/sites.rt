@@ -3,11 +3,12 @@ ghost use Rattle.std.specs.Prelude.{◌≡◌, ◌++◌, ◌∷◌, length, map,
 ghost use Rattle.proto_resolve.specs.Sites as spec;
 
 use crate::full_names::copied;
-use crate::place::{Place, Scopes};
+use crate::scope_chain::{ScopeChain, Scopes};
 use crate::site::{Component, NameSite, Needs};
-use proto_facts::{FileFacts, PackageFact, SyntaxFact, text_at};
-use proto_syntax::{Items, Node, Span, TypeName};
+use file_facts::{FileFacts, PackageFact, SyntaxFact, text_at};
+use sqlite_items::Items;
 use std::alloc::{AllocError, Global};
+use syntax_tree::{Node, Span, TypeName};
 
 fn components(alloc: Global, text: &str, spans: &[Span]) -> Result<Items<Component>, AllocError>
     ensures { IfOk result (λ cs. cs ≡ map (spec.component text.now) spans.now) }
@@ -157,7 +158,7 @@ fn package_scopes(
 ) -> Result<Scopes, AllocError>
     ensures { IfOk result (λ scopes. scopes ≡ spec.package_scopes text.now «package».now) }
 {
-    let place = Place::outermost(alloc)?;
+    let place = ScopeChain::outermost(alloc)?;
     match package {
         None => Scopes::of(alloc, place),
         Some(package) => Scopes::of(
@@ -167,7 +168,11 @@ fn package_scopes(
     }
 }
 
-fn scopes_after(text: &str, mut place: Place, components: &[Span]) -> Result<Place, AllocError>
+fn scopes_after(
+    text: &str,
+    mut place: ScopeChain,
+    components: &[Span],
+) -> Result<ScopeChain, AllocError>
     ensures { IfOk result (λ found. found ≡ spec.scopes_after text.now place components.now) }
 {
     'components: for &component in components {

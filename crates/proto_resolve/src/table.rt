@@ -1,18 +1,18 @@
 // An index that holds its files.
 ghost use Rattle.std.specs.Prelude.{◌≡◌, ◌<◌, ◌++◌, ℕ, List, filter, length, IfOk, OnOk, bytes_eq};
 ghost use Rattle.std.specs.List.{enumerate_from};
-ghost use Rattle.import_graph.specs.Links.{graph_of};
+ghost use Rattle.import_graph.specs.Imports.{graph_of};
 ghost use Rattle.import_graph.specs.Paths.{IsInPathOrder};
 ghost use Rattle.proto_resolve.specs.Files.{all_decls, decl_at, facts_at, refs_of};
 ghost use Rattle.proto_resolve.specs.Outlines.{import_outline, with_facts};
-ghost use Rattle.proto_resolve.specs.Seen.{told};
+ghost use Rattle.proto_resolve.specs.Seen.{exports};
 ghost use Rattle.proto_resolve.specs.Tables.{listed};
 
 use crate::index::Index;
 use crate::target::DeclRef;
+use file_facts::{Decl, FileFacts};
 use import_graph::{Graph, NamedFacts};
-use proto_facts::{Decl, FileFacts};
-use proto_syntax::Items;
+use sqlite_items::Items;
 use std::alloc::{AllocError, Global};
 use std::collections::BTreeMap;
 use std::marker::Model;
@@ -29,7 +29,7 @@ pub struct Table {
 impl Model for Table {
     ghost use Rattle.std.specs.Prelude.{◌≡◌, ℕ, List};
     ghost use Rattle.import_graph.specs.declared.paths.NamedFacts.{NamedFacts};
-    ghost use Rattle.import_graph.specs.Links.{graph_of};
+    ghost use Rattle.import_graph.specs.Imports.{graph_of};
     ghost use Rattle.import_graph.specs.Paths.{IsInPathOrder};
     ghost use Rattle.proto_resolve.specs.Files.{all_decls, all_named};
     ghost use Rattle.proto_resolve.specs.Tables.{listed};
@@ -109,7 +109,7 @@ impl Table {
     pub fn set_facts(&mut self, file: usize, facts: FileFacts)
         requires within { file < length self.old }
         requires imports { import_outline facts ≡ import_outline (facts_at self.old file) }
-        requires told { told facts ≡ told (facts_at self.old file) }
+        requires exports { exports facts ≡ exports (facts_at self.old file) }
         ensures { self.new ≡ with_facts self.old file facts }
     {
         self.files[file].facts = facts;

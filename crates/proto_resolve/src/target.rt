@@ -1,5 +1,5 @@
 // What names mean.
-use proto_facts::Name;
+use file_facts::Name;
 
 /// A declaration.
 #[derive(Clone, Copy, Debug, PartialEq, Eq)]

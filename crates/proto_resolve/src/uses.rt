@@ -3,11 +3,11 @@ ghost use Rattle.std.specs.Prelude.{◌≡◌, ◌++◌, ◌<◌, [], OnOk, IfOk
 ghost use Rattle.proto_resolve.specs.Views.{IsView};
 ghost use Rattle.proto_resolve.specs.Uses.{uses_in, uses_at, uses_of, uses};
 ghost use Rattle.proto_resolve.specs.Names.{found, joined_all, texts_of};
-ghost use Rattle.proto_resolve.specs.ViewFaults.{name_faults};
+ghost use Rattle.proto_resolve.specs.ViewDiagnostics.{name_diagnostics};
 ghost use Rattle.std.specs.List.{flat_map};
 ghost use Rattle.std.specs.Option.{option_map_or};
 
-use crate::faults::push_name_fault;
+use crate::diagnostics::push_name_diagnostic;
 use crate::finding::found;
 use crate::full_names::push_component;
 use crate::index::Index;
@@ -15,9 +15,10 @@ use crate::scopes::{meaning_in, scope_of};
 use crate::site::{Component, NameSite};
 use crate::target::Target;
 use crate::view::View;
-use proto_facts::Diag;
-use proto_syntax::{Items, Span};
+use file_facts::Diag;
+use sqlite_items::Items;
 use std::alloc::{AllocError, Global};
+use syntax_tree::Span;
 
 /// A component of a name, with what it refers to.
 #[derive(Debug, Drop)]
@@ -34,7 +35,7 @@ pub struct NameUse {
 #[derive(Drop)]
 pub struct ResolvedNames {
     pub uses: Items<NameUse>,
-    pub faults: Items<Diag>,
+    pub diagnostics: Items<Diag>,
 }
 
 // Resolves the names of a file.
@@ -46,11 +47,11 @@ pub fn resolve_names<I: Index>(
 ) -> Result<ResolvedNames, AllocError>
     requires { IsView (I.files index.now) view.now }
     ensures uses { IfOk result (λ n. n.uses ≡ uses (I.files index.now) view.now.file view.now.files sites.now) }
-    ensures faults { IfOk result (λ n. n.faults ≡ flat_map (name_faults (I.files index.now) view.now.file view.now.files) sites.now) }
+    ensures diagnostics { IfOk result (λ n. n.diagnostics ≡ flat_map (name_diagnostics (I.files index.now) view.now.file view.now.files) sites.now) }
 {
     let mut names = ResolvedNames {
         uses: Items::new(alloc),
-        faults: Items::new(alloc),
+        diagnostics: Items::new(alloc),
     };
     for (number, site) in sites.iter().enumerate() {
         push_name(alloc, index, view, number, site, &mut names)?;
@@ -68,11 +69,11 @@ fn push_name<I: Index>(
 ) -> Result<(), AllocError>
     requires { IsView (I.files index.now) view.now }
     ensures uses { OnOk result (names.new.uses ≡ names.old.uses ++ uses_of (I.files index.now) view.now.file view.now.files number site.now) }
-    ensures faults { OnOk result (names.new.faults ≡ names.old.faults ++ name_faults (I.files index.now) view.now.file view.now.files site.now) }
+    ensures diagnostics { OnOk result (names.new.diagnostics ≡ names.old.diagnostics ++ name_diagnostics (I.files index.now) view.now.file view.now.files site.now) }
 {
     let scope = scope_of(alloc, index, view, site)?;
     let target = meaning_in(alloc, index, view, scope, site)?;
-    push_name_fault(index, site, &target, &mut names.faults)?;
+    push_name_diagnostic(index, site, &target, &mut names.diagnostics)?;
     push_uses_of(
         alloc,
         index,

@@ -4,7 +4,7 @@ ghost use Rattle.std.specs.List.Sorted.{IsStrictlyIncreasing};
 ghost use Rattle.proto_resolve.specs.Names.{is_seen};
 
 use crate::packages::Packages;
-use proto_syntax::Items;
+use sqlite_items::Items;
 
 // A file, the files that it sees, and their packages.
 #[derive(Drop)]

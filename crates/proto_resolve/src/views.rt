@@ -1,6 +1,6 @@
 // The view of a file.
 ghost use Rattle.std.specs.Prelude.{◌≡◌, ◌||◌, ◌<◌, ◌++◌, ◌∷◌, [], ℕ, List, length, map, All, IfOk, OnOk, string_bytes};
-ghost use Rattle.import_graph.specs.Links.{graph_of};
+ghost use Rattle.import_graph.specs.Imports.{graph_of};
 ghost use Rattle.import_graph.specs.Closures.{view_of};
 ghost use Rattle.proto_resolve.specs.Files.{dot, is_within};
 ghost use Rattle.proto_resolve.specs.Views.{have, ArePackagesOf, IsView};
@@ -8,8 +8,8 @@ ghost use Rattle.proto_resolve.specs.Views.{have, ArePackagesOf, IsView};
 use crate::index::Index;
 use crate::packages::Packages;
 use crate::view::View;
-use proto_facts::{Name, PackageFact};
-use proto_syntax::Items;
+use file_facts::{Name, PackageFact};
+use sqlite_items::Items;
 use std::alloc::{AllocError, Global};
 
 // The full name of a package with a dot behind it.

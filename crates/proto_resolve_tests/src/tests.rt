@@ -5,8 +5,8 @@ use import_graph::{NamedFacts, are_in_path_order, look_alike};
 use proto_facts::{FileFacts, Name, facts};
 use proto_lex::lex;
 use proto_resolve::{
-    Index, Links, Table, Target, fault_law, finding_law, import_alike, names_in_order,
-    resolve_file, scope_law, seen_law, tell_alike, uses_in_order, uses_law,
+    Index, Links, Table, Target, diagnostic_law, finding_law, resolve_file, same_exports,
+    same_imports, scope_law, seen_law, uses_law,
 };
 use proto_syntax::{FileTree, parse};
 use std::alloc::{AllocError, Global};
@@ -350,9 +350,7 @@ fn laws(rt: HostRuntime) -> Result<(), Fail> {
     uses_law();
     seen_law();
     finding_law(none.as_slice());
-    fault_law(none.as_slice());
-    names_in_order();
-    uses_in_order();
+    diagnostic_law(none.as_slice());
     Ok(())
 }
 
@@ -419,8 +417,8 @@ fn outlines(rt: HostRuntime) -> Result<(), Fail> {
     let first = facts_of(alloc, OUTLINES[0].0)?;
     for (row, tells, imports) in OUTLINES {
         let other = facts_of(alloc, row)?;
-        assert!(&rt; tell_alike(&first, &other) == *tells, "{row}");
-        assert!(&rt; import_alike(&first, &other) == *imports, "{row}");
+        assert!(&rt; same_exports(&first, &other) == *tells, "{row}");
+        assert!(&rt; same_imports(&first, &other) == *imports, "{row}");
     }
     Ok(())
 }
@@ -461,8 +459,8 @@ fn facts_are_replaced(rt: HostRuntime) -> Result<(), Fail> {
     let mut table = Table::of(alloc, files)?;
     let other = facts_of(alloc, "S|||message M { }|")?;
     assert!(&rt; table.len() == 1);
-    assert!(&rt; tell_alike(&other, table.facts(0)));
-    assert!(&rt; import_alike(&other, table.facts(0)));
+    assert!(&rt; same_exports(&other, table.facts(0)));
+    assert!(&rt; same_imports(&other, table.facts(0)));
     table.set_facts(0, other);
     assert!(&rt; table.len() == 1);
     let decls = table.facts(0).decls.as_slice();

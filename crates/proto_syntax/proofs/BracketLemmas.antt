@@ -3,9 +3,9 @@ use Rattle.std.proofs.Common.{◌≡◌, ℕ, ◌+◌, ◌<◌, ◌≤◌, Bool,
 use Rattle.std.specs.Prelude.{reverse}
 use Rattle.std.proofs.lemmas.List.{drop_more, drop_all, length-reverse}
 use Rattle.std.proofs.lemmas.Bool.{eqb-true}
-use Rattle.proto_syntax.specs.declared.lexeme.Lexeme.{Lexeme}
-use Rattle.proto_syntax.specs.declared.lexeme.Word.{Word}
-use Rattle.proto_syntax.specs.Parts.{closes}
+use Rattle.syntax_tree.specs.declared.lexeme.Lexeme.{Lexeme}
+use Rattle.syntax_tree.specs.declared.lexeme.Word.{Word}
+use Rattle.syntax_tree.specs.Parts.{closes}
 use Rattle.proto_syntax.specs.Brackets.{TakesBracket}
 
 pub closes-step : (p q : List Word) (ts : List Lexeme) (i : ℕ) (d : Lexeme) (goes_on : Bool) → i < length ts → TakesBracket p (get_or ts i d).word goes_on q

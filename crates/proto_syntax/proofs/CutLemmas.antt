@@ -4,16 +4,16 @@ use Rattle.std.proofs.lemmas.List.{take_more, drop_more, drop_all, drop-drop, ta
 use Rattle.std.specs.Prelude.{◌==◌, ◌&&◌, not, IsTrue, count_by}
 use Rattle.std.proofs.lemmas.Bool.{eqb-true, false≢true}
 use denote.Enum.Bare.{same_true}
-use Rattle.proto_syntax.specs.contracts.lexeme.Word.{the_type}
+use Rattle.syntax_tree.specs.contracts.lexeme.Word.{the_type}
 use Rattle.std.proofs.lemmas.List.Sums.{count_by_more_yes, count_by_more_no, count_by-le-length}
-use Rattle.proto_syntax.specs.declared.lexeme.Word.TheVariants as w
-use Rattle.proto_syntax.specs.declared.lexeme.Lexeme.{Lexeme}
-use Rattle.proto_syntax.specs.declared.lexeme.Body.{Body}
-use Rattle.proto_syntax.specs.declared.lexeme.Word.{Word}
-use Rattle.proto_syntax.specs.Lexeme.{is, is_plain}
+use Rattle.syntax_tree.specs.declared.lexeme.Word.TheVariants as w
+use Rattle.syntax_tree.specs.declared.lexeme.Lexeme.{Lexeme}
+use Rattle.syntax_tree.specs.declared.lexeme.Body.{Body}
+use Rattle.syntax_tree.specs.declared.lexeme.Word.{Word}
+use Rattle.syntax_tree.specs.Lexeme.{is, is_plain}
 use Rattle.proto_syntax.specs.Skips.{opened, closed, IsSkip}
 use Rattle.proto_syntax.proofs.SkipLemmas.{count-add}
-use Rattle.proto_syntax.specs.Cut.{ends_in, ends, items_from, is_finished, is_stray, is_at_depth_0, is_file, is_quiet}
+use Rattle.syntax_tree.specs.Cut.{ends_in, ends, items_from, is_finished, is_stray, is_at_depth_0, is_file, is_quiet}
 
 -- the default of an index
 abbrev pub no_lexeme : Lexeme
@@ -40,17 +40,6 @@ unfolding items_from
 items_from-ended body ts i d h e =
     let more : take (i + 1) ts ≡ take i ts ++ get_or ts i d ∷ [] = take_more ts i d h in
     rw (drop_more ts i d h) (rw (← more) (rw e refl))
-
-some_true : (a b : Bool) → (a || b || true) ≡ false → ⊥
-some_true true true e = cc
-some_true true false e = cc
-some_true false true e = cc
-some_true false false e = cc
-
--- an item that doesn't end has tokens behind it
-pub ends-rest : (body : Body) (item rest : List Lexeme) → ends body item rest ≡ false → 0 < length rest
-ends-rest body item [] e = absurd (some_true (is_finished body item) (is_stray body item) e)
-ends-rest body item (t ∷ ts) e = omega arith
 
 -- the rest of the tokens, as `&ts[i..]` has it
 pub as_rest : (body : Body) (ts : List Lexeme) (i : ℕ) (b : Bool) → ends body (take i ts) (take (length ts - i) (drop i ts)) ≡ b → ends body (take i ts) (drop i ts) ≡ b

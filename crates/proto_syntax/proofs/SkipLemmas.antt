@@ -2,15 +2,15 @@
 use Rattle.std.proofs.Common.{◌≡◌, ◌⊎◌, inl, inr, subst, ℕ, zero, suc, ◌+◌, ◌<◌, ◌≤◌, ◌-◌, true, false, List, [], ◌∷◌, ◌++◌, length, get_or, take, drop, refl, sym, ap, ◌∙◌, arith, cond, length-drop, length-take}
 use Rattle.std.specs.Prelude.{IsTrue, count_by, min}
 use denote.Enum.Bare.{same_true}
-use Rattle.proto_syntax.specs.contracts.lexeme.Word.{the_type}
+use Rattle.syntax_tree.specs.contracts.lexeme.Word.{the_type}
 use Rattle.std.proofs.lemmas.Bool.{false≢true}
-use Rattle.proto_syntax.specs.Cut.{begins}
+use Rattle.syntax_tree.specs.Cut.{begins}
 use Rattle.std.proofs.lemmas.List.{drop-drop, take-take, drop_more, drop_all, take_all}
 use Rattle.std.proofs.lemmas.List.Sums.{sum_by-append}
-use Rattle.proto_syntax.specs.declared.lexeme.Word.TheVariants as w
-use Rattle.proto_syntax.specs.declared.lexeme.Lexeme.{Lexeme}
-use Rattle.proto_syntax.specs.declared.lexeme.Word.{Word}
-use Rattle.proto_syntax.specs.Lexeme.{is}
+use Rattle.syntax_tree.specs.declared.lexeme.Word.TheVariants as w
+use Rattle.syntax_tree.specs.declared.lexeme.Lexeme.{Lexeme}
+use Rattle.syntax_tree.specs.declared.lexeme.Word.{Word}
+use Rattle.syntax_tree.specs.Lexeme.{is}
 use Rattle.proto_syntax.specs.Skips.{opened, closed, IsSkip}
 use Rattle.proto_syntax.specs.Skips as spec
 

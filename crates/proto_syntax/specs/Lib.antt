@@ -1,10 +1,3 @@
-pub mod Lexeme
-pub mod Cut
-pub mod Parts
 pub mod Brackets
-pub mod Forms
-pub mod Read
-pub mod Grammar
 pub mod Skips
-pub mod Names
-pub mod Identifiers
+pub mod Reads

@@ -1,11 +1,11 @@
 // Cuts the tokens of a body into items.
 
 ghost use Rattle.std.specs.Prelude.{◌≡◌, ℕ, IsTrue, ◌<◌, ◌≤◌, ◌∷◌, length, take, drop, if◌then◌else◌};
-ghost use Rattle.proto_syntax.specs.Lexeme as lexeme;
-ghost use Rattle.proto_syntax.specs.Cut as spec;
+ghost use Rattle.syntax_tree.specs.Lexeme as lexeme;
+ghost use Rattle.syntax_tree.specs.Cut as spec;
 
-use crate::lexeme::{Body, Lexeme, Word};
 use crate::skips::Matched;
+use syntax_tree::{Body, Lexeme, Word};
 
 pub fn ends_in(word: Word, item: &[Lexeme]) -> bool
     ensures { result ≡ spec.ends_in word item.now }

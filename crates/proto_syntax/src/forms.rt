@@ -2,24 +2,24 @@
 // aren't inlined: what they keep would make each statement dearer.
 
 ghost use Rattle.std.specs.Prelude.{◌≡◌, ◌≤◌, IfOk, option_map, length};
-ghost use Rattle.proto_syntax.specs.Forms as spec;
-ghost use Rattle.proto_syntax.specs.Parts.{Reads};
+ghost use Rattle.syntax_tree.specs.Forms as spec;
+ghost use Rattle.proto_syntax.specs.Reads.{Reads};
 
 use crate::cut::ends_in;
-use crate::lexeme::{Body, Lexeme, Word};
-use crate::node::{
-    Field, Header, Literal, MapField, Node, RangeEnd, ReservedList, ReservedRange, Span,
-};
-use crate::parts::{Cursor, Unread, between, is_content, last_of, room_for_one, span_of};
+use crate::parts::{TokenReader, Unread, between, is_content, last_of, room_for_one, span_of};
 use sqlite_items::Items;
 use std::alloc::{AllocError, Global};
+use syntax_tree::{
+    Body, Field, Header, Lexeme, Literal, MapField, Node, RangeEnd, ReservedList, ReservedRange,
+    Span, Word,
+};
 
 // ---- fields
 
-#[tactic(auto, unfolding(crate::specs::Forms::plain_field))]
+#[tactic(auto, unfolding(syntax_tree::specs::Forms::plain_field))]
 fn plain_field(
     alloc: Global,
-    tokens: &mut Cursor<'_>,
+    tokens: &mut TokenReader<'_>,
     span: Span,
     labels: Items<Span>,
 ) -> Result<Node, Unread>
@@ -37,10 +37,10 @@ fn plain_field(
 }
 
 #[inline(never)]
-#[tactic(auto, unfolding(crate::specs::Forms::map_field))]
+#[tactic(auto, unfolding(syntax_tree::specs::Forms::map_field))]
 fn map_field(
     alloc: Global,
-    tokens: &mut Cursor<'_>,
+    tokens: &mut TokenReader<'_>,
     span: Span,
     labels: Items<Span>,
 ) -> Result<Node, Unread>
@@ -63,8 +63,8 @@ fn map_field(
     }))
 }
 
-#[tactic(auto, unfolding(crate::specs::Forms::field))]
-fn field(alloc: Global, tokens: &mut Cursor<'_>, span: Span) -> Result<Node, Unread>
+#[tactic(auto, unfolding(syntax_tree::specs::Forms::field))]
+fn field(alloc: Global, tokens: &mut TokenReader<'_>, span: Span) -> Result<Node, Unread>
     ensures { Reads (spec.field span tokens.old.rest.now) result tokens.new.rest.now }
 {
     let labels = tokens.labels(alloc)?;
@@ -80,8 +80,8 @@ fn begins_map(ts: &[Lexeme]) -> bool
     }
 }
 
-#[tactic(auto, unfolding(crate::specs::Forms::field_or_map))]
-fn field_or_map(alloc: Global, tokens: &mut Cursor<'_>, span: Span) -> Result<Node, Unread>
+#[tactic(auto, unfolding(syntax_tree::specs::Forms::field_or_map))]
+fn field_or_map(alloc: Global, tokens: &mut TokenReader<'_>, span: Span) -> Result<Node, Unread>
     ensures { Reads (spec.field_or_map span tokens.old.rest.now) result tokens.new.rest.now }
 {
     let labels = tokens.labels(alloc)?;
@@ -95,8 +95,8 @@ fn field_or_map(alloc: Global, tokens: &mut Cursor<'_>, span: Span) -> Result<No
 // ---- the other statements
 
 #[inline(never)]
-#[tactic(auto, unfolding(crate::specs::Forms::syntax_form))]
-fn syntax_form(alloc: Global, tokens: &mut Cursor<'_>, span: Span) -> Result<Node, Unread>
+#[tactic(auto, unfolding(syntax_tree::specs::Forms::syntax_form))]
+fn syntax_form(alloc: Global, tokens: &mut TokenReader<'_>, span: Span) -> Result<Node, Unread>
     ensures { Reads (spec.syntax_form span tokens.old.rest.now) result tokens.new.rest.now }
 {
     tokens.word(Word::Syntax)?;
@@ -107,8 +107,8 @@ fn syntax_form(alloc: Global, tokens: &mut Cursor<'_>, span: Span) -> Result<Nod
 }
 
 #[inline(never)]
-#[tactic(auto, unfolding(crate::specs::Forms::import_form))]
-fn import_form(alloc: Global, tokens: &mut Cursor<'_>, span: Span) -> Result<Node, Unread>
+#[tactic(auto, unfolding(syntax_tree::specs::Forms::import_form))]
+fn import_form(alloc: Global, tokens: &mut TokenReader<'_>, span: Span) -> Result<Node, Unread>
     ensures { Reads (spec.import_form span tokens.old.rest.now) result tokens.new.rest.now }
 {
     tokens.word(Word::Import)?;
@@ -123,8 +123,8 @@ fn import_form(alloc: Global, tokens: &mut Cursor<'_>, span: Span) -> Result<Nod
 }
 
 #[inline(never)]
-#[tactic(auto, unfolding(crate::specs::Forms::package_form))]
-fn package_form(alloc: Global, tokens: &mut Cursor<'_>, span: Span) -> Result<Node, Unread>
+#[tactic(auto, unfolding(syntax_tree::specs::Forms::package_form))]
+fn package_form(alloc: Global, tokens: &mut TokenReader<'_>, span: Span) -> Result<Node, Unread>
     ensures { Reads (spec.package_form span tokens.old.rest.now) result tokens.new.rest.now }
 {
     tokens.word(Word::Package)?;
@@ -140,8 +140,8 @@ fn package_form(alloc: Global, tokens: &mut Cursor<'_>, span: Span) -> Result<No
     })
 }
 
-#[tactic(auto, unfolding(crate::specs::Forms::value_form))]
-fn value_form(alloc: Global, tokens: &mut Cursor<'_>, span: Span) -> Result<Node, Unread>
+#[tactic(auto, unfolding(syntax_tree::specs::Forms::value_form))]
+fn value_form(alloc: Global, tokens: &mut TokenReader<'_>, span: Span) -> Result<Node, Unread>
     ensures { Reads (spec.value_form span tokens.old.rest.now) result tokens.new.rest.now }
 {
     let name = tokens.identifier()?;
@@ -151,16 +151,16 @@ fn value_form(alloc: Global, tokens: &mut Cursor<'_>, span: Span) -> Result<Node
     Ok(Node::Value { span, name, number })
 }
 
-#[tactic(auto, unfolding(crate::specs::Forms::empty_form))]
-fn empty_form(tokens: &mut Cursor<'_>, span: Span) -> Result<Node, Unread>
+#[tactic(auto, unfolding(syntax_tree::specs::Forms::empty_form))]
+fn empty_form(tokens: &mut TokenReader<'_>, span: Span) -> Result<Node, Unread>
     ensures { Reads (spec.empty_form span tokens.old.rest.now) result tokens.new.rest.now }
 {
     tokens.word(Word::Semicolon)?;
     Ok(Node::Empty { span })
 }
 
-#[tactic(auto, unfolding(crate::specs::Forms::range_end))]
-fn range_end(tokens: &mut Cursor<'_>, may_be_negative: bool) -> Result<RangeEnd, Unread>
+#[tactic(auto, unfolding(syntax_tree::specs::Forms::range_end))]
+fn range_end(tokens: &mut TokenReader<'_>, may_be_negative: bool) -> Result<RangeEnd, Unread>
     ensures reads { Reads (spec.range_end may_be_negative tokens.old.rest.now) result tokens.new.rest.now }
     ensures left { length tokens.new.rest.now ≤ length tokens.old.rest.now }
 {
@@ -170,8 +170,8 @@ fn range_end(tokens: &mut Cursor<'_>, may_be_negative: bool) -> Result<RangeEnd,
     Ok(RangeEnd::Number(tokens.number(may_be_negative)?))
 }
 
-#[tactic(auto, unfolding(crate::specs::Forms::range))]
-fn range(tokens: &mut Cursor<'_>, may_be_negative: bool) -> Result<ReservedRange, Unread>
+#[tactic(auto, unfolding(syntax_tree::specs::Forms::range))]
+fn range(tokens: &mut TokenReader<'_>, may_be_negative: bool) -> Result<ReservedRange, Unread>
     ensures reads { Reads (spec.range may_be_negative tokens.old.rest.now) result tokens.new.rest.now }
     ensures left { length tokens.new.rest.now ≤ length tokens.old.rest.now }
 {
@@ -186,7 +186,7 @@ fn range(tokens: &mut Cursor<'_>, may_be_negative: bool) -> Result<ReservedRange
 
 fn ranges(
     alloc: Global,
-    tokens: &mut Cursor<'_>,
+    tokens: &mut TokenReader<'_>,
     may_be_negative: bool,
 ) -> Result<Items<ReservedRange>, Unread>
     ensures { Reads (spec.ranges may_be_negative tokens.old.rest.now) result tokens.new.rest.now }
@@ -201,7 +201,7 @@ fn ranges(
     }
 }
 
-fn literals(alloc: Global, tokens: &mut Cursor<'_>) -> Result<Items<Literal>, Unread>
+fn literals(alloc: Global, tokens: &mut TokenReader<'_>) -> Result<Items<Literal>, Unread>
     ensures { Reads (spec.literals tokens.old.rest.now) result tokens.new.rest.now }
 {
     let mut found = Items::new(alloc);
@@ -214,10 +214,10 @@ fn literals(alloc: Global, tokens: &mut Cursor<'_>) -> Result<Items<Literal>, Un
     }
 }
 
-#[tactic(auto, unfolding(crate::specs::Forms::reserved_list))]
+#[tactic(auto, unfolding(syntax_tree::specs::Forms::reserved_list))]
 fn reserved_list(
     alloc: Global,
-    tokens: &mut Cursor<'_>,
+    tokens: &mut TokenReader<'_>,
     may_be_negative: bool,
 ) -> Result<ReservedList, Unread>
     ensures { Reads (spec.reserved_list may_be_negative tokens.old.rest.now) result tokens.new.rest.now }
@@ -229,10 +229,10 @@ fn reserved_list(
     }
 }
 
-#[tactic(auto, unfolding(crate::specs::Forms::reserved_form))]
+#[tactic(auto, unfolding(syntax_tree::specs::Forms::reserved_form))]
 fn reserved_form(
     alloc: Global,
-    tokens: &mut Cursor<'_>,
+    tokens: &mut TokenReader<'_>,
     span: Span,
     may_be_negative: bool,
 ) -> Result<Node, Unread>
@@ -245,8 +245,8 @@ fn reserved_form(
 }
 
 // An identifier, or a name in parentheses.
-#[tactic(auto, unfolding(crate::specs::Forms::option_part))]
-fn option_part(alloc: Global, tokens: &mut Cursor<'_>) -> Result<Span, Unread>
+#[tactic(auto, unfolding(syntax_tree::specs::Forms::option_part))]
+fn option_part(alloc: Global, tokens: &mut TokenReader<'_>) -> Result<Span, Unread>
     ensures reads { Reads (spec.option_part tokens.old.rest.now) result tokens.new.rest.now }
     ensures left { length tokens.new.rest.now ≤ length tokens.old.rest.now }
 {
@@ -259,7 +259,7 @@ fn option_part(alloc: Global, tokens: &mut Cursor<'_>) -> Result<Span, Unread>
     tokens.word(Word::CloseParen)
 }
 
-fn option_parts(alloc: Global, tokens: &mut Cursor<'_>) -> Result<Items<Span>, Unread>
+fn option_parts(alloc: Global, tokens: &mut TokenReader<'_>) -> Result<Items<Span>, Unread>
     ensures { Reads (spec.option_parts tokens.old.rest.now) result tokens.new.rest.now }
 {
     let mut found = room_for_one(alloc)?;
@@ -273,8 +273,8 @@ fn option_parts(alloc: Global, tokens: &mut Cursor<'_>) -> Result<Items<Span>, U
 }
 
 // A value, up to the `;` that ends the item.
-#[tactic(auto, unfolding(crate::specs::Forms::option_value))]
-fn option_value(alloc: Global, tokens: &mut Cursor<'_>) -> Result<Span, Unread>
+#[tactic(auto, unfolding(syntax_tree::specs::Forms::option_value))]
+fn option_value(alloc: Global, tokens: &mut TokenReader<'_>) -> Result<Span, Unread>
     ensures { Reads (spec.option_value tokens.old.rest.now) result tokens.new.rest.now }
 {
     if !ends_in(Word::Semicolon, tokens.rest) {
@@ -288,8 +288,8 @@ fn option_value(alloc: Global, tokens: &mut Cursor<'_>) -> Result<Span, Unread>
     Ok(span_of(value))
 }
 
-#[tactic(auto, unfolding(crate::specs::Forms::option_form))]
-fn option_form(alloc: Global, tokens: &mut Cursor<'_>, span: Span) -> Result<Node, Unread>
+#[tactic(auto, unfolding(syntax_tree::specs::Forms::option_form))]
+fn option_form(alloc: Global, tokens: &mut TokenReader<'_>, span: Span) -> Result<Node, Unread>
     ensures { Reads (spec.option_form span tokens.old.rest.now) result tokens.new.rest.now }
 {
     tokens.word(Word::Option)?;
@@ -308,23 +308,23 @@ fn option_form(alloc: Global, tokens: &mut Cursor<'_>, span: Span) -> Result<Nod
 
 // ---- what stands before the braces of a block
 
-fn block_name(tokens: &mut Cursor<'_>, word: Word) -> Result<Span, Unread>
+fn block_name(tokens: &mut TokenReader<'_>, word: Word) -> Result<Span, Unread>
     ensures { Reads (spec.block_name word tokens.old.rest.now) result tokens.new.rest.now }
 {
     tokens.word(word)?;
     tokens.identifier()
 }
 
-#[tactic(auto, unfolding(crate::specs::Forms::extend_header))]
-fn extend_header(alloc: Global, tokens: &mut Cursor<'_>) -> Result<Header, Unread>
+#[tactic(auto, unfolding(syntax_tree::specs::Forms::extend_header))]
+fn extend_header(alloc: Global, tokens: &mut TokenReader<'_>) -> Result<Header, Unread>
     ensures { Reads (spec.extend_header tokens.old.rest.now) result tokens.new.rest.now }
 {
     tokens.word(Word::Extend)?;
     Ok(Header::Extend(tokens.type_name(alloc)?))
 }
 
-#[tactic(auto, unfolding(crate::specs::Forms::rpc_header))]
-fn rpc_header(alloc: Global, tokens: &mut Cursor<'_>) -> Result<Header, Unread>
+#[tactic(auto, unfolding(syntax_tree::specs::Forms::rpc_header))]
+fn rpc_header(alloc: Global, tokens: &mut TokenReader<'_>) -> Result<Header, Unread>
     ensures { Reads (spec.rpc_header tokens.old.rest.now) result tokens.new.rest.now }
 {
     tokens.word(Word::Rpc)?;
@@ -339,7 +339,7 @@ fn rpc_header(alloc: Global, tokens: &mut Cursor<'_>) -> Result<Header, Unread>
     })
 }
 
-fn header_form(alloc: Global, tokens: &mut Cursor<'_>, word: Word) -> Result<Header, Unread>
+fn header_form(alloc: Global, tokens: &mut TokenReader<'_>, word: Word) -> Result<Header, Unread>
     ensures { Reads (spec.header_form word tokens.old.rest.now) result tokens.new.rest.now }
 {
     match word {
@@ -354,8 +354,8 @@ fn header_form(alloc: Global, tokens: &mut Cursor<'_>, word: Word) -> Result<Hea
 }
 
 // A header and its `{`.
-#[tactic(auto, unfolding(crate::specs::Forms::header_and_brace))]
-fn header_and_brace(alloc: Global, tokens: &mut Cursor<'_>) -> Result<Header, Unread>
+#[tactic(auto, unfolding(syntax_tree::specs::Forms::header_and_brace))]
+fn header_and_brace(alloc: Global, tokens: &mut TokenReader<'_>) -> Result<Header, Unread>
     ensures { Reads (spec.header_and_brace tokens.old.rest.now) result tokens.new.rest.now }
 {
     let Some(first) = tokens.rest.first() else {
@@ -373,7 +373,7 @@ pub fn header_and_rest(
 ) -> Result<Option<(Header, &[Lexeme])>, AllocError>
     ensures { IfOk result (λ found. option_map (λ p. (p.0, p.1.now)) found ≡ spec.header_and_rest item.now) }
 {
-    let mut tokens = Cursor { rest: item };
+    let mut tokens = TokenReader { rest: item };
     match header_and_brace(alloc, &mut tokens) {
         Ok(header) => Ok(Some((header, tokens.rest))),
         Err(Unread::NoForm) => Ok(None),
@@ -399,8 +399,8 @@ pub fn opens(body: Body, word: Word) -> bool
 }
 
 #[inline(never)]
-#[tactic(auto, unfolding(crate::specs::Forms::rpc_form))]
-fn rpc_form(alloc: Global, tokens: &mut Cursor<'_>, span: Span) -> Result<Node, Unread>
+#[tactic(auto, unfolding(syntax_tree::specs::Forms::rpc_form))]
+fn rpc_form(alloc: Global, tokens: &mut TokenReader<'_>, span: Span) -> Result<Node, Unread>
     ensures { Reads (spec.rpc_form span tokens.old.rest.now) result tokens.new.rest.now }
 {
     let header = rpc_header(alloc, tokens)?;
@@ -423,7 +423,12 @@ fn rpc_form(alloc: Global, tokens: &mut Cursor<'_>, span: Span) -> Result<Node, 
 
 // ---- the forms of each body
 
-fn file_form(alloc: Global, tokens: &mut Cursor<'_>, word: Word, span: Span) -> Result<Node, Unread>
+fn file_form(
+    alloc: Global,
+    tokens: &mut TokenReader<'_>,
+    word: Word,
+    span: Span,
+) -> Result<Node, Unread>
     ensures { Reads (spec.file_form word span tokens.old.rest.now) result tokens.new.rest.now }
 {
     match word {
@@ -438,7 +443,7 @@ fn file_form(alloc: Global, tokens: &mut Cursor<'_>, word: Word, span: Span) -> 
 
 fn message_form(
     alloc: Global,
-    tokens: &mut Cursor<'_>,
+    tokens: &mut TokenReader<'_>,
     word: Word,
     span: Span,
 ) -> Result<Node, Unread>
@@ -455,7 +460,7 @@ fn message_form(
 
 fn oneof_form(
     alloc: Global,
-    tokens: &mut Cursor<'_>,
+    tokens: &mut TokenReader<'_>,
     word: Word,
     span: Span,
 ) -> Result<Node, Unread>
@@ -470,7 +475,7 @@ fn oneof_form(
 
 fn extend_form(
     alloc: Global,
-    tokens: &mut Cursor<'_>,
+    tokens: &mut TokenReader<'_>,
     word: Word,
     span: Span,
 ) -> Result<Node, Unread>
@@ -482,7 +487,12 @@ fn extend_form(
     }
 }
 
-fn enum_form(alloc: Global, tokens: &mut Cursor<'_>, word: Word, span: Span) -> Result<Node, Unread>
+fn enum_form(
+    alloc: Global,
+    tokens: &mut TokenReader<'_>,
+    word: Word,
+    span: Span,
+) -> Result<Node, Unread>
     ensures { Reads (spec.enum_form word span tokens.old.rest.now) result tokens.new.rest.now }
 {
     match word {
@@ -495,7 +505,7 @@ fn enum_form(alloc: Global, tokens: &mut Cursor<'_>, word: Word, span: Span) -> 
 
 fn service_form(
     alloc: Global,
-    tokens: &mut Cursor<'_>,
+    tokens: &mut TokenReader<'_>,
     word: Word,
     span: Span,
 ) -> Result<Node, Unread>
@@ -511,7 +521,7 @@ fn service_form(
 
 fn rpc_body_form(
     alloc: Global,
-    tokens: &mut Cursor<'_>,
+    tokens: &mut TokenReader<'_>,
     word: Word,
     span: Span,
 ) -> Result<Node, Unread>
@@ -526,7 +536,7 @@ fn rpc_body_form(
 
 fn form(
     alloc: Global,
-    tokens: &mut Cursor<'_>,
+    tokens: &mut TokenReader<'_>,
     body: Body,
     word: Word,
     span: Span,
@@ -544,14 +554,14 @@ fn form(
     }
 }
 
-#[tactic(auto, unfolding(crate::specs::Forms::statement))]
+#[tactic(auto, unfolding(syntax_tree::specs::Forms::statement))]
 pub fn statement(alloc: Global, body: Body, item: &[Lexeme]) -> Result<Option<Node>, AllocError>
     ensures { IfOk result (λ found. found ≡ spec.statement body item.now) }
 {
     let Some(first) = item.first() else {
         return Ok(None);
     };
-    let mut tokens = Cursor { rest: item };
+    let mut tokens = TokenReader { rest: item };
     match form(alloc, &mut tokens, body, first.word, span_of(item)) {
         Ok(node) if tokens.rest.is_empty() => Ok(Some(node)),
         Ok(_) | Err(Unread::NoForm) => Ok(None),

@@ -1,17 +1,16 @@
 // The tree of a whole text.
 ghost use Rattle.std.specs.Prelude.{◌≡◌, All, IfOk, length};
 ghost use Rattle.proto_lex.specs.Tokens as lexer;
-ghost use Rattle.proto_syntax.specs.Lexeme.{IsWithin};
-ghost use Rattle.proto_syntax.specs.Read as spec;
+ghost use Rattle.syntax_tree.specs.Lexeme.{IsWithin};
+ghost use Rattle.syntax_tree.specs.Read as spec;
 
-use crate::lexeme::Body;
-use crate::node::FileTree;
 use crate::read::body_tree;
 use crate::scan::lexemes;
 use crate::skips::Matched;
 use proto_lex::{Token, ordered_tokens};
 use sqlite_items::Items;
 use std::alloc::{AllocError, Global};
+use syntax_tree::{Body, FileTree};
 
 // How many blocks may stand one inside the other.
 const MAX_BLOCKS: usize = 64;
@@ -34,7 +33,7 @@ pub fn parse(alloc: Global, text: &str, tokens: &[Token]) -> Result<FileTree, Al
 }
 
 // The tree of a text and of tokens that lie in it.
-#[tactic(auto, unfolding(crate::specs::Read::tree_of))]
+#[tactic(auto, unfolding(syntax_tree::specs::Read::tree_of))]
 fn tree_of(alloc: Global, text: &str, tokens: &[Token]) -> Result<FileTree, AllocError>
     requires { All (IsWithin (length text.now)) tokens.now }
     ensures { IfOk result (λ tree. tree ≡ spec.tree_of text.now tokens.now) }

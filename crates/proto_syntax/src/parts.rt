@@ -2,15 +2,14 @@
 
 ghost use Rattle.std.specs.Prelude.{◌≡◌, ◌≤◌, [], length, reverse, IfOk};
 ghost use Rattle.proto_syntax.specs.Brackets.{TakesBracket};
-ghost use Rattle.proto_syntax.specs.Parts as spec;
-ghost use Rattle.proto_syntax.specs.Forms as forms;
-ghost use Rattle.proto_syntax.specs.Cut as cut;
+ghost use Rattle.syntax_tree.specs.Parts as spec;
+ghost use Rattle.syntax_tree.specs.Forms as forms;
+ghost use Rattle.syntax_tree.specs.Cut as cut;
 
 use crate::cut::ends_in;
-use crate::lexeme::{Lexeme, Word};
-use crate::node::{Literal, Number, Span, TypeName};
 use sqlite_items::Items;
 use std::alloc::{AllocError, Global};
+use syntax_tree::{Lexeme, Literal, Number, Span, TypeName, Word};
 
 // Why a part wasn't read.
 #[derive(Debug, Drop)]
@@ -31,15 +30,15 @@ impl From<AllocError> for Unread {
 
 // The tokens that are left of a statement.
 #[derive(Clone, Copy)]
-pub struct Cursor<'a> {
+pub struct TokenReader<'a> {
     pub rest: &'a [Lexeme],
 }
 
-impl<'a> Cursor<'a> {
-    ghost use Rattle.proto_syntax.specs.Parts as spec;
-    ghost use Rattle.proto_syntax.specs.Parts.{Reads};
+impl<'a> TokenReader<'a> {
+    ghost use Rattle.syntax_tree.specs.Parts as spec;
+    ghost use Rattle.proto_syntax.specs.Reads.{Reads};
 
-    #[tactic(auto, unfolding(crate::specs::Parts::one))]
+    #[tactic(auto, unfolding(syntax_tree::specs::Parts::one))]
     pub fn word(&mut self, word: Word) -> Result<Span, Unread>
         ensures reads { Reads (spec.word word self.old.rest.now) result self.new.rest.now }
         ensures left { length self.new.rest.now ≤ length self.old.rest.now }
@@ -53,7 +52,7 @@ impl<'a> Cursor<'a> {
         }
     }
 
-    #[tactic(auto, unfolding(crate::specs::Parts::one))]
+    #[tactic(auto, unfolding(syntax_tree::specs::Parts::one))]
     pub fn identifier(&mut self) -> Result<Span, Unread>
         ensures reads { Reads (spec.identifier self.old.rest.now) result self.new.rest.now }
         ensures left { length self.new.rest.now ≤ length self.old.rest.now }
@@ -67,7 +66,7 @@ impl<'a> Cursor<'a> {
         }
     }
 
-    #[tactic(auto, unfolding(crate::specs::Parts::eat))]
+    #[tactic(auto, unfolding(syntax_tree::specs::Parts::eat))]
     pub fn eat(&mut self, word: Word) -> bool
         ensures reads { spec.eat word self.old.rest.now ≡ Some (result, self.new.rest.now) }
         ensures left { length self.new.rest.now ≤ length self.old.rest.now }
@@ -90,7 +89,7 @@ impl<'a> Cursor<'a> {
         }
     }
 
-    #[tactic(auto, unfolding(crate::specs::Parts::number))]
+    #[tactic(auto, unfolding(syntax_tree::specs::Parts::number))]
     pub fn number(&mut self, may_be_negative: bool) -> Result<Number, Unread>
         ensures reads { Reads (spec.number may_be_negative self.old.rest.now) result self.new.rest.now }
         ensures left { length self.new.rest.now ≤ length self.old.rest.now }
@@ -133,7 +132,7 @@ impl<'a> Cursor<'a> {
         }
     }
 
-    #[tactic(auto, unfolding(crate::specs::Parts::type_name))]
+    #[tactic(auto, unfolding(syntax_tree::specs::Parts::type_name))]
     pub fn type_name(&mut self, alloc: Global) -> Result<TypeName, Unread>
         ensures reads { Reads (spec.type_name self.old.rest.now) result self.new.rest.now }
         ensures left { length self.new.rest.now ≤ length self.old.rest.now }
@@ -167,7 +166,7 @@ impl<'a> Cursor<'a> {
         Ok(found)
     }
 
-    #[tactic(auto, unfolding(crate::specs::Parts::literal))]
+    #[tactic(auto, unfolding(syntax_tree::specs::Parts::literal))]
     pub fn literal(&mut self, alloc: Global) -> Result<Literal, Unread>
         ensures reads { Reads (spec.literal self.old.rest.now) result self.new.rest.now }
         ensures left { length self.new.rest.now ≤ length self.old.rest.now }
@@ -204,7 +203,7 @@ impl<'a> Cursor<'a> {
         Ok((name, number))
     }
 
-    #[tactic(auto, unfolding(crate::specs::Forms::label))]
+    #[tactic(auto, unfolding(syntax_tree::specs::Forms::label))]
     fn label(&mut self) -> Option<Span>
         ensures { forms.label self.old.rest.now ≡ Some (result, self.new.rest.now) }
     {
@@ -217,7 +216,7 @@ impl<'a> Cursor<'a> {
         }
     }
 
-    #[tactic(auto, unfolding(crate::specs::Forms::labels))]
+    #[tactic(auto, unfolding(syntax_tree::specs::Forms::labels))]
     pub fn labels(&mut self, alloc: Global) -> Result<Items<Span>, Unread>
         ensures { Reads (forms.labels self.old.rest.now) result self.new.rest.now }
     {
@@ -232,7 +231,7 @@ impl<'a> Cursor<'a> {
         Ok(found)
     }
 
-    #[tactic(auto, unfolding(crate::specs::Forms::in_parentheses))]
+    #[tactic(auto, unfolding(syntax_tree::specs::Forms::in_parentheses))]
     pub fn in_parentheses(&mut self, alloc: Global) -> Result<TypeName, Unread>
         ensures { Reads (forms.in_parentheses self.old.rest.now) result self.new.rest.now }
     {
@@ -311,7 +310,7 @@ pub fn is_content(alloc: Global, ts: &[Lexeme]) -> Result<bool, AllocError>
     is_balanced(alloc, ts)
 }
 
-#[tactic(auto, unfolding(crate::specs::Parts::is_options_end))]
+#[tactic(auto, unfolding(syntax_tree::specs::Parts::is_options_end))]
 fn is_options_end(alloc: Global, ts: &[Lexeme]) -> Result<bool, AllocError>
     ensures { IfOk result (λ found. found ≡ spec.is_options_end ts.now) }
 {

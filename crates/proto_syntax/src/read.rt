@@ -1,18 +1,17 @@
 // Reads the items of a body, and the bodies inside them.
 
 ghost use Rattle.std.specs.Prelude.{◌≡◌, ◌<◌, ◌≤◌, ◌-◌, ◌∷◌, ◌++◌, [], length, take, drop, IfOk, OnOk, option_map, IsTrue, ◌↔◌};
-ghost use Rattle.proto_syntax.specs.Read as spec;
-ghost use Rattle.proto_syntax.specs.Cut as cut;
-ghost use Rattle.proto_syntax.specs.Forms as forms;
+ghost use Rattle.syntax_tree.specs.Read as spec;
+ghost use Rattle.syntax_tree.specs.Cut as cut;
+ghost use Rattle.syntax_tree.specs.Forms as forms;
 
 use crate::cut::{ends_in, is_stray, next_item};
 use crate::forms::{header_and_rest, opens, statement};
-use crate::lexeme::{Body, Lexeme, Word};
-use crate::node::{Fault, Header, Node, Problem, Span};
 use crate::parts::span_of;
 use crate::skips::{Matched, skips};
 use sqlite_items::Items;
 use std::alloc::{AllocError, Global};
+use syntax_tree::{Body, Fault, Header, Lexeme, Node, Span, SyntaxProblem, Word};
 
 // How many tokens a statement and a block may be expected to have.
 const TOKENS_OF_A_STATEMENT: usize = 7;
@@ -27,7 +26,7 @@ const MOST_BLOCKS: usize = 4096;
 // How many blocks may still open in a body whose braces are matched before it is read: it stands inside three blocks.
 const BLOCKS_IN_A_MATCHED_BODY: usize = 61;
 
-fn bad(problem: Problem, item: &[Lexeme], faults: &mut Items<Fault>) -> Result<(), AllocError>
+fn bad(problem: SyntaxProblem, item: &[Lexeme], faults: &mut Items<Fault>) -> Result<(), AllocError>
     ensures { OnOk result (faults.new ≡ faults.old ++ (spec.bad problem item.now).faults) }
 {
     faults.push(Fault {
@@ -89,7 +88,7 @@ fn statement_tree(
 {
     match statement(alloc, body, item)? {
         Some(node) => nodes.push(node),
-        None => bad(Problem::NotUnderstood, item, faults),
+        None => bad(SyntaxProblem::NotUnderstood, item, faults),
     }
 }
 
@@ -132,7 +131,7 @@ fn deepest_tree(
     ensures faults { OnOk result (faults.new ≡ faults.old ++ (spec.deepest_tree body item.now).faults) }
 {
     if nests(alloc, item)? {
-        bad(Problem::TooDeep, item, faults)
+        bad(SyntaxProblem::TooDeep, item, faults)
     } else {
         statement_tree(alloc, body, item, nodes, faults)
     }
@@ -174,7 +173,7 @@ fn form_tree(
         None => statement_tree(alloc, body, item.tokens, nodes, faults),
         Some((header, rest)) => {
             if !ends_in(Word::CloseBrace, rest.tokens) {
-                return bad(Problem::NotUnderstood, item.tokens, faults);
+                return bad(SyntaxProblem::NotUnderstood, item.tokens, faults);
             }
             let (inner, _) = rest.split_at(rest.tokens.len() - 1);
             let items = body_tree(alloc, blocks, body_of(&header), inner, faults)?;
@@ -217,11 +216,11 @@ fn item_tree(
     ensures faults { OnOk result (faults.new ≡ faults.old ++ (spec.item_tree (spec.finished_tree blocks body) body item.entry.tokens.now).faults) }
 {
     if is_stray(body, item.tokens) {
-        bad(Problem::NotUnderstood, item.tokens, faults)
+        bad(SyntaxProblem::NotUnderstood, item.tokens, faults)
     } else if is_finished {
         finished_tree(alloc, blocks, body, item, nodes, faults)
     } else {
-        bad(Problem::Unfinished, item.tokens, faults)
+        bad(SyntaxProblem::Unfinished, item.tokens, faults)
     }
 }
 

@@ -3,14 +3,13 @@
 ghost use Rattle.std.specs.Prelude.{◌≡◌, ◌≤◌, ◌<◌, ◌∷◌, [], ◌++◌, ◌==◌, length, All, IfOk, OnOk};
 ghost use Rattle.std.specs.List.{list_any};
 ghost use Rattle.std.specs.Str.{bytes_eq};
-ghost use Rattle.proto_syntax.specs.Lexeme as spec;
-ghost use Rattle.proto_syntax.specs.Read as tree;
+ghost use Rattle.syntax_tree.specs.Lexeme as spec;
+ghost use Rattle.syntax_tree.specs.Read as tree;
 
-use crate::lexeme::{Lexeme, Word};
-use crate::node::{Fault, Problem, Span};
 use proto_lex::{Kind, Token};
 use sqlite_items::Items;
 use std::alloc::{AllocError, Global};
+use syntax_tree::{Fault, Lexeme, Span, SyntaxProblem, Word};
 
 fn is(name: &[u8], word: &str) -> bool
     ensures { result ≡ bytes_eq name.now word.now }
@@ -18,7 +17,7 @@ fn is(name: &[u8], word: &str) -> bool
     name == word.as_bytes()
 }
 
-#[tactic(auto, unfolding(crate::specs::Lexeme::keyword))]
+#[tactic(auto, unfolding(syntax_tree::specs::Lexeme::keyword))]
 fn keyword(name: &[u8]) -> Word
     ensures { result ≡ spec.keyword name.now }
 {
@@ -50,7 +49,7 @@ fn keyword(name: &[u8]) -> Word
 }
 
 // A word that stands inside a statement.
-#[tactic(auto, unfolding(crate::specs::Lexeme::inner_keyword))]
+#[tactic(auto, unfolding(syntax_tree::specs::Lexeme::inner_keyword))]
 fn inner_keyword(name: &[u8]) -> Word
     ensures { result ≡ spec.inner_keyword name.now }
 {
@@ -160,7 +159,7 @@ fn take_token(
 {
     if let Kind::Bad(reason) = token.kind {
         faults.push(Fault {
-            problem: Problem::BadToken(reason),
+            problem: SyntaxProblem::BadToken(reason),
             span: span_of_token(token),
         })?;
     } else {

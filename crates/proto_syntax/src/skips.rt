@@ -1,12 +1,12 @@
 // Matches the braces of a text, so that what stands between them can be skipped.
 ghost use Rattle.std.specs.Prelude.{◌≡◌, ◌<◌, ◌≤◌, ◌-◌, IsTrue, IfOk, length, take, drop, slice_index_or};
-ghost use Rattle.proto_syntax.specs.Cut as cut;
+ghost use Rattle.syntax_tree.specs.Cut as cut;
 ghost use Rattle.std.proofs.Props.{props};
 ghost use Rattle.proto_syntax.specs.Skips as spec;
-ghost use Rattle.proto_syntax.specs.declared.lexeme.Word.TheVariants as w;
+ghost use Rattle.syntax_tree.specs.declared.lexeme.Word.TheVariants as w;
 
-use crate::lexeme::{Lexeme, Word};
 use std::alloc::{AllocError, Global};
+use syntax_tree::{Lexeme, Word};
 
 // Tokens, and for each of the first of them how many may be skipped from there on if it is an opening brace. With no
 // such numbers the tokens are looked through.
@@ -19,8 +19,8 @@ pub struct Matched<'a> {
 
 impl<'a> Matched<'a> {
     ghost use Rattle.proto_syntax.specs.Skips as spec;
-    ghost use Rattle.proto_syntax.specs.Cut as cut;
-    ghost use Rattle.proto_syntax.specs.declared.lexeme.Word.TheVariants as w;
+    ghost use Rattle.syntax_tree.specs.Cut as cut;
+    ghost use Rattle.syntax_tree.specs.declared.lexeme.Word.TheVariants as w;
 
     // How many tokens may be skipped from the opening brace at the place on.
     pub fn skip_at(self, at: usize) -> usize

@@ -2,8 +2,8 @@
 // its front for a line with the syntax statement. Faults are written as a line, two columns and a number.
 use proto_lex::lex;
 use proto_syntax::{
-    FileTree, Items, Literal, Node, Number, Problem, RangeEnd, ReservedList, ReservedRange, Span,
-    TypeName, parse,
+    FileTree, Items, Literal, Node, Number, RangeEnd, ReservedList, ReservedRange, Span,
+    SyntaxProblem, TypeName, parse,
 };
 use std::test::Fail;
 
@@ -47,12 +47,12 @@ fn place(text: &str, offset: usize) -> (usize, usize) {
     (line, column)
 }
 
-fn code(problem: Problem) -> u32 {
+fn code(problem: SyntaxProblem) -> u32 {
     match problem {
-        Problem::BadToken(_) => 201,
-        Problem::NotUnderstood => 202,
-        Problem::TooDeep => 203,
-        Problem::Unfinished => 204,
+        SyntaxProblem::BadToken(_) => 201,
+        SyntaxProblem::NotUnderstood => 202,
+        SyntaxProblem::TooDeep => 203,
+        SyntaxProblem::Unfinished => 204,
     }
 }
 

@@ -142,7 +142,7 @@ fn status_of_check(rt: &impl Eprint, checked: Result<bool, Failure>) -> ExitCode
 }
 
 // The status that says how the session ended.
-fn status_of(rt: &impl Eprint, ended: Result<Ended, Failure>) -> ExitCode {
+fn status_of_session(rt: &impl Eprint, ended: Result<Ended, Failure>) -> ExitCode {
     match ended {
         Ok(Ended::Exit { after_shutdown }) => ExitCode::from(if after_shutdown { 0 } else { 1 }),
         Ok(Ended::InputEnd) => ExitCode::from(1),
@@ -187,7 +187,7 @@ fn main(rt: HostRuntime) -> ExitCode {
     };
     match options::options(rt.alloc(), words.as_slice()) {
         Ok(asked) if asked.check => status_of_check(&rt, check_files(&rt, asked.dirs.as_slice())),
-        Ok(asked) => status_of(&rt, serve_editor(&rt, asked.dirs.as_slice())),
+        Ok(asked) => status_of_session(&rt, serve_editor(&rt, asked.dirs.as_slice())),
         Err(error) => explain(&rt, &error),
     }
 }

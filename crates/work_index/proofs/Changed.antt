@@ -7,23 +7,23 @@ use Rattle.std.proofs.Math.Seq.{map-set_same}
 use Rattle.std.proofs.lemmas.List.FromFn.{length-enumerate_from, get_or-enumerate_from}
 use Rattle.std.proofs.lemmas.Simd.{map-map}
 use Rattle.piece_collector.specs.Views.{TextAt}
-use Rattle.proto_syntax.specs.Read.{value_tree}
-use Rattle.proto_facts.specs.declared.fact.FileFacts.{FileFacts}
-use Rattle.proto_facts.specs.Facts.{facts_of}
-use Rattle.import_graph.specs.declared.links.LinkedFile.{LinkedFile}
+use Rattle.syntax_tree.specs.Read.{value_tree}
+use Rattle.file_facts.specs.declared.fact.FileFacts.{FileFacts}
+use Rattle.file_facts.specs.Facts.{facts_of}
+use Rattle.import_graph.specs.declared.imports.FileImports.{FileImports}
 use Rattle.import_graph.specs.declared.paths.NamedFacts.{NamedFacts}
-use Rattle.import_graph.specs.Links.{graph_of}
-use Rattle.import_graph.specs.Links.{links_of as links_of_file}
-use Rattle.proto_facts.specs.declared.diagnostic.Diag.{Diag}
+use Rattle.import_graph.specs.Imports.{graph_of}
+use Rattle.import_graph.specs.Imports.{imports_of}
+use Rattle.file_facts.specs.declared.diagnostic.Diag.{Diag}
 use Rattle.proto_resolve.specs.declared.resolve.Links.{Links}
 use Rattle.proto_resolve.specs.Files.{all_decls, facts_at}
 use Rattle.proto_resolve.specs.Outlines.{import_outline, with_facts}
-use Rattle.proto_resolve.specs.Seen.{told, SeesTheSame, SeenLaw}
+use Rattle.proto_resolve.specs.Seen.{exports, SeesTheSame, SeenLaw}
 use Rattle.proto_resolve.proofs.Outlines.{asking, same_graph}
 use Rattle.work_index.specs.Changes.{DifferAt, with_text}
-use Rattle.work_index.specs.declared.again.Change.{Change}
+use Rattle.work_index.specs.declared.again.FileChange.{FileChange}
 use Rattle.work_index.specs.Pieces.{workspace_of}
-use Rattle.work_index.specs.Workspace.{Workspace, AnalysisData, all_facts, analysis, diagnostics_of, links_of, listed, named_facts}
+use Rattle.work_index.specs.Workspace.{Workspace, AnalysisData, all_facts, analysis, diagnostics_of, resolution_of, merged, named_facts}
 
 -- ---- a list that is changed from the front on
 
@@ -147,15 +147,15 @@ asks_alike (x ∷ files) zero other same = ap (λ o. (x.path, o) ∷ map asking 
 asks_alike (x ∷ files) (suc f) other same = ap (λ xs. asking x ∷ xs) (asks_alike files f other same)
 
 -- a graph that is kept has as many files
-pub kept_count : (old new : List NamedFacts) (change : Change) → DifferAt old new change → IfSome change.before (λ graph. length graph ≡ length new)
+pub kept_count : (old new : List NamedFacts) (change : FileChange) → DifferAt old new change → IfSome change.before (λ graph. length graph ≡ length new)
 kept_count old new change differ = by change.before differ.graph
   where
-    by : (before : Option (List LinkedFile)) → MatchOption before (graph_of old ≡ graph_of new) (λ g. g ≡ graph_of old) → IfSome before (λ graph. length graph ≡ length new)
+    by : (before : Option (List FileImports)) → MatchOption before (graph_of old ≡ graph_of new) (λ g. g ≡ graph_of old) → IfSome before (λ graph. length graph ≡ length new)
     by None same = tt
-    by (Some g) is = ap length is ∙ length-map old (λ f. links_of_file old f.facts) ∙ differ.files
+    by (Some g) is = ap length is ∙ length-map old (λ f. imports_of old f.facts) ∙ differ.files
 
 -- a graph that is kept is one that is equal to it, and where none is, what followed from that follows
-pub kept_as : (o : Option (List LinkedFile)) (A B : Type 0) (old new : List LinkedFile) → (A → B) → old ≡ new → MatchOption o A (λ g. g ≡ old) → MatchOption o B (λ g. g ≡ new)
+pub kept_as : (o : Option (List FileImports)) (A B : Type 0) (old new : List FileImports) → (A → B) → old ≡ new → MatchOption o A (λ g. g ≡ old) → MatchOption o B (λ g. g ≡ new)
 kept_as None A B old new follows same h = follows h
 kept_as (Some g) A B old new follows same h = h ∙ same
 
@@ -187,13 +187,13 @@ module _ (w : Workspace) (file : ℕ) (text : List ℕ) where
       let own : facts_at (all_facts before) file ≡ facts_of text = ap (λ files. facts_at files file) facts_before ∙ is_put (all_facts w) file (facts_of text) within' in
       same_graph (all_facts before) (all_facts w) (ap (λ files. map asking files) facts_before ∙ asks_alike (all_facts w) file (facts_of text) (sym (imports ∙ ap import_outline own)))
 
-  graph_kept : (graph : Option (List LinkedFile)) → file < length w → MatchOption graph ImportsStay (λ g. g ≡ graph_of (all_facts before))
+  graph_kept : (graph : Option (List FileImports)) → file < length w → MatchOption graph ImportsStay (λ g. g ≡ graph_of (all_facts before))
       → MatchOption graph (graph_of (all_facts before) ≡ graph_of (all_facts w)) (λ g. g ≡ graph_of (all_facts before))
   graph_kept None there imports = graph_stays there imports
   graph_kept (Some g) there is = is
 
-  pub differ : (graph : Option (List LinkedFile)) (tells : Bool) → file < length w → MatchOption graph ImportsStay (λ g. g ≡ graph_of (all_facts before))
-      → (tells ≡ false → told (facts_at (all_facts w) file) ≡ told (facts_at (all_facts before) file))
+  pub differ : (graph : Option (List FileImports)) (tells : Bool) → file < length w → MatchOption graph ImportsStay (λ g. g ≡ graph_of (all_facts before))
+      → (tells ≡ false → exports (facts_at (all_facts w) file) ≡ exports (facts_at (all_facts before) file))
       → DifferAt (all_facts before) (all_facts w) (record { file = file; tells = tells; before = graph })
   differ graph tells there kept quiet = record {
     files = length-map before named_facts ∙ before_length ∙ sym (length-map w named_facts);
@@ -214,14 +214,14 @@ module _ (w : Workspace) (file : ℕ) (text : List ℕ) where
 
   -- a file that sees the same is linked as before
   module _ (law : SeenLaw) (n : ℕ) (there : n < length w) (apart : n ≢ file) (sees : SeesTheSame (all_facts before) (all_facts w) n) where
-    pub links_stay : links_of before (n, get_or before n nothing) ≡ links_of w (n, get_or w n nothing)
+    pub links_stay : resolution_of before (n, get_or before n nothing) ≡ resolution_of w (n, get_or w n nothing)
     links_stay =
         let within' : n < length (all_facts w) = omega (arith, there, length-map w named_facts) in
         let u = get_or w n nothing in
-        ap (λ x. links_of before (n, x)) (other_before n apart) ∙ law (all_facts before) (all_facts w) n within' sees u.1 (value_tree u.1)
+        ap (λ x. resolution_of before (n, x)) (other_before n apart) ∙ law (all_facts before) (all_facts w) n within' sees u.1 (value_tree u.1)
 
     pub diagnostics_stay : diagnostics_of before (n, get_or before n nothing) ≡ diagnostics_of w (n, get_or w n nothing)
-    diagnostics_stay = ap₂ (λ (x : List ℕ × List ℕ) links. listed (facts_of x.1) links) (other_before n apart) links_stay
+    diagnostics_stay = ap₂ (λ (x : List ℕ × List ℕ) links. merged (facts_of x.1) links) (other_before n apart) links_stay
 
 -- ---- the table of an analysis
 
@@ -241,7 +241,7 @@ same_files (x ∷ files) (y ∷ w) paths facts =
 pub record AreParts (table : List NamedFacts) (paths : List (List ℕ)) (links : List Links) (diagnostics : List (List Diag)) (b : Workspace) : Type 0 where
   pub table_is : table ≡ all_facts b
   pub paths_are : paths ≡ map (λ f. f.0) b
-  pub links_are : links ≡ made (links_of b) b
+  pub links_are : links ≡ made (resolution_of b) b
   pub diagnostics_are : diagnostics ≡ made (diagnostics_of b) b
 
 abbrev analysis_with : List NamedFacts → List (List ℕ) → List Links → List (List Diag) → AnalysisData

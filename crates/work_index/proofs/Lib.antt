@@ -1,4 +1,3 @@
 mod Ascending
-mod Uses
 pub mod Steps
 pub mod Changed

@@ -5,12 +5,12 @@ use Rattle.std.proofs.lemmas.Simd.{map-map}
 use Rattle.std.proofs.lemmas.List.FromFn.{length-enumerate_from}
 use Rattle.std.specs.List.{enumerate_from}
 use Rattle.piece_collector.specs.Views.{TextAt}
-use Rattle.proto_facts.specs.declared.diagnostic.Diag.{Diag}
+use Rattle.file_facts.specs.declared.diagnostic.Diag.{Diag}
 use Rattle.import_graph.specs.declared.paths.NamedFacts.{NamedFacts}
 use Rattle.proto_resolve.specs.declared.resolve.Links.{Links}
 use Rattle.proto_resolve.specs.Files.{all_decls}
 use Rattle.work_index.specs.Pieces.{workspace_of}
-use Rattle.work_index.specs.Workspace.{analysis, named_facts, all_facts, links_of, diagnostics_of}
+use Rattle.work_index.specs.Workspace.{analysis, named_facts, all_facts, resolution_of, diagnostics_of}
 
 -- what f makes of each of the files from n on
 abbrev pub made_from : {X : Type 0} → (ℕ × (List ℕ × List ℕ) → X) → ℕ → List TextAt → List X
@@ -37,11 +37,11 @@ paths_as_long ts paths index are all = rw (are, all) (length-map ts _ ∙ sym (l
 
 -- an index of the files, their paths, and what is made of each of them are the analysis
 pub is_analysis : (ts : List TextAt) (index : List NamedFacts) (paths : List (List ℕ)) (links : List Links) (diagnostics : List (List Diag))
-    → index ≡ all_facts (workspace_of ts) → paths ≡ map (λ t. t.path) ts → links ≡ made_from (links_of (workspace_of ts)) 0 ts → diagnostics ≡ made_from (diagnostics_of (workspace_of ts)) 0 ts
+    → index ≡ all_facts (workspace_of ts) → paths ≡ map (λ t. t.path) ts → links ≡ made_from (resolution_of (workspace_of ts)) 0 ts → diagnostics ≡ made_from (diagnostics_of (workspace_of ts)) 0 ts
     → record { paths = paths; facts = map (λ file. file.facts) index; decls = all_decls index; links = links; diagnostics = diagnostics } ≡ analysis (workspace_of ts)
 is_analysis ts index paths links diagnostics all are linked wrong =
     let w = workspace_of ts in
-    rw (all, are, linked, wrong) (ap₂ (λ ps fs. record { paths = ps; facts = fs; decls = all_decls (all_facts w); links = made_from (links_of w) 0 ts; diagnostics = made_from (diagnostics_of w) 0 ts })
+    rw (all, are, linked, wrong) (ap₂ (λ ps fs. record { paths = ps; facts = fs; decls = all_decls (all_facts w); links = made_from (resolution_of w) 0 ts; diagnostics = made_from (diagnostics_of w) 0 ts })
     (sym (map-map (λ file. file.0) (λ t. (t.path, t.text)) ts)) (map-map (λ file. file.facts) named_facts w))
 
 pub paths_are : (ts : List TextAt) (paths : List (List ℕ)) (index : List NamedFacts) → paths ≡ map (λ t. t.path) ts → index ≡ all_facts (workspace_of ts) → paths ≡ map (λ file. file.path) index

@@ -1,14 +1,14 @@
 -- A change of the text of one file.
 use Rattle.std.specs.Prelude.{◌≡◌, ◌≢◌, ◌<◌, ℕ, List, [], false, length, map, slice_index_or, slice_set, MatchOption}
 use Rattle.std.specs.List.{enumerate_from}
-use Rattle.proto_facts.specs.declared.diagnostic.Diag.{Diag}
+use Rattle.file_facts.specs.declared.diagnostic.Diag.{Diag}
 use Rattle.import_graph.specs.declared.paths.NamedFacts.{NamedFacts}
-use Rattle.import_graph.specs.Links.{graph_of}
+use Rattle.import_graph.specs.Imports.{graph_of}
 use Rattle.proto_resolve.specs.declared.resolve.Links.{Links}
 use Rattle.proto_resolve.specs.Files.{facts_at}
-use Rattle.proto_resolve.specs.Seen.{told}
-use Rattle.work_index.specs.declared.again.Change.{Change}
-use Rattle.work_index.specs.Workspace.{Workspace, AnalysisData, all_facts, analysis, diagnostics_of, links_of}
+use Rattle.proto_resolve.specs.Seen.{exports}
+use Rattle.work_index.specs.declared.again.FileChange.{FileChange}
+use Rattle.work_index.specs.Workspace.{Workspace, AnalysisData, all_facts, analysis, diagnostics_of, resolution_of}
 
 -- the workspace with another text of a file
 abbrev pub with_text : Workspace → ℕ → List ℕ → Workspace
@@ -29,16 +29,16 @@ pub record AreBefore (files : List NamedFacts) (w : Workspace) (file : ℕ) : Ty
 -- The files differ by the change: there are as many; a graph that is kept is that of the old files, and where none is kept theirs
 -- is that of the new ones too; the facts of other files are the same; and where the changed file tells no other thing, it says the
 -- same to those that see it.
-pub record DifferAt (old new : List NamedFacts) (change : Change) : Type 0 where
+pub record DifferAt (old new : List NamedFacts) (change : FileChange) : Type 0 where
   pub files : length old ≡ length new
   pub graph : MatchOption change.before (graph_of old ≡ graph_of new) (λ before. before ≡ graph_of old)
   pub others : (g : ℕ) → g ≢ change.file → facts_at old g ≡ facts_at new g
-  pub quiet : change.tells ≡ false → told (facts_at old change.file) ≡ told (facts_at new change.file)
+  pub quiet : change.tells ≡ false → exports (facts_at old change.file) ≡ exports (facts_at new change.file)
 
 -- the links and the diagnostics are those before the change
-pub record AreLinkedBefore (links : List Links) (diagnostics : List (List Diag)) (w : Workspace) (change : Change) : Type 0 where
+pub record AreLinkedBefore (links : List Links) (diagnostics : List (List Diag)) (w : Workspace) (change : FileChange) : Type 0 where
   pub within : change.file < length w
   pub text : List ℕ
-  pub links_are : links ≡ map (links_of (with_text w change.file text)) (enumerate_from 0 (with_text w change.file text))
+  pub links_are : links ≡ map (resolution_of (with_text w change.file text)) (enumerate_from 0 (with_text w change.file text))
   pub diagnostics_are : diagnostics ≡ map (diagnostics_of (with_text w change.file text)) (enumerate_from 0 (with_text w change.file text))
   pub differ : DifferAt (all_facts (with_text w change.file text)) (all_facts w) change

@@ -1,4 +1,3 @@
 pub mod Workspace
 pub mod Pieces
 pub mod Changes
-pub mod Laws

@@ -2,12 +2,12 @@
 use Rattle.std.specs.Prelude.{ℕ, List, ◌++◌, map, filter, slice_index_or, bytes_eq, [], position}
 use Rattle.std.specs.Option.{option_map_or}
 use Rattle.std.specs.List.{enumerate_from}
-use Rattle.proto_syntax.specs.Read.{value_tree}
-use Rattle.proto_facts.specs.declared.diagnostic.Diag.{Diag}
-use Rattle.proto_facts.specs.declared.fact.Decl.{Decl}
-use Rattle.proto_facts.specs.declared.fact.FileFacts.{FileFacts}
-use Rattle.proto_facts.specs.Facts.{facts_of}
-use Rattle.proto_facts.specs.Order.{in_order}
+use Rattle.syntax_tree.specs.Read.{value_tree}
+use Rattle.file_facts.specs.declared.diagnostic.Diag.{Diag}
+use Rattle.file_facts.specs.declared.fact.Decl.{Decl}
+use Rattle.file_facts.specs.declared.fact.FileFacts.{FileFacts}
+use Rattle.file_facts.specs.Facts.{facts_of}
+use Rattle.file_facts.specs.Order.{in_order}
 use Rattle.import_graph.specs.declared.paths.NamedFacts.{NamedFacts}
 use Rattle.proto_resolve.specs.declared.target.DeclRef.{DeclRef}
 use Rattle.proto_resolve.specs.declared.resolve.Links.{Links}
@@ -26,16 +26,16 @@ abbrev pub all_facts : Workspace → List NamedFacts
 all_facts w = map named_facts w
 
 -- the uses of names in a file, given its number, and what is wrong by what it sees
-abbrev pub links_of : Workspace → ℕ × (List ℕ × List ℕ) → Links
-links_of w file = resolved (all_facts w) file.0 file.1.1 (value_tree file.1.1)
+abbrev pub resolution_of : Workspace → ℕ × (List ℕ × List ℕ) → Links
+resolution_of w file = resolved (all_facts w) file.0 file.1.1 (value_tree file.1.1)
 
 -- what is wrong by itself and by what is seen: each once, in order
-abbrev pub listed : FileFacts → Links → List Diag
-listed facts links = in_order (facts.diags ++ links.diags)
+abbrev pub merged : FileFacts → Links → List Diag
+merged facts links = in_order (facts.diags ++ links.diags)
 
 -- all that is wrong in a file
 abbrev pub diagnostics_of : Workspace → ℕ × (List ℕ × List ℕ) → List Diag
-diagnostics_of w file = listed (facts_of file.1.1) (links_of w file)
+diagnostics_of w file = merged (facts_of file.1.1) (resolution_of w file)
 
 -- The analysis of a workspace: its paths; the facts of each file; all declarations, by path, then offset; the uses of
 -- names in each file, with what is wrong by what it sees; and all that is wrong in each file.
@@ -51,7 +51,7 @@ analysis w = record {
   paths = map (λ file. file.0) w;
   facts = map (λ file. facts_of file.1) w;
   decls = all_decls (all_facts w);
-  links = map (links_of w) (enumerate_from 0 w);
+  links = map (resolution_of w) (enumerate_from 0 w);
   diagnostics = map (diagnostics_of w) (enumerate_from 0 w);
 }
 

@@ -2,28 +2,28 @@
 ghost use Rattle.std.specs.Prelude.{◌≡◌, ◌≢◌, ◌<◌, List, false, length, map, slice_set, IfOk, IfSome, MatchOption, OnOk, IsTrue};
 ghost use Rattle.std.specs.List.{enumerate_from};
 ghost use Rattle.import_graph.specs.declared.paths.NamedFacts.{NamedFacts};
-ghost use Rattle.import_graph.specs.Links.{graph_of};
+ghost use Rattle.import_graph.specs.Imports.{graph_of};
 ghost use Rattle.import_graph.specs.Outlooks.{outlook};
 ghost use Rattle.proto_resolve.specs.Files.{facts_at};
 ghost use Rattle.proto_resolve.specs.Outlines.{import_outline};
-ghost use Rattle.proto_resolve.specs.Seen.{told, SeesTheSame, SeenLaw};
+ghost use Rattle.proto_resolve.specs.Seen.{exports, SeesTheSame, SeenLaw};
 ghost use Rattle.work_index.specs.Changes.{AreBefore, AreLinkedBefore, DifferAt, IsBefore};
 ghost use Rattle.work_index.specs.Pieces.{workspace_of};
-ghost use Rattle.work_index.specs.Workspace.{Workspace, all_facts, analysis, diagnostics_of, links_of};
+ghost use Rattle.work_index.specs.Workspace.{Workspace, all_facts, analysis, diagnostics_of, resolution_of};
 
-use crate::analyse::{diagnostics_of, links_of};
+use crate::analyse::{diagnostics_of, resolution_of};
 use crate::analysis::Analysis;
 use crate::file_work::{FileWork, facts_in};
-use import_graph::{Graph, look_alike};
+use file_facts::{Diag, FileFacts};
+use import_graph::{Graph, same_outlook};
 use piece_collector::Piece;
-use proto_facts::{Diag, FileFacts};
-use proto_resolve::{Index, Links, Table, import_alike, seen_law, tell_alike};
-use proto_syntax::Items;
+use proto_resolve::{Index, Links, Table, same_exports, same_imports, seen_law};
+use sqlite_items::Items;
 use std::alloc::{AllocError, Global};
 
 // What a change of one file's text may change for the other files.
 #[derive(Drop)]
-struct Change {
+struct FileChange {
     // The number of the file.
     file: usize,
     // Whether it says another thing than before to the files that see it.
@@ -33,19 +33,19 @@ struct Change {
 }
 
 // Whether the imports say of a file what they said before the change.
-fn looks_as_before(table: &Table, change: &Change, file: usize) -> Result<bool, AllocError>
+fn looks_as_before(table: &Table, change: &FileChange, file: usize) -> Result<bool, AllocError>
     requires file { file < length table.now }
     requires as_many { IfSome change.now.before (λ graph. length graph ≡ length table.now) }
     ensures { (old : List NamedFacts) → DifferAt old table.now change.now → IfOk result (λ same. IsTrue same → outlook (graph_of old) file ≡ outlook (graph_of table.now) file) }
 {
     match &change.before {
-        Some(before) => look_alike(before, table.graph(), file),
+        Some(before) => same_outlook(before, table.graph(), file),
         None => Ok(true),
     }
 }
 
 // Whether a file has to be linked again after a change.
-fn is_affected(table: &Table, change: &Change, file: usize) -> Result<bool, AllocError>
+fn is_affected(table: &Table, change: &FileChange, file: usize) -> Result<bool, AllocError>
     requires file { file < length table.now }
     requires as_many { IfSome change.now.before (λ graph. length graph ≡ length table.now) }
     ensures other { IfOk result (λ affected. affected ≡ false → file ≢ change.now.file) }
@@ -73,10 +73,10 @@ fn set_linked(
     requires file { file < length table.now }
     requires links { file < length links.old }
     requires diagnostics { file < length diagnostics.old }
-    ensures links { (w : Workspace) → table.now ≡ all_facts w → OnOk result (links.new ≡ slice_set links.old file (links_of w (file, (piece.now.path, piece.now.text)))) }
+    ensures links { (w : Workspace) → table.now ≡ all_facts w → OnOk result (links.new ≡ slice_set links.old file (resolution_of w (file, (piece.now.path, piece.now.text)))) }
     ensures diagnostics { (w : Workspace) → table.now ≡ all_facts w → OnOk result (diagnostics.new ≡ slice_set diagnostics.old file (diagnostics_of w (file, (piece.now.path, piece.now.text)))) }
 {
-    let found = links_of(alloc, table, file, piece)?;
+    let found = resolution_of(alloc, table, file, piece)?;
     diagnostics.set(file, diagnostics_of(alloc, piece, &found)?);
     links.set(file, found);
     Ok(())
@@ -86,7 +86,7 @@ fn set_linked(
 fn relink(
     alloc: Global,
     table: &Table,
-    change: &Change,
+    change: &FileChange,
     pieces: &[Piece<FileWork>],
     links: &mut Items<Links>,
     diagnostics: &mut Items<Items<Diag>>,
@@ -94,7 +94,7 @@ fn relink(
     requires table { table.now ≡ all_facts (workspace_of pieces.now) }
     requires before { AreLinkedBefore links.old diagnostics.old (workspace_of pieces.now) change.now }
     requires law { SeenLaw }
-    ensures links { OnOk result (links.new ≡ map (links_of (workspace_of pieces.now)) (enumerate_from 0 (workspace_of pieces.now))) }
+    ensures links { OnOk result (links.new ≡ map (resolution_of (workspace_of pieces.now)) (enumerate_from 0 (workspace_of pieces.now))) }
     ensures diagnostics { OnOk result (diagnostics.new ≡ map (diagnostics_of (workspace_of pieces.now)) (enumerate_from 0 (workspace_of pieces.now))) }
 {
     for (file, piece) in pieces.iter().enumerate() {
@@ -118,7 +118,7 @@ fn table_after(
 ) -> Result<(Table, Option<Graph>), AllocError>
     requires before { AreBefore table (workspace_of pieces.now) changed }
     requires imports { imports_differ ≡ false → import_outline (facts_at (all_facts (workspace_of pieces.now)) changed) ≡ import_outline (facts_at table changed) }
-    requires quiet { tells ≡ false → told (facts_at (all_facts (workspace_of pieces.now)) changed) ≡ told (facts_at table changed) }
+    requires quiet { tells ≡ false → exports (facts_at (all_facts (workspace_of pieces.now)) changed) ≡ exports (facts_at table changed) }
     ensures table { IfOk result (λ after. after.0 ≡ all_facts (workspace_of pieces.now)) }
     ensures graph { IfOk result (λ after. MatchOption after.1 (imports_differ ≡ false) (λ graph. graph ≡ graph_of table)) }
 {
@@ -161,10 +161,10 @@ pub fn analyse_again(
         mut diagnostics,
     } = earlier;
     let facts = facts_at(pieces, changed);
-    let imports_differ = !import_alike(facts, table.facts(changed));
-    let tells = !tell_alike(facts, table.facts(changed));
+    let imports_differ = !same_imports(facts, table.facts(changed));
+    let tells = !same_exports(facts, table.facts(changed));
     let (table, before) = table_after(alloc, table, changed, imports_differ, tells, pieces)?;
-    let change = Change {
+    let change = FileChange {
         file: changed,
         tells,
         before,

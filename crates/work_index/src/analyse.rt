@@ -1,18 +1,18 @@
 // The analysis of a workspace.
 ghost use Rattle.std.specs.Prelude.{◌≡◌, ◌<◌, ◌++◌, [], ◌∷◌, length, map, IfOk, OnOk};
 ghost use Rattle.std.specs.List.{enumerate_from};
-ghost use Rattle.proto_facts.specs.Facts.{facts_of};
+ghost use Rattle.file_facts.specs.Facts.{facts_of};
 ghost use Rattle.piece_collector.specs.Board.{Ascends};
 ghost use Rattle.work_index.specs.Pieces.{workspace_of};
-ghost use Rattle.work_index.specs.Workspace.{Workspace, all_facts, analysis, links_of, listed, diagnostics_of};
+ghost use Rattle.work_index.specs.Workspace.{Workspace, all_facts, analysis, resolution_of, merged, diagnostics_of};
 
 use crate::analysis::Analysis;
 use crate::file_work::{FileWork, facts_in, tree_in};
-use crate::index::table_of;
+use crate::table_of::table_of;
+use file_facts::{Diag, Name, in_order};
 use piece_collector::Piece;
-use proto_facts::{Diag, Name, in_order};
 use proto_resolve::{Links, Table, resolve_file};
-use proto_syntax::Items;
+use sqlite_items::Items;
 use std::alloc::{AllocError, Global};
 
 // The paths of pieces.
@@ -27,25 +27,25 @@ fn paths_of(alloc: Global, pieces: &[Piece<FileWork>]) -> Result<Items<Name>, Al
 }
 
 // What the names of a file of the table mean, and what is wrong in it by what it sees.
-pub(crate) fn links_of(
+pub fn resolution_of(
     alloc: Global,
     table: &Table,
     file: usize,
     piece: &Piece<FileWork>,
 ) -> Result<Links, AllocError>
     requires { file < length table.now }
-    ensures { (w : Workspace) → table.now ≡ all_facts w → IfOk result (λ links. links ≡ links_of w (file, (piece.now.path, piece.now.text))) }
+    ensures { (w : Workspace) → table.now ≡ all_facts w → IfOk result (λ links. links ≡ resolution_of w (file, (piece.now.path, piece.now.text))) }
 {
     resolve_file(alloc, table, file, piece.text(), tree_in(piece))
 }
 
 // All that is wrong in a file, by itself and by what it sees.
-pub(crate) fn diagnostics_of(
+pub fn diagnostics_of(
     alloc: Global,
     piece: &Piece<FileWork>,
     links: &Links,
 ) -> Result<Items<Diag>, AllocError>
-    ensures { IfOk result (λ diags. diags ≡ listed (facts_of piece.now.text) links.now) }
+    ensures { IfOk result (λ diags. diags ≡ merged (facts_of piece.now.text) links.now) }
 {
     let mut found = Items::from_slice(alloc, facts_in(piece).diags.as_slice())?;
     'links: for diag in links.diags.as_slice() {
@@ -64,10 +64,10 @@ fn push_linked(
     diagnostics: &mut Items<Items<Diag>>,
 ) -> Result<(), AllocError>
     requires { file < length table.now }
-    ensures links { (w : Workspace) → table.now ≡ all_facts w → OnOk result (links.new ≡ links.old ++ links_of w (file, (piece.now.path, piece.now.text)) ∷ []) }
+    ensures links { (w : Workspace) → table.now ≡ all_facts w → OnOk result (links.new ≡ links.old ++ resolution_of w (file, (piece.now.path, piece.now.text)) ∷ []) }
     ensures diagnostics { (w : Workspace) → table.now ≡ all_facts w → OnOk result (diagnostics.new ≡ diagnostics.old ++ diagnostics_of w (file, (piece.now.path, piece.now.text)) ∷ []) }
 {
-    let found = links_of(alloc, table, file, piece)?;
+    let found = resolution_of(alloc, table, file, piece)?;
     diagnostics.push(diagnostics_of(alloc, piece, &found)?)?;
     links.push(found)
 }
@@ -81,7 +81,7 @@ fn push_all_linked(
     diagnostics: &mut Items<Items<Diag>>,
 ) -> Result<(), AllocError>
     requires { table.now ≡ all_facts (workspace_of pieces.now) }
-    ensures links { OnOk result (links.new ≡ links.old ++ map (links_of (workspace_of pieces.now)) (enumerate_from 0 (workspace_of pieces.now))) }
+    ensures links { OnOk result (links.new ≡ links.old ++ map (resolution_of (workspace_of pieces.now)) (enumerate_from 0 (workspace_of pieces.now))) }
     ensures diagnostics { OnOk result (diagnostics.new ≡ diagnostics.old ++ map (diagnostics_of (workspace_of pieces.now)) (enumerate_from 0 (workspace_of pieces.now))) }
 {
     for (file, piece) in pieces.iter().enumerate() {

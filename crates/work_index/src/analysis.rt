@@ -1,10 +1,10 @@
 // What is known of a workspace.
 ghost use Rattle.std.specs.Prelude.{◌≡◌, ◌<◌, [], length, Some, bytes_eq, position, slice_index_or};
 
+use file_facts::{Diag, FileFacts, Name};
 use import_graph::FileNo;
-use proto_facts::{Diag, FileFacts, Name};
 use proto_resolve::{DeclRef, Index, Links, Table};
-use proto_syntax::Items;
+use sqlite_items::Items;
 use std::marker::Model;
 
 /// What is known of a workspace: the facts of each file, all declarations, what the names of each file mean, and what is

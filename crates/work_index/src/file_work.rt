@@ -1,13 +1,15 @@
 // The work on one file.
 ghost use Rattle.std.specs.Prelude.{◌≡◌, IfOk};
-ghost use Rattle.proto_facts.specs.Facts.{facts_of};
-ghost use Rattle.proto_syntax.specs.Read.{read, value_tree};
+ghost use Rattle.file_facts.specs.Facts.{facts_of};
+ghost use Rattle.syntax_tree.specs.Read.{read, value_tree};
 
+use file_facts::FileFacts;
 use piece_collector::{Piece, Work};
-use proto_facts::{FileFacts, facts};
+use proto_facts::facts;
 use proto_lex::lex;
-use proto_syntax::{FileTree, parse};
+use proto_syntax::parse;
 use std::alloc::{AllocError, Global};
+use syntax_tree::FileTree;
 
 // How long a text may be that is analysed, in bytes.
 const MAX_ANALYSED: usize = 16_777_216;
@@ -38,12 +40,12 @@ impl FileWork {
 
 impl Work for FileWork {
     ghost use Rattle.std.specs.Prelude.{◌≡◌};
-    ghost use Rattle.proto_facts.specs.Facts.{facts_of};
-    ghost use Rattle.proto_syntax.specs.Read.{value_tree};
+    ghost use Rattle.file_facts.specs.Facts.{facts_of};
+    ghost use Rattle.syntax_tree.specs.Read.{value_tree};
 
     type Out = FileOut;
 
-    ghost stands = { λ out text. (out.tree ≡ value_tree text) × (out.facts ≡ facts_of text) };
+    ghost is_product_of = { λ out text. (out.tree ≡ value_tree text) × (out.facts ≡ facts_of text) };
 
     fn work(&self, text: &str) -> Result<FileOut, AllocError> {
         let tree = tree_of(self.alloc, text)?;
@@ -72,14 +74,14 @@ fn tree_of(alloc: Global, text: &str) -> Result<FileTree, AllocError>
 }
 
 // The tree of a piece's text.
-pub(crate) fn tree_in(piece: &Piece<FileWork>) -> &FileTree
+pub fn tree_in(piece: &Piece<FileWork>) -> &FileTree
     ensures { result.now ≡ value_tree piece.now.text }
 {
     &piece.out().tree
 }
 
 // The facts of a piece's text.
-pub(crate) fn facts_in(piece: &Piece<FileWork>) -> &FileFacts
+pub fn facts_in(piece: &Piece<FileWork>) -> &FileFacts
     ensures { result.now ≡ facts_of piece.now.text }
 {
     &piece.out().facts

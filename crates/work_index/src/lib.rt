@@ -2,18 +2,16 @@
 //!
 //! [`FileWork`] is the work on one file, whose product depends on its text alone; [`analyse_here`] links the products of all
 //! files. What the analysis of a workspace is, is defined in specs/Workspace.antt as a function of the list of paths and
-//! texts; the products save time and take no part in it. The law `uses_of_names` says which uses the names of its files have.
+//! texts; the products save time and take no part in it.
 #![tactic(auto)]
 
 mod again;
 mod analyse;
 mod analysis;
 mod file_work;
-mod index;
-mod laws;
+mod table_of;
 
 pub use again::analyse_again;
 pub use analyse::analyse_here;
 pub use analysis::Analysis;
 pub use file_work::{FileOut, FileWork};
-pub use laws::uses_of_names;

@@ -52,7 +52,7 @@ fn analysed_again(
 }
 
 // A change of the text at a path, given the number of its file in path order, and all that is wrong after it.
-struct Change {
+struct FileChange {
     files: &'static [(&'static str, &'static str)],
     number: usize,
     path: &'static str,
@@ -61,7 +61,11 @@ struct Change {
 }
 
 // The pieces after a change.
-fn pieces_after(rt: &impl Abort, alloc: Global, change: &Change) -> Result<Lent<FileWork>, Fail> {
+fn pieces_after(
+    rt: &impl Abort,
+    alloc: Global,
+    change: &FileChange,
+) -> Result<Lent<FileWork>, Fail> {
     let mut board = board_of(alloc, change.files)?;
     put(&mut board, alloc, change.path, change.text)?;
     assert!(rt; board.is_complete());
@@ -69,7 +73,7 @@ fn pieces_after(rt: &impl Abort, alloc: Global, change: &Change) -> Result<Lent<
 }
 
 // What is said after a change; nothing where more than one text differs.
-fn said_again(rt: &impl Abort, alloc: Global, change: &Change) -> Result<String, Fail> {
+fn said_again(rt: &impl Abort, alloc: Global, change: &FileChange) -> Result<String, Fail> {
     let before = pieces_of(rt, alloc, change.files)?;
     let after = pieces_after(rt, alloc, change)?;
     let mut line = String::new(alloc);
@@ -79,13 +83,13 @@ fn said_again(rt: &impl Abort, alloc: Global, change: &Change) -> Result<String,
     Ok(line)
 }
 
-fn check_change(rt: &impl Abort, alloc: Global, change: &Change) -> Result<(), Fail> {
+fn check_change(rt: &impl Abort, alloc: Global, change: &FileChange) -> Result<(), Fail> {
     let line = said_again(rt, alloc, change)?;
     assert_eq!(rt; line.as_str(), change.wanted);
     Ok(())
 }
 
-fn check_changes(rt: &impl Abort, alloc: Global, changes: &[Change]) -> Result<(), Fail> {
+fn check_changes(rt: &impl Abort, alloc: Global, changes: &[FileChange]) -> Result<(), Fail> {
     for change in changes {
         check_change(rt, alloc, change)?;
     }
@@ -93,15 +97,15 @@ fn check_changes(rt: &impl Abort, alloc: Global, changes: &[Change]) -> Result<(
 }
 
 // Changes that tell the other files nothing new.
-const QUIET: &[Change] = &[
-    Change {
+const QUIET: &[FileChange] = &[
+    FileChange {
         files: CHAIN,
         number: 3,
         path: "d.proto",
         text: "S||message D { }|",
         wanted: "a.proto 4:2-3 401;b.proto;c.proto;d.proto;",
     },
-    Change {
+    FileChange {
         files: CHAIN,
         number: 0,
         path: "a.proto",
@@ -128,22 +132,22 @@ const RENAMED: &[(&str, &str)] = &[
 
 // Changes of what is declared: in a file that is seen through another, in one that no other file sees, and a name that is declared
 // twice from then on.
-const DECLARATIONS: &[Change] = &[
-    Change {
+const DECLARATIONS: &[FileChange] = &[
+    FileChange {
         files: CHAIN,
         number: 2,
         path: "c.proto",
         text: "S|import \"d.proto\";|message E { D d = 1; }|",
         wanted: "a.proto 3:2-3 401 4:2-3 401;b.proto;c.proto;d.proto;",
     },
-    Change {
+    FileChange {
         files: CHAIN,
         number: 0,
         path: "a.proto",
         text: "S|import \"b.proto\";|message A { C c = 1; }|",
         wanted: "a.proto;b.proto;c.proto;d.proto;",
     },
-    Change {
+    FileChange {
         files: CHAIN,
         number: 3,
         path: "d.proto",
@@ -158,8 +162,8 @@ fn changed_declarations(rt: HostRuntime) -> Result<(), Fail> {
 }
 
 // Changes of a declaration's kind and of a package, each alone and with what is declared.
-const MEANINGS: &[Change] = &[
-    Change {
+const MEANINGS: &[FileChange] = &[
+    FileChange {
         files: &[
             (
                 "a.proto",
@@ -172,7 +176,7 @@ const MEANINGS: &[Change] = &[
         text: "S|enum M { Z = 0; }|",
         wanted: "a.proto 2:19-20 402 2:31-32 402;b.proto;",
     },
-    Change {
+    FileChange {
         files: &[
             (
                 "a.proto",
@@ -185,7 +189,7 @@ const MEANINGS: &[Change] = &[
         text: "S|package p;|message M { }|",
         wanted: "a.proto 2:12-17 401;b.proto;",
     },
-    Change {
+    FileChange {
         files: &[
             (
                 "a.proto",
@@ -198,7 +202,7 @@ const MEANINGS: &[Change] = &[
         text: "S|enum M { }|",
         wanted: "a.proto 2:19-20 402 2:31-32 402;b.proto 1:5-6 308;",
     },
-    Change {
+    FileChange {
         files: &[
             ("a.proto", "S|import \"b.proto\";|message p { }|"),
             ("b.proto", "S|package q;|"),
@@ -216,36 +220,36 @@ fn changed_meanings(rt: HostRuntime) -> Result<(), Fail> {
 }
 
 // Changes of imports, and of whether a file is analysed.
-const IMPORTS: &[Change] = &[
-    Change {
+const IMPORTS: &[FileChange] = &[
+    FileChange {
         files: CHAIN,
         number: 1,
         path: "b.proto",
         text: "S|import \"c.proto\";|",
         wanted: "a.proto 3:2-3 401 4:2-3 401;b.proto;c.proto;d.proto;",
     },
-    Change {
+    FileChange {
         files: CHAIN,
         number: 2,
         path: "c.proto",
         text: "S|import public \"d.proto\";|message C { D d = 1; }|",
         wanted: "a.proto;b.proto;c.proto;d.proto;",
     },
-    Change {
+    FileChange {
         files: CHAIN,
         number: 3,
         path: "d.proto",
         text: "syntax = \"proto2\";|message D { }|",
         wanted: "a.proto;b.proto;c.proto;d.proto 0:0-18 317;",
     },
-    Change {
+    FileChange {
         files: CHAIN,
         number: 3,
         path: "d.proto",
         text: "S|import \"a.proto\";|message D { }|",
         wanted: "a.proto 1:7-16 404 4:2-3 401;b.proto 1:14-23 404;c.proto 1:7-16 404;d.proto 1:7-16 404;",
     },
-    Change {
+    FileChange {
         files: CHAIN,
         number: 2,
         path: "c.proto",

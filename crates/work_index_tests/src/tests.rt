@@ -4,13 +4,14 @@
 ghost use Rattle.std.specs.Prelude.{◌≡◌, false, IfOk};
 ghost use Rattle.piece_collector.specs.Board.{Ascends};
 
+use analysis_laws::{names_in_order, uses_in_order, uses_of_names};
 use piece_collector::{Board, BoardFault, Job, Lent, Piece};
 use proto_facts::Diag;
 use proto_resolve::DeclRef;
 use std::alloc::{AllocError, Global};
 use std::process::Abort;
 use std::test::Fail;
-use work_index::{Analysis, FileWork, analyse_here, uses_of_names};
+use work_index::{Analysis, FileWork, analyse_here};
 
 fn text_of(alloc: Global, row: &str) -> Result<String, AllocError> {
     let mut text = String::new(alloc);
@@ -294,6 +295,8 @@ const NAMES: &[Workspace] = &[
 
 #[test]
 fn names(rt: HostRuntime) -> Result<(), Fail> {
+    names_in_order();
+    uses_in_order();
     uses_of_names();
     check_all(&rt, rt.alloc(), NAMES)
 }

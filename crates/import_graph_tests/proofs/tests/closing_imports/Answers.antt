@@ -1,6 +1,6 @@
 use Rattle.std.proofs.Common.{◌≡◌, ◌<◌, length, get_or, ap, arith}
-use Rattle.import_graph.specs.Links.{graph_of, links_at}
-use Rattle.import_graph.proofs.Linked.{links_counted}
+use Rattle.import_graph.specs.Imports.{graph_of, links_at}
+use Rattle.import_graph.proofs.ImportEdges.{links_counted}
 use Rattle.import_graph_tests.proofs.tests.closing_imports.Goals as goal
 
 pub closes_cycle-requires-clause-import : goal.closes_cycle-requires-clause-import

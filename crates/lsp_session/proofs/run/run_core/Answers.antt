@@ -7,7 +7,7 @@ use Rattle.lsp_session.proofs.run.run_core.Goals as goal
 
 pub loop-event-init : goal.loop-event-init
 loop-event-init c = record {
-  knows = knows-none c.args.config (core_state c.in_ok-core.core) c.in_ok-core.ensures.stands;
+  knows = knows-none c.args.config (core_state c.in_ok-core.core) c.in_ok-core.ensures.is_after;
   replied = c.new-replies.ensures.items ∙ sym (ap (λ r. r.replies) (session-none c.args.config));
   counted = refl;
   within = omega arith;

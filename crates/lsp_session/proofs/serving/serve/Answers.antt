@@ -14,7 +14,7 @@ pub loop-turn-init : goal.loop-turn-init
 loop-turn-init g c =
     let config = c.args.config in
     let core = core_state c.in-Ok.core in
-    let knows = knows-none config core c.in-Ok.ensures.stands in
+    let knows = knows-none config core c.in-Ok.ensures.is_after in
     record {
       goes_on = c.requires;
       not_exited = ap (λ s. is_exited s.phase) (knows-state config core _ knows ∙ ap (λ r. r.state) (session-none config));

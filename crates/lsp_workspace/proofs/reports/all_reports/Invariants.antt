@@ -10,5 +10,5 @@ use Rattle.lsp_workspace.proofs.reports.all_reports.Given as goal
 -- what is there and what is left are all
 abbrev pub invariant-loop-number : goal.invariant-loop-number
 invariant-loop-number l =
-    let report = numbered_report (root_text l.root) (files_view l.files.entries) (analysis l.linked) in
+    let report = numbered_report (root_text l.root) (files_view l.files.entries) (analysis l.snapshot) in
     map document_view l.reports.items ++ made_from report l.number (drop l.number l.pieces) ≡ made_from report 0 l.pieces

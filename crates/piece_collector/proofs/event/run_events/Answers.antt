@@ -11,7 +11,7 @@ loop-event-preserved g c =
     record {
       here = c.step.ensures.here;
       parts = joined c.loop-event.yielded (c.in-Some.event ∷ []) (into_iter_items c.next.new.self) ∙ (ap (λ l. c.loop-event.yielded ++ l) (sym next) ∙ c.loop-event.invariant.parts);
-      ran = λ o h s. ran_more event_of o h c.loop-event.yielded c.in-Some.event c.loop-event.board c.step.new.board c.loop-event.verdicts.items c.step.new.verdicts.items (c.loop-event.invariant.ran o h s) c.in_ok-step.ensures.stands c.in_ok-step.ensures.answer;
+      ran = λ o h s. ran_more event_of o h c.loop-event.yielded c.in-Some.event c.loop-event.board c.step.new.board c.loop-event.verdicts.items c.step.new.verdicts.items (c.loop-event.invariant.ran o h s) c.in_ok-step.ensures.is_after c.in_ok-step.ensures.answer;
     }
 
 pub returns-in_err-step-clause-err : goal.returns-in_err-step-clause-err

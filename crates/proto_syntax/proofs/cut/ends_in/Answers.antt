@@ -1,5 +1,5 @@
 use Rattle.std.proofs.Common.{ap, sym, ◌∙◌}
-use Rattle.proto_syntax.specs.Lexeme.{is}
+use Rattle.syntax_tree.specs.Lexeme.{is}
 use Rattle.proto_syntax.proofs.CutLemmas.{ends_in-last}
 use Rattle.proto_syntax.proofs.cut.ends_in.Goals as goal
 

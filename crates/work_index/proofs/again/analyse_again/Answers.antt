@@ -1,12 +1,12 @@
 use Rattle.std.proofs.Common.{◌≡◌, map, sym, ap, ◌∙◌, false, not}
 use Rattle.std.proofs.lemmas.Simd.{map-map}
-use Rattle.import_graph.specs.Links.{graph_of}
+use Rattle.import_graph.specs.Imports.{graph_of}
 use Rattle.proto_resolve.specs.Files.{facts_at}
 use Rattle.proto_resolve.specs.Outlines.{import_outline}
-use Rattle.proto_resolve.specs.Seen.{told}
+use Rattle.proto_resolve.specs.Seen.{exports}
 use Rattle.work_index.specs.Changes.{with_text}
 use Rattle.work_index.specs.Pieces.{workspace_of}
-use Rattle.work_index.specs.Workspace.{all_facts, links_of, diagnostics_of}
+use Rattle.work_index.specs.Workspace.{all_facts, resolution_of, diagnostics_of}
 use Rattle.work_index.proofs.Changed.{differ, kept_as, not_false, parts, paths_before}
 use Rattle.work_index.proofs.Steps.{as_long, paths_as_long, paths_are, is_analysis}
 use Rattle.work_index.proofs.again.analyse_again.Goals as goal
@@ -29,16 +29,16 @@ relink-requires-clause-before c =
     let of = parts inside.table inside.paths inside.links inside.diagnostics b c.earlier.invariant.3 (c.earlier.view_is ∙ was.is) in
     let before : c.facts.result.now ≡ facts_at (all_facts b) file = c.facts.ensures ∙ ap (λ files. facts_at files file) of.table_is in
     let before' : c.facts-2.result.now ≡ facts_at (all_facts b) file = c.facts-2.ensures ∙ ap (λ files. facts_at files file) of.table_is in
-    let alike = c.import_alike-imports_differ.result in
+    let alike = c.same_imports-imports_differ.result in
     let imports : not alike ≡ false → import_outline (facts_at (all_facts w) file) ≡ import_outline (facts_at (all_facts b) file) =
-    λ still. ap import_outline (sym c.facts_at-facts.ensures) ∙ c.import_alike-imports_differ.ensures.0 (not_false alike still) ∙ ap import_outline before in record {
+    λ still. ap import_outline (sym c.facts_at-facts.ensures) ∙ c.same_imports-imports_differ.ensures.0 (not_false alike still) ∙ ap import_outline before in record {
       within = was.within;
       text = was.text;
       links_are = of.links_are;
       diagnostics_are = of.diagnostics_are;
-      differ = differ w file was.text c.in_ok-table.before (not c.tell_alike-tells.result) was.within
+      differ = differ w file was.text c.in_ok-table.before (not c.same_exports-tells.result) was.within
           (kept_as c.in_ok-table.before (not alike ≡ false) _ (graph_of inside.table) (graph_of (all_facts b)) imports (ap graph_of of.table_is) c.in_ok-table.ensures.graph)
-          (λ still. ap told (sym c.facts_at-facts.ensures) ∙ c.tell_alike-tells.ensures.0 (not_false c.tell_alike-tells.result still) ∙ ap told before');
+          (λ still. ap exports (sym c.facts_at-facts.ensures) ∙ c.same_exports-tells.ensures.0 (not_false c.same_exports-tells.result still) ∙ ap exports before');
     }
 
 pub invariant_of-result : goal.invariant_of-result
@@ -51,7 +51,7 @@ invariant_of-result c =
     let paths : inside.paths ≡ map (λ t. t.path) ts = of.paths_are ∙ paths_before w c.args.changed was.text was.within ∙ map-map (λ f. f.0) (λ t. (t.path, t.text)) ts in
     let all : c.in_ok-table.table ≡ all_facts w = c.in_ok-table.ensures.table in (
       paths_as_long ts inside.paths c.in_ok-table.table paths all,
-      as_long (links_of w) ts c.relink.new.links c.in_ok-table.table c.in_ok-relink.ensures.links all,
+      as_long (resolution_of w) ts c.relink.new.links c.in_ok-table.table c.in_ok-relink.ensures.links all,
       as_long (diagnostics_of w) ts c.relink.new.diagnostics c.in_ok-table.table c.in_ok-relink.ensures.diagnostics all,
       paths_are ts inside.paths c.in_ok-table.table paths all,
     )

@@ -2,7 +2,7 @@ use Rattle.std.proofs.Common.{◌≡◌, ◌≢◌, ◌<◌, ◌≤◌, length, 
 use Rattle.proto_resolve.specs.Seen.{SeesTheSame}
 use Rattle.work_index.specs.Changes.{DifferAt, with_text}
 use Rattle.work_index.specs.Pieces.{workspace_of}
-use Rattle.work_index.specs.Workspace.{all_facts, links_of, diagnostics_of}
+use Rattle.work_index.specs.Workspace.{all_facts, resolution_of, diagnostics_of}
 use Rattle.work_index.proofs.Changed.{kept_count, nothing, is_there, all_made, then_anew, then_kept, pieces_length, piece_at, before_length, links_stay, diagnostics_stay}
 use Rattle.work_index.proofs.again.relink.Goals as goal
 use Rattle.work_index.proofs.again.relink.Goals.{then-branch+in_ok-set_linked, else-branch}
@@ -19,7 +19,7 @@ set_linked-requires-clause-links c =
     let b = with_text w c.args.change.now.file c.requires.before.text in
     let n = c.loop-file.file in
     let there : n < length w = omega (arith, pieces_length c.args.pieces.now, c.loop-file-test.true) in
-    is_there (links_of b) (links_of w) b w n (before_length w c.args.change.now.file c.requires.before.text) c.args.links.now c.loop-file.links c.requires.before.links_are c.loop-file.invariant.links there
+    is_there (resolution_of b) (resolution_of w) b w n (before_length w c.args.change.now.file c.requires.before.text) c.args.links.now c.loop-file.links c.requires.before.links_are c.loop-file.invariant.links there
 
 pub set_linked-requires-clause-diagnostics : goal.set_linked-requires-clause-diagnostics
 set_linked-requires-clause-diagnostics c =
@@ -45,8 +45,8 @@ loop-file-preserved c =
     let old = c.loop-file in
     elim c.if-branch.branch [
       | then-branch+in_ok-set_linked s ↦ record {
-        links = then_anew (links_of b) (links_of w) b w n long c.args.links.now old.links was.links_are old.invariant.links there c.if-branch.links (links_of w (n, (piece.path, piece.text)))
-            (s.links-is ∙ s.in_ok-set_linked.ensures.links w c.requires.table) (ap (λ u. links_of w (n, u)) (sym at));
+        links = then_anew (resolution_of b) (resolution_of w) b w n long c.args.links.now old.links was.links_are old.invariant.links there c.if-branch.links (resolution_of w (n, (piece.path, piece.text)))
+            (s.links-is ∙ s.in_ok-set_linked.ensures.links w c.requires.table) (ap (λ u. resolution_of w (n, u)) (sym at));
         diagnostics = then_anew (diagnostics_of b) (diagnostics_of w) b w n long c.args.diagnostics.now old.diagnostics was.diagnostics_are old.invariant.diagnostics there c.if-branch.diagnostics (diagnostics_of w (n, (piece.path, piece.text)))
             (s.diagnostics-is ∙ s.in_ok-set_linked.ensures.diagnostics w c.requires.table) (ap (λ u. diagnostics_of w (n, u)) (sym at));
       }
@@ -54,7 +54,7 @@ loop-file-preserved c =
           let apart : n ≢ file = c.in_ok-is_affected.ensures.other s.if-branch.false in
           let differ : DifferAt (all_facts b) c.args.table.now c.args.change.now = rw c.requires.table was.differ in
           let sees : SeesTheSame (all_facts b) (all_facts w) n = rw c.requires.table at (c.in_ok-is_affected.ensures.same (all_facts b) differ s.if-branch.false) in record {
-            links = then_kept (links_of b) (links_of w) b w n long c.args.links.now old.links was.links_are old.invariant.links there c.if-branch.links s.links-is (links_stay w file was.text c.requires.law n there apart sees);
+            links = then_kept (resolution_of b) (resolution_of w) b w n long c.args.links.now old.links was.links_are old.invariant.links there c.if-branch.links s.links-is (links_stay w file was.text c.requires.law n there apart sees);
             diagnostics = then_kept (diagnostics_of b) (diagnostics_of w) b w n long c.args.diagnostics.now old.diagnostics was.diagnostics_are old.invariant.diagnostics there c.if-branch.diagnostics s.diagnostics-is (diagnostics_stay w file was.text c.requires.law n there apart sees);
           }
     ]
@@ -65,7 +65,7 @@ returns-clause-links c =
     let b = with_text w c.args.change.now.file c.requires.before.text in
     let n = c.loop-file.file in
     let end' : length w ≤ n = omega (arith, pieces_length c.args.pieces.now) in
-    all_made (links_of b) (links_of w) b w n (before_length w c.args.change.now.file c.requires.before.text) c.args.links.now c.loop-file.links c.requires.before.links_are c.loop-file.invariant.links end'
+    all_made (resolution_of b) (resolution_of w) b w n (before_length w c.args.change.now.file c.requires.before.text) c.args.links.now c.loop-file.links c.requires.before.links_are c.loop-file.invariant.links end'
 
 pub returns-clause-diagnostics : goal.returns-clause-diagnostics
 returns-clause-diagnostics c =

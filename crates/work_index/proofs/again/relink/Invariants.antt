@@ -1,12 +1,12 @@
 use Rattle.std.proofs.Common.{◌≡◌, ◌++◌, drop, take}
 use Rattle.work_index.specs.Pieces.{workspace_of}
-use Rattle.work_index.specs.Workspace.{links_of, diagnostics_of}
+use Rattle.work_index.specs.Workspace.{resolution_of, diagnostics_of}
 use Rattle.work_index.proofs.Changed.{made}
 use Rattle.work_index.proofs.again.relink.Given as goal
 
 -- those so far are linked, and the others are as they were
 abbrev pub invariant-loop-file : goal.invariant-loop-file
 invariant-loop-file l = record {
-  links : l.links ≡ take l.file (made (links_of (workspace_of l.pieces)) (workspace_of l.pieces)) ++ drop l.file l.fn.links;
+  links : l.links ≡ take l.file (made (resolution_of (workspace_of l.pieces)) (workspace_of l.pieces)) ++ drop l.file l.fn.links;
   diagnostics : l.diagnostics ≡ take l.file (made (diagnostics_of (workspace_of l.pieces)) (workspace_of l.pieces)) ++ drop l.file l.fn.diagnostics;
 }

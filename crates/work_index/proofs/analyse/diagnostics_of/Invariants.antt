@@ -1,5 +1,5 @@
 use Rattle.std.proofs.Common.{◌≡◌, ◌++◌, drop}
-use Rattle.proto_facts.specs.Facts.{facts_of}
+use Rattle.file_facts.specs.Facts.{facts_of}
 use Rattle.work_index.proofs.analyse.diagnostics_of.Given as goal
 
 -- what is found and what is left are all

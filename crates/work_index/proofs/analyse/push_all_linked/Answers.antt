@@ -1,5 +1,5 @@
 use Rattle.work_index.specs.Pieces.{workspace_of}
-use Rattle.work_index.specs.Workspace.{links_of, diagnostics_of}
+use Rattle.work_index.specs.Workspace.{resolution_of, diagnostics_of}
 use Rattle.work_index.proofs.Steps.{one_more}
 use Rattle.work_index.proofs.analyse.push_all_linked.Goals as goal
 
@@ -9,6 +9,6 @@ loop-file-preserved c =
     let w = workspace_of ts in
     let n = c.loop-file.file in
     let piece = c.index-pieces-file.result in (
-      one_more (links_of w) n ts piece _ _ _ c.loop-file-test.true c.index-pieces-file.is (c.in_ok-push_linked.ensures.links w c.requires) c.loop-file.invariant.0,
+      one_more (resolution_of w) n ts piece _ _ _ c.loop-file-test.true c.index-pieces-file.is (c.in_ok-push_linked.ensures.links w c.requires) c.loop-file.invariant.0,
       one_more (diagnostics_of w) n ts piece _ _ _ c.loop-file-test.true c.index-pieces-file.is (c.in_ok-push_linked.ensures.diagnostics w c.requires) c.loop-file.invariant.1,
     )

@@ -1,6 +1,6 @@
 use Rattle.std.proofs.Common.{◌≡◌, ◌<◌, ◌≤◌, ℕ, List, [], length, sym, refl, ◌∙◌, lt-ltb, le-ltb}
 use Rattle.std.proofs.lemmas.Result.{IfOk-weaker}
-use Rattle.proto_syntax.specs.Read.{read, value_tree}
+use Rattle.syntax_tree.specs.Read.{read, value_tree}
 use Rattle.work_index.proofs.file_work.tree_of.Goals as goal
 
 tree-long : (text : List ℕ) → 16777216 < length text → value_tree text ≡ read []

@@ -3,11 +3,11 @@ use Rattle.std.proofs.lemmas.Grind.{common_steps}
 use Rattle.std.specs.Cmp.{both_ways}
 use Rattle.import_graph.specs.Closures.{reaches}
 use Rattle.import_graph.specs.Components.{Descends}
-use Rattle.import_graph.specs.Links.{targets}
+use Rattle.import_graph.specs.Imports.{targets}
 use Rattle.import_graph.specs.Ties.{IsTied}
 use Rattle.import_graph.specs.Views.{Reaches}
 use Rattle.import_graph.proofs.Descents.{apart}
-use Rattle.import_graph.proofs.Linked.{imports_listed, walk_map}
+use Rattle.import_graph.proofs.ImportEdges.{imports_listed, walk_map}
 use Rattle.import_graph.proofs.SeesTest.{reaches_is}
 use Rattle.import_graph.proofs.Views.{Within}
 use Rattle.import_graph.proofs.graph.Graph.leads_back.Goals as goal

@@ -1,25 +1,25 @@
 use Rattle.std.proofs.Common.{◌≡◌, List, length, map, ◌∙◌, ap, refl, arith}
 use Rattle.std.proofs.lemmas.List.{take_all, length-map}
-use Rattle.import_graph.specs.Links.{graph_of, links_of, targets}
-use Rattle.import_graph.specs.declared.links.LinkedFile.{LinkedFile}
+use Rattle.import_graph.specs.Imports.{graph_of, imports_of, targets}
+use Rattle.import_graph.specs.declared.imports.FileImports.{FileImports}
 use Rattle.import_graph.specs.declared.paths.NamedFacts.{NamedFacts}
-use Rattle.import_graph.proofs.Linked.{graph_within}
+use Rattle.import_graph.proofs.ImportEdges.{graph_within}
 use Rattle.import_graph.proofs.Views.{imports_within}
 use Rattle.import_graph.proofs.graph.Graph.of.Goals as goal
 
 pub components_of-requires : goal.components_of-requires
 components_of-requires c =
-    let whole : c.loop-file.linked.items ≡ graph_of c.args.files.now = c.loop-file.invariant.linked
-    ∙ ap (λ (fs : List NamedFacts). map (λ f. links_of c.args.files.now f.facts) fs) (take_all _ c.args.files.now c.loop-file-test.false) in
-    let listed : c.as_slice-2.result.now ≡ map targets (graph_of c.args.files.now) = c.as_slice-2.ensures.value ∙ (c.loop-file.invariant.imports ∙ ap (λ (g : List LinkedFile). map targets g) whole) in
+    let whole : c.loop-file.file_imports.items ≡ graph_of c.args.files.now = c.loop-file.invariant.file_imports
+    ∙ ap (λ (fs : List NamedFacts). map (λ f. imports_of c.args.files.now f.facts) fs) (take_all _ c.args.files.now c.loop-file-test.false) in
+    let listed : c.as_slice-2.result.now ≡ map targets (graph_of c.args.files.now) = c.as_slice-2.ensures.value ∙ (c.loop-file.invariant.imports ∙ ap (λ (g : List FileImports). map targets g) whole) in
     rw listed (imports_within (graph_of c.args.files.now) (graph_within c.args.files.now))
 
 pub invariant_of-result : goal.invariant_of-result
 invariant_of-result c =
-    let whole : c.loop-file.linked.items ≡ graph_of c.args.files.now = c.loop-file.invariant.linked
-    ∙ ap (λ (fs : List NamedFacts). map (λ f. links_of c.args.files.now f.facts) fs) (take_all _ c.args.files.now c.loop-file-test.false) in
-    let listed : c.as_slice-2.result.now ≡ map targets c.loop-file.linked.items = c.as_slice-2.ensures.value ∙ c.loop-file.invariant.imports in
-    let long : length c.as_slice-2.result.now ≡ length c.loop-file.linked.items = rw (listed, length-map) refl in
+    let whole : c.loop-file.file_imports.items ≡ graph_of c.args.files.now = c.loop-file.invariant.file_imports
+    ∙ ap (λ (fs : List NamedFacts). map (λ f. imports_of c.args.files.now f.facts) fs) (take_all _ c.args.files.now c.loop-file-test.false) in
+    let listed : c.as_slice-2.result.now ≡ map targets c.loop-file.file_imports.items = c.as_slice-2.ensures.value ∙ c.loop-file.invariant.imports in
+    let long : length c.as_slice-2.result.now ≡ length c.loop-file.file_imports.items = rw (listed, length-map) refl in
     record {
       within = rw whole (graph_within c.args.files.now);
       complete = rw c.as_slice.ensures.value at c.in_ok-complete.ensures;

@@ -1,6 +1,6 @@
 use Rattle.std.proofs.Common.{◌≡◌, ◌↔◌, ◌∷◌, [], List, ap, map, ◌∙◌, sym}
-use Rattle.import_graph.specs.declared.links.LinkedFile.{LinkedFile}
-use Rattle.import_graph.specs.Links.{targets}
+use Rattle.import_graph.specs.declared.imports.FileImports.{FileImports}
+use Rattle.import_graph.specs.Imports.{targets}
 use Rattle.import_graph.specs.Walks.{ReachedFrom}
 use Rattle.std.specs.Prelude.{IsTrue}
 use Rattle.std.specs.BTreeSet.{contains}
@@ -13,13 +13,13 @@ use Rattle.import_graph.proofs.graph.Graph.reaches.Goals as goal
 
 pub reached-requires-clause-next : goal.reached-requires-clause-next
 reached-requires-clause-next c =
-    let listed : c.as_slice.result.now ≡ map targets c.args.self.now = c.as_slice.ensures.value ∙ (c.self.invariant.imports ∙ ap (λ (g : List LinkedFile). map targets g) c.self.view_is) in
+    let listed : c.as_slice.result.now ≡ map targets c.args.self.now = c.as_slice.ensures.value ∙ (c.self.invariant.imports ∙ ap (λ (g : List FileImports). map targets g) c.self.view_is) in
     let within : Within c.args.self.now = rw c.self.view_is at c.self.invariant.within in
     rw listed (imports_within c.args.self.now within)
 
 found_is : goal.returns-clause-exact
 found_is c =
-    let listed : c.as_slice.result.now ≡ map targets c.args.self.now = c.as_slice.ensures.value ∙ (c.self.invariant.imports ∙ ap (λ (g : List LinkedFile). map targets g) c.self.view_is) in
+    let listed : c.as_slice.result.now ≡ map targets c.args.self.now = c.as_slice.ensures.value ∙ (c.self.invariant.imports ∙ ap (λ (g : List FileImports). map targets g) c.self.view_is) in
     let found : IsTrue (contains nat_cmp c.in_ok-seen.seen c.args.to) ↔ ReachedFrom (map targets c.args.self.now) (c.args.from ∷ []) c.args.to = rw listed at c.in_ok-seen.ensures.exact c.args.to in
     let by = reaches_listed c.args.self.now c.args.from c.args.to in
     (λ e. by.0 (found.0 (sym c.contains.ensures ∙ e)), λ walk. c.contains.ensures ∙ found.1 (by.1 walk))

@@ -35,8 +35,8 @@ returns-clause-back g c =
     (lent_texts c.self.inside.slots (map string_bytes c.in_ok-paths.paths.items) c.take_all.new.pieces.items c.self.inside.last c.self.inside.is_lent _ c.self.view_is c.requires.here c.in_ok-paths.ensures.ordered c.in_ok-paths.ensures.paths
     (subst Q c.in_ok-pieces.ensures.items c.take_all.ensures.taken) c.requires.full c.self.invariant.current))
 
-pub returns-clause-stands : goal.returns-clause-stands
-returns-clause-stands g c = λ o es s. stands_lent _ _ true o es (returns-clause-lent g c) s
+pub returns-clause-is_after : goal.returns-clause-is_after
+returns-clause-is_after g c = λ o es s. stands_lent _ _ true o es (returns-clause-lent g c) s
 
 pub returns-clause-texts : goal.returns-clause-texts
-returns-clause-texts g c = λ o es s. texts_of _ o es _ (returns-clause-stands g c o es s) (returns-clause-back g c)
+returns-clause-texts g c = λ o es s. texts_of _ o es _ (returns-clause-is_after g c o es s) (returns-clause-back g c)

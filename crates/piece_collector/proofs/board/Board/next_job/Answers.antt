@@ -11,16 +11,16 @@ pub returns-in_default-clause-first : goal.returns-in_default-clause-first
 returns-in_default-clause-first g c = λ o es s.
     first_of_index c.self.inside.slots c.self.inside.unheld c.self.inside.last c.self.inside.is_lent _ o es None c.self.view_is c.requires c.self.invariant.indexed c.first_job.ensures.ordered (rw c.in_default.is at c.in_ok-job.ensures.first) s
 
-pub returns-in_default-clause-stands : goal.returns-in_default-clause-stands
-returns-in_default-clause-stands g c = λ o es s.
+pub returns-in_default-clause-is_after : goal.returns-in_default-clause-is_after
+returns-in_default-clause-is_after g c = λ o es s.
     stands_none _ o es (first_of_index c.self.inside.slots c.self.inside.unheld c.self.inside.last c.self.inside.is_lent _ o es None c.self.view_is c.requires c.self.invariant.indexed c.first_job.ensures.ordered (rw c.in_default.is at c.in_ok-job.ensures.first) s) s
 
 pub returns-clause-first : goal.returns-clause-first
 returns-clause-first g c = λ o es s.
     first_of_index c.self.inside.slots c.self.inside.unheld c.self.inside.last c.self.inside.is_lent _ o es (Some c.in-Some.job.path) c.self.view_is c.requires c.self.invariant.indexed c.first_job.ensures.ordered (rw c.in-Some.is at c.in_ok-job.ensures.first) s
 
-pub returns-clause-stands : goal.returns-clause-stands
-returns-clause-stands g c = λ o es s.
+pub returns-clause-is_after : goal.returns-clause-is_after
+returns-clause-is_after g c = λ o es s.
     stands_given c.self.inside.slots c.set_out.new.slots c.self.inside.last c.self.inside.is_lent _ o es c.in-Some.job.path c.self.view_is c.requires
     (first_of_index c.self.inside.slots c.self.inside.unheld c.self.inside.last c.self.inside.is_lent _ o es (Some c.in-Some.job.path) c.self.view_is c.requires c.self.invariant.indexed c.first_job.ensures.ordered (rw c.in-Some.is at c.in_ok-job.ensures.first) s)
     (λ q. c.set_out.ensures.each q ∙ ap (λ w. done_at w (λ s. record s { is_out = true }) q (get_by_text c.self.inside.slots q)) c.path.ensures) s

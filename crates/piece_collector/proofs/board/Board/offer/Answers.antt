@@ -4,11 +4,11 @@ use Rattle.piece_collector.specs.declared.verdict.Verdict.TheVariants.{Taken}
 use Rattle.std.proofs.lemmas.Map.Text.{btree_set_updates_text}
 use Rattle.piece_collector.proofs.Current.{current_kept}
 use Rattle.piece_collector.proofs.Index.{index_kept}
-use Rattle.piece_collector.proofs.Stands.{stands_kept, stands_refused, offer_verdict}
+use Rattle.piece_collector.proofs.IsAfter.{stands_kept, stands_refused, offer_verdict}
 use Rattle.piece_collector.proofs.board.Board.offer.Goals as goal
 
-pub returns-then-ne-clause-stands : goal.returns-then-ne-clause-stands
-returns-then-ne-clause-stands g c = λ o es s.
+pub returns-then-ne-clause-is_after : goal.returns-then-ne-clause-is_after
+returns-then-ne-clause-is_after g c = λ o es s.
     stands_refused c.self.inside.slots c.self.inside.last c.self.inside.is_lent _ o es c.args.piece c.self.view_is c.requires (λ e. let t : c.judge_piece-verdict.result ≡ Taken = c.judge_piece-verdict.ensures ∙ e in search rules) s
 
 pub returns-then-ne-clause-verdict : goal.returns-then-ne-clause-verdict
@@ -25,8 +25,8 @@ invariant_of-self g c = record {
   ordered = c.keep.ensures.ordered;
 }
 
-pub returns-clause-stands : goal.returns-clause-stands
-returns-clause-stands g c = λ o es s.
+pub returns-clause-is_after : goal.returns-clause-is_after
+returns-clause-is_after g c = λ o es s.
     stands_kept c.self.inside.slots c.keep.new.slots c.self.inside.last c.self.inside.is_lent _ o es c.args.piece c.self.view_is c.requires (let t : c.judge_piece-verdict.result ≡ Taken = search rules in sym t ∙ c.judge_piece-verdict.ensures) c.keep.ensures.each s
 
 pub returns-clause-verdict : goal.returns-clause-verdict

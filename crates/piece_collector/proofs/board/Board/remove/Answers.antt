@@ -2,7 +2,7 @@ use Rattle.std.proofs.Common.{ap, sym, ◌∙◌, is_some, None}
 use Rattle.std.proofs.lemmas.Map.Text.{btree_map_updates_text, btree_set_updates_text}
 use Rattle.piece_collector.proofs.Current.{current_put}
 use Rattle.piece_collector.proofs.Index.{opened, index_removed}
-use Rattle.piece_collector.proofs.Stands.{stands_removed}
+use Rattle.piece_collector.proofs.IsAfter.{stands_removed}
 use Rattle.piece_collector.proofs.board.Board.remove.Goals as goal
 
 pub invariant_of-self : goal.invariant_of-self
@@ -15,8 +15,8 @@ invariant_of-self g c =
       ordered = c.remove-2.ensures.ordered;
     }
 
-pub returns-clause-stands : goal.returns-clause-stands
-returns-clause-stands g c = λ o es s.
+pub returns-clause-is_after : goal.returns-clause-is_after
+returns-clause-is_after g c = λ o es s.
     stands_removed c.self.inside.slots c.remove-2.new.self c.self.inside.last c.self.inside.is_lent _ o es c.args.path.now c.self.view_is c.requires
     (btree_map_updates_text _ c.self.inside.slots c.remove-2.new.self _ c.remove-2.ensures.updates) s
 

@@ -5,7 +5,7 @@ use Rattle.std.specs.Map.{update}
 use Rattle.std.proofs.lemmas.Map.Text.{btree_map_updates_text, btree_set_updates_text}
 use Rattle.piece_collector.proofs.Current.{current_same, current_put}
 use Rattle.piece_collector.proofs.Index.{index_grown, index_set}
-use Rattle.piece_collector.proofs.Stands.{stands_set}
+use Rattle.piece_collector.proofs.IsAfter.{stands_set}
 use Rattle.piece_collector.proofs.board.Board.set_text.Goals as goal
 
 pub invariant_of-self-in_err-insert-2 : goal.invariant_of-self-in_err-insert-2
@@ -28,8 +28,8 @@ invariant_of-self-2 g c =
       ordered = c.insert-2.ensures.ordered;
     }
 
-pub returns-clause-stands : goal.returns-clause-stands
-returns-clause-stands g c = λ o es s.
+pub returns-clause-is_after : goal.returns-clause-is_after
+returns-clause-is_after g c = λ o es s.
     stands_set c.self.inside.slots c.insert-2.new.self c.self.inside.last c.self.inside.is_lent _ o es (string_bytes c.args.path) (string_bytes c.args.text) c.self.view_is c.requires
     (λ q. btree_map_updates_text (string_bytes c.args.path) c.self.inside.slots c.insert-2.new.self _ c.in_ok-insert-2.ensures.updates q ∙ ap (λ x. update bytes_eq (get_by_text c.self.inside.slots) (string_bytes c.args.path) (Some x) q) c.new.ensures)
     s

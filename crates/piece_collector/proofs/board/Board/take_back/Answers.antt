@@ -21,5 +21,5 @@ returns-clause-here g c =
     (λ p. slot_seen c.self.inside.last c.restore_all.new.slots false p refl
     ∙ (back_at c.self.inside.slots c.restore_all.new.slots c.self.inside.last c.self.inside.is_lent _ _ c.self.view_is c.requires.lent c.requires.texts (λ q. c.restore_all.ensures.each q ∙ ap (λ ts. put_back ts q (get_by_text c.self.inside.slots q)) c.into_pieces.ensures.pieces) p).0)
 
-pub returns-clause-stands : goal.returns-clause-stands
-returns-clause-stands g c = λ o es s. stands_lent _ _ false o es (returns-clause-here g c) s
+pub returns-clause-is_after : goal.returns-clause-is_after
+returns-clause-is_after g c = λ o es s. stands_lent _ _ false o es (returns-clause-here g c) s

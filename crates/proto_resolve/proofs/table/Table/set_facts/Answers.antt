@@ -13,5 +13,5 @@ invariant_of-self c =
     let there : f < length files = rw seen at c.requires.within in
     let is : file ≡ get_or files f file = c.index_mut.ensures.value in
     let asks : map asking files ≡ map asking new = sym (keeps_asking files f file c.args.facts there is (rw seen at c.requires.imports)) in
-    let tells : map telling files ≡ map telling new = sym (keeps_telling files f file c.args.facts there is (rw seen at c.requires.told)) in
+    let tells : map telling files ≡ map telling new = sym (keeps_telling files f file c.args.facts there is (rw seen at c.requires.exports)) in
     (c.self.invariant.0 ∙ same_graph files new asks, c.self.invariant.1 ∙ same_decls files new tells, λ q. c.self.invariant.2 q ∙ same_named files new tells q, still_in_order files f file c.args.facts there is c.self.invariant.3)

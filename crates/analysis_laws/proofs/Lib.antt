@@ -1,0 +1,3 @@
+pub mod NamesOrder
+pub mod Components
+pub mod Uses

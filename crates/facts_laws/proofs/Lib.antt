@@ -1,0 +1,4 @@
+pub mod DeclOrder
+pub mod FactsLaws
+pub mod IdentifierLaws
+pub mod Nesting

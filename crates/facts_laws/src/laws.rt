@@ -1,0 +1,46 @@
+// Laws of diagnostics and of facts. Each is proved for all lists, texts and trees, and its function does nothing.
+ghost use Rattle.std.specs.List.Sorted.{IsStrictlyIncreasing};
+ghost use Rattle.std.specs.Prelude.{◌≡◌, ℕ, List, map};
+ghost use Rattle.syntax_tree.specs.declared.node.FileTree.{FileTree};
+ghost use Rattle.file_facts.specs.declared.diagnostic.Diag.{Diag};
+ghost use Rattle.file_facts.specs.declared.fact.FileFacts.{FileFacts};
+ghost use Rattle.file_facts.specs.declared.problem.Problem.{Problem};
+ghost use Rattle.file_facts.specs.Facts.{AreFacts, facts_in, facts_of};
+ghost use Rattle.file_facts.specs.Problems.{problem_order, variant_order};
+ghost use Rattle.file_facts.specs.Nesting.{NamesNest};
+ghost use Rattle.file_facts.specs.Order.{IsListOf, in_order as ordered};
+
+use syntax_laws::{identifiers_law, names_law, size_law};
+
+/// A law: the variants of `Problem` stand in the order of their numbers, and those of one number in that of their words.
+pub fn problems_in_order()
+    ensures { (a b : Problem) → variant_order a b ≡ problem_order a b }
+{}
+
+/// A law: `in_order` gives the one list that has each of the diagnostics once, in order, and no others.
+pub fn one_list_in_order()
+    ensures list { (all : List Diag) → IsListOf all (ordered all) }
+    ensures only { (all diags : List Diag) → IsListOf all diags → diags ≡ ordered all }
+{}
+
+/// A law: `facts` gives the one value that says of a text and a tree what its facts are.
+pub fn one_value_of_facts()
+    ensures value { (text : List ℕ) (tree : FileTree) → AreFacts text tree (facts_in text tree) }
+    ensures only { (text : List ℕ) (tree : FileTree) (f : FileFacts) → AreFacts text tree f → f ≡ facts_in text tree }
+{}
+
+/// A law: the declarations of a text stand in the order of their names: each name starts before the next one.
+pub fn decls_in_order()
+    ensures { (text : List ℕ) → IsStrictlyIncreasing (map (λ d. d.name_span.start) (facts_of text).decls) }
+{
+    names_law();
+}
+
+/// A law: the declarations of a text nest. Each full name that a declaration lies in is declared too, or is the package or one
+/// that the package lies in.
+pub fn names_nest()
+    ensures { (text : List ℕ) → NamesNest (facts_of text) }
+{
+    identifiers_law();
+    size_law();
+}

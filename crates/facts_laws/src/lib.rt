@@ -1,0 +1,15 @@
+//! Laws of the facts of Protocol Buffers texts (proto3), each a function that does nothing and whose contract is the law.
+//!
+//! `one_value_of_facts`: what the facts of a text are, as a relation, has one value. `one_list_in_order`: so has the order of
+//! diagnostics; `problems_in_order`: their kinds stand in the order of their numbers and words. `decls_in_order`: the
+//! declarations of a text stand by the offsets of their names; `names_nest`: so do their full names nest.
+//! `names_are_identifiers`: names are made of identifiers.
+#![tactic(auto)]
+
+mod identifier_laws;
+mod laws;
+
+pub use identifier_laws::names_are_identifiers;
+pub use laws::{
+    decls_in_order, names_nest, one_list_in_order, one_value_of_facts, problems_in_order,
+};

@@ -1,0 +1,60 @@
+-- The order of diagnostics is total, and a list in that order is the only one.
+use Rattle.std.proofs.Common.{◌≡◌, ◌∙◌, ◌==◌, ◌&&◌, Bool, true, ap, subst, List, rules, arith}
+use Rattle.std.specs.Cmp.{IsTotalOrder}
+use Rattle.std.specs.declared.cmp.Ordering.{Ordering}
+use Rattle.std.specs.declared.cmp.Ordering.TheVariants.{Equal}
+use Rattle.std.specs.Ordering.{eq_by_cmp, is_eq, nat_cmp, ordering_then}
+use Rattle.std.proofs.lemmas.Grind.{common_steps}
+use Rattle.std.proofs.lemmas.Bool.Decides.{nat_tests}
+use Rattle.file_facts.specs.Problems.{variant_order}
+use Rattle.file_facts.specs.Order.{order, in_order, IsListOf}
+use Rattle.file_facts.specs.declared.diagnostic.Diag.{Diag}
+use Rattle.file_facts.specs.contracts.diagnostic.DiagOrd.TheImpl.Laws.{total-law, matches_eq-law}
+use Rattle.file_facts.specs.contracts.problem.Problem.{the_type}
+use denote.Enum.Bare.{sameb, same_true}
+use Rattle.file_facts.proofs.ProblemOrder.{problem_order-is}
+use Rattle.file_facts.proofs.Ordered.{Among-from, Contains-from, one_list, sorted-each_once, among-each_once, among-from_each_once}
+
+-- the order that the code sorts by
+abbrev pub derived_order : Diag → Diag → Ordering
+derived_order a b = ordering_then (nat_cmp a.start b.start) (ordering_then (nat_cmp a.end b.end) (variant_order a.message b.message))
+
+pub order-is : derived_order ≡ order
+order-is = λ i a b. ordering_then (nat_cmp a.start b.start) (ordering_then (nat_cmp a.end b.end) (problem_order-is a.message b.message i))
+
+derived_total : IsTotalOrder derived_order
+derived_total = total-law
+
+pub order_total : IsTotalOrder order
+order_total = subst IsTotalOrder order-is derived_total
+
+abbrev pub same_diag : Diag → Diag → Bool
+same_diag a b = (a.start == b.start) && ((a.end == b.end) && sameb the_type a.message b.message)
+
+pub derived_ties : (x y : Diag) → same_diag x y ≡ eq_by_cmp derived_order x y
+derived_ties = matches_eq-law
+
+pub diag_ties : (x y : Diag) → same_diag x y ≡ eq_by_cmp order x y
+diag_ties = subst (λ (R : Diag → Diag → Ordering). (x y : Diag) → same_diag x y ≡ eq_by_cmp R x y) order-is derived_ties
+
+pub same_diags : (x y : Diag) → same_diag x y ≡ true → x ≡ y
+same_diags x y e =
+    let m : sameb the_type x.message y.message ≡ true → x.message ≡ y.message = same_true the_type (search rules) x.message y.message in
+    grind (arith, nat_tests, common_steps, m)
+
+pub tied : (x y : Diag) → order x y ≡ Equal → x ≡ y
+tied x y e = same_diags x y (diag_ties x y ∙ ap is_eq e)
+
+pub in_order-is_list : (all : List Diag) → IsListOf all (in_order all)
+in_order-is_list all = record {
+  ordered = sorted-each_once order_total tied all;
+  listed = λ d h. Contains-from (in_order all) d (among-each_once order_total tied all d (Among-from all d h));
+  no_other = λ d h. Contains-from all d (among-from_each_once order_total tied all d (Among-from (in_order all) d h));
+}
+
+pub only_list : (all diags : List Diag) → IsListOf all diags → diags ≡ in_order all
+only_list all diags is =
+    let own = in_order-is_list all in
+    one_list order_total tied diags (in_order all) is.ordered own.ordered
+    (λ z h. Among-from (in_order all) z (own.listed z (is.no_other z (Contains-from diags z h))))
+    (λ z h. Among-from diags z (is.listed z (own.no_other z (Contains-from (in_order all) z h))))

@@ -1,0 +1,3 @@
+pub mod DiagOrder
+pub mod ProblemOrder
+pub mod Ordered

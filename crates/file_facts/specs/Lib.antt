@@ -1,0 +1,12 @@
+pub mod Text
+pub mod Numbers
+pub mod Tree
+pub mod Problems
+pub mod Order
+pub mod Diags
+pub mod Decls
+pub mod Members
+pub mod Checks
+pub mod Facts
+pub mod IdentifierLaws
+pub mod Nesting

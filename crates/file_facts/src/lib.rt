@@ -1,0 +1,23 @@
+//! What a Protocol Buffers text (proto3) says by itself, as data, and what the facts of a text are.
+//!
+//! [`FileFacts`] has a file's language, package, imports and declarations, and its diagnostics. Which values these are for a
+//! text is defined in specs/Facts.antt. Each kind of diagnostic has one definition: 201 to 204 in specs/Diags.antt, 312 to
+//! 317 in specs/Facts.antt, the others in specs/Checks.antt. `in_order` puts diagnostics of whatever source into the order in
+//! which a file lists them. The facts are found by the crate `proto_facts`, the laws of these definitions are `facts_laws`.
+#![tactic(auto)]
+
+mod diagnostic;
+mod fact;
+mod name;
+mod part;
+mod problem;
+mod stated;
+mod text;
+
+pub use diagnostic::{Diag, in_order};
+pub use fact::{Decl, DeclKind, FileFacts, ImportFact, PackageFact, SyntaxFact};
+pub use name::Name;
+pub use part::{Interval, Member, Numbering, ReservedName};
+pub use problem::Problem;
+pub use stated::{StatedPackage, StatedSyntax};
+pub use text::{joined, text_at};

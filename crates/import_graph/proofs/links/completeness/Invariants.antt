@@ -1,6 +1,0 @@
-use Rattle.std.proofs.Common.{◌≡◌, take, map}
-use Rattle.import_graph.specs.Links.{is_complete_in}
-use Rattle.import_graph.proofs.links.completeness.Given as goal
-
-abbrev pub invariant-loop-file : goal.invariant-loop-file
-invariant-loop-file l = l.flags.items ≡ map (is_complete_in l.files) (take l.file-index l.files)

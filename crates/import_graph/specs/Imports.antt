@@ -1,0 +1,67 @@
+-- What the imports of files name.
+use Rattle.std.specs.Prelude.{◌≡◌, ℕ, List, [], Bool, true, false, Option, Some, None, slice_index_or, map, filter, length, vec_len, All, not}
+use Rattle.std.specs.List.{filter_map, list_all}
+use Rattle.file_facts.specs.declared.fact.FileFacts.{FileFacts}
+use Rattle.file_facts.specs.declared.fact.ImportFact.{ImportFact}
+use Rattle.file_facts.specs.declared.fact.SyntaxFact.{SyntaxFact}
+use Rattle.file_facts.specs.declared.fact.SyntaxFact.TheVariants.{Proto3, Opaque}
+use Rattle.import_graph.specs.declared.paths.NamedFacts.{NamedFacts}
+use Rattle.import_graph.specs.declared.imports.ImportEdge.{ImportEdge}
+use Rattle.import_graph.specs.declared.imports.FileImports.{FileImports}
+use Rattle.import_graph.specs.Paths.{file_named}
+use Rattle.import_graph.specs.Walks.{AllWithin}
+use Rattle.import_graph.specs.Components.{Descends}
+use Rattle.import_graph.specs.Ties.{IsTied}
+use Rattle.import_graph.specs.declared.components.Components.{Components}
+
+abbrev pub is_opaque : SyntaxFact → Bool
+is_opaque Proto3 = false
+is_opaque Opaque = true
+
+-- an import, with the file that it names
+abbrev pub edge_of : List NamedFacts → ImportFact → ImportEdge
+edge_of files i = record { target = file_named files i.path; is_public = i.is_public }
+
+abbrev pub imports_of : List NamedFacts → FileFacts → FileImports
+imports_of files facts = record { edges = map (edge_of files) facts.imports; is_opaque = is_opaque facts.syntax }
+
+-- what the imports of each file name
+abbrev pub graph_of : List NamedFacts → List FileImports
+graph_of files = map (λ f. imports_of files f.facts) files
+
+-- the imports of a file, by its number
+abbrev pub edges_at : List FileImports → ℕ → List ImportEdge
+edges_at graph f = slice_index_or (map (λ file. file.edges) graph) f []
+
+-- what an import names, by its number
+abbrev pub target_at : List FileImports → ℕ → ℕ → Option ℕ
+target_at graph f i = slice_index_or (map (λ l. l.target) (edges_at graph f)) i None
+
+-- whether an import's target is a file that is not opaque
+abbrev pub is_analysed : List FileImports → Option ℕ → Bool
+is_analysed graph None = false
+is_analysed graph (Some h) = not (slice_index_or (map (λ file. file.is_opaque) graph) h true)
+
+-- whether every import of a file names a file of the graph that is not opaque
+abbrev pub is_complete_in : List FileImports → FileImports → Bool
+is_complete_in graph file = list_all (λ l. is_analysed graph l.target) file.edges
+
+-- the files that a file imports
+abbrev pub targets : FileImports → List ℕ
+targets file = filter_map (λ l. l.target) file.edges
+
+-- the files that it imports publicly
+abbrev pub public_targets : FileImports → List ℕ
+public_targets file = filter_map (λ l. l.target) (filter (λ l. l.is_public) file.edges)
+
+-- each file that is imported is there, the files are listed for the search, it is known which are complete, and the components
+-- are those of the imports
+pub record IsGraph (graph : List FileImports) (all : List (List ℕ)) (public_ones : List (List ℕ)) (flags : List Bool) (components : Components) : Type 0 where
+  pub within : All (λ file. AllWithin (length graph) (targets file)) graph
+  pub imports : all ≡ map targets graph
+  pub public : public_ones ≡ map public_targets graph
+  pub complete : flags ≡ map (is_complete_in graph) graph
+  pub numbered : vec_len components.numbers ≡ length graph
+  pub descends : Descends (map targets graph) components.numbers.items
+  pub flagged : vec_len components.tied ≡ length graph
+  pub tied : IsTied (map targets graph) components.numbers.items components.tied.items

@@ -1,5 +1,0 @@
-use Rattle.proto_facts.proofs.DeclOrder.{decls-ascend}
-use Rattle.proto_facts.proofs.laws.decls_in_order.Goals as goal
-
-pub returns : goal.returns
-returns c = λ text. decls-ascend text c.names_law.ensures

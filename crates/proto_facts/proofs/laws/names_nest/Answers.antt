@@ -1,5 +1,0 @@
-use Rattle.proto_facts.proofs.Nesting.{names-nest}
-use Rattle.proto_facts.proofs.laws.names_nest.Goals as goal
-
-pub returns : goal.returns
-returns c = names-nest c.size_law.ensures.empty c.identifiers_law.ensures

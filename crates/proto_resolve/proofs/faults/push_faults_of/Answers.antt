@@ -1,5 +1,0 @@
-use Rattle.proto_resolve.proofs.Order.{named_by_file}
-use Rattle.proto_resolve.proofs.faults.push_faults_of.Goals as goal
-
-pub is_elsewhere-requires : goal.is_elsewhere-requires
-is_elsewhere-requires g c = rw c.named.ensures (named_by_file (g.I.Index.files c.args.index.now) c.as_str-name.result.now)

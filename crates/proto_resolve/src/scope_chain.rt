@@ -1,0 +1,122 @@
+// The scopes of a place in a file.
+ghost use Rattle.std.specs.Prelude.{◌≡◌, ◌∷◌, ◌<◌, ℕ, List, [], length, slice_index_or, IfOk};
+ghost use Rattle.file_facts.specs.Text.{joined};
+
+use crate::full_names::push_component;
+use sqlite_items::Items;
+use std::alloc::{AllocError, Global};
+use std::marker::Model;
+use std::rc::Rc;
+
+// Scopes that lie in one another. Each is a part at the front of the innermost one's full name.
+#[derive(Debug, Drop)]
+pub struct ScopeChain {
+    text: String,
+    // How long each scope is, outermost first.
+    lengths: Items<usize>,
+}
+
+// Contracts see the scopes, innermost first.
+impl Model for ScopeChain {
+    ghost use Rattle.std.specs.Prelude.{◌≡◌, ℕ, List, [], All, slice_index_or, string_bytes};
+    ghost use Rattle.std.specs.String.Boundary.{IsSplitPoint};
+    ghost use Rattle.proto_resolve.specs.ScopeChains.{front_parts};
+
+    ghost Value = { List (List ℕ) };
+
+    ghost view = { λ p. front_parts (string_bytes p.text) p.lengths };
+
+    ghost invariant = { λ p. All (IsSplitPoint (string_bytes p.text)) p.lengths × (slice_index_or (front_parts (string_bytes p.text) p.lengths) 0 [] ≡ string_bytes p.text) };
+}
+
+impl ScopeChain {
+    // The empty scope alone.
+    pub fn outermost(alloc: Global) -> Result<ScopeChain, AllocError>
+        ensures { IfOk result (λ p. p ≡ [] ∷ []) }
+    {
+        let mut lengths = Items::new(alloc);
+        lengths.push(0)?;
+        Ok(ScopeChain {
+            text: String::new(alloc),
+            lengths,
+        })
+    }
+
+    // The scopes in the body of what has a name and stands here.
+    pub fn inside(self, name: &str) -> Result<ScopeChain, AllocError>
+        ensures { IfOk result (λ p. p ≡ joined (slice_index_or self 0 []) name.now ∷ self) }
+    {
+        let ScopeChain {
+            mut text,
+            mut lengths,
+        } = self;
+        push_component(&mut text, name)?;
+        lengths.push(text.len())?;
+        Ok(ScopeChain { text, lengths })
+    }
+
+    // The same scopes in memory of their own.
+    pub fn copy(&self, alloc: Global) -> Result<ScopeChain, AllocError>
+        ensures { IfOk result (λ p. p ≡ self.now) }
+    {
+        Ok(ScopeChain {
+            text: String::from_str(alloc, self.text.as_str())?,
+            lengths: Items::from_slice(alloc, self.lengths.as_slice())?,
+        })
+    }
+
+    // How many scopes there are.
+    pub fn len(&self) -> usize
+        ensures { result ≡ length self.now }
+    {
+        self.lengths.len()
+    }
+
+    // A scope, counted from the innermost.
+    pub fn get(&self, number: usize) -> &str
+        requires { number < length self.now }
+        ensures { result.now ≡ slice_index_or self.now number [] }
+    {
+        let length = self.lengths.as_slice()[self.lengths.len() - 1 - number];
+        &self.text.as_str()[..length]
+    }
+}
+
+// The scopes of a place, which the names at that place share.
+#[derive(Debug, Drop)]
+pub struct Scopes {
+    place: Rc<ScopeChain>,
+}
+
+impl Model for Scopes {
+    ghost use Rattle.std.specs.Prelude.{ℕ, List};
+
+    ghost Value = { List (List ℕ) };
+
+    ghost view = { λ s. s.place.value };
+}
+
+impl Scopes {
+    pub fn of(alloc: Global, place: ScopeChain) -> Result<Scopes, AllocError>
+        ensures { IfOk result (λ s. s ≡ place) }
+    {
+        Ok(Scopes {
+            place: Rc::new(alloc, place)?,
+        })
+    }
+
+    pub fn place(&self) -> &ScopeChain
+        ensures { result.now ≡ self.now }
+    {
+        self.place.as_ref()
+    }
+
+    // The same scopes, shared.
+    pub fn share(&self) -> Result<Scopes, AllocError>
+        ensures { IfOk result (λ s. s ≡ self.now) }
+    {
+        Ok(Scopes {
+            place: self.place.clone()?,
+        })
+    }
+}

@@ -1,5 +1,0 @@
-use Rattle.proto_syntax.proofs.TokenNames.{names_are_identifiers}
-use Rattle.proto_syntax.proofs.laws.identifiers_law.Goals as goal
-
-pub returns : goal.returns
-returns c = names_are_identifiers c.one_token_list.ensures.exist c.cut_tokens.ensures

@@ -1,0 +1,10 @@
+pub mod GrammarLemmas
+pub mod ItemsLaw
+pub mod SizeLaw
+pub mod BracketsLaw
+pub mod Rise
+pub mod Spelled
+pub mod TreeSpells
+pub mod NameOrder
+pub mod PackageNames
+pub mod TokenNames

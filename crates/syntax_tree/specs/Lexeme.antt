@@ -1,0 +1,141 @@
+-- What the grammar sees of a token: its word, and where it stands.
+use Rattle.std.specs.Prelude.{ℕ, ◌≤◌, Bool, true, false, not, ◌==◌, List, filter, map, slice_index, slice_range, if◌then◌else◌, codes}
+use Rattle.std.specs.List.{list_any}
+use Rattle.std.specs.Str.{bytes_eq}
+use Rattle.proto_lex.specs.declared.token.Token.{Token}
+use Rattle.proto_lex.specs.declared.token.Kind.{Kind}
+use Rattle.proto_lex.specs.declared.token.Kind.TheVariants as k
+use Rattle.syntax_tree.specs.declared.node.Span.{Span}
+use Rattle.syntax_tree.specs.declared.lexeme.Lexeme.{Lexeme}
+use Rattle.syntax_tree.specs.declared.lexeme.Word.{Word}
+use Rattle.syntax_tree.specs.declared.lexeme.Word.TheVariants as w
+use Rattle.syntax_tree.specs.contracts.lexeme.Word.{the_type}
+use denote.Enum.Bare.{sameb}
+
+-- `==` on words
+abbrev pub same_word : Word → Word → Bool
+same_word = sameb the_type
+
+abbrev pub is : Word → Lexeme → Bool
+is word t = same_word t.word word
+
+-- each word of the language is an identifier
+abbrev pub is_identifier : Word → Bool
+is_identifier w.Int = false
+is_identifier w.Float = false
+is_identifier w.PlainText = false
+is_identifier w.EscapedText = false
+is_identifier w.OpenBrace = false
+is_identifier w.CloseBrace = false
+is_identifier w.OpenParen = false
+is_identifier w.CloseParen = false
+is_identifier w.OpenBracket = false
+is_identifier w.CloseBracket = false
+is_identifier w.Less = false
+is_identifier w.Greater = false
+is_identifier w.Semicolon = false
+is_identifier w.Comma = false
+is_identifier w.Equals = false
+is_identifier w.Dot = false
+is_identifier w.Colon = false
+is_identifier w.Plus = false
+is_identifier w.Minus = false
+is_identifier w.Slash = false
+is_identifier _ = true
+
+abbrev pub is_block_word : Word → Bool
+is_block_word w.Message = true
+is_block_word w.Enum = true
+is_block_word w.Service = true
+is_block_word w.Oneof = true
+is_block_word w.Extend = true
+is_block_word w.Rpc = true
+is_block_word _ = false
+
+-- neither a `;` nor a brace
+abbrev pub is_plain : Word → Bool
+is_plain w.Semicolon = false
+is_plain w.OpenBrace = false
+is_plain w.CloseBrace = false
+is_plain _ = true
+
+-- ---- from the tokens of a text
+
+-- a word that stands inside a statement
+unfoldable pub inner_keyword : List ℕ → Word
+inner_keyword name =
+    if bytes_eq name (codes "weak") then w.Weak else
+    (if bytes_eq name (codes "public") then w.Public else
+    (if bytes_eq name (codes "repeated") then w.Repeated else
+    (if bytes_eq name (codes "optional") then w.Optional else
+    (if bytes_eq name (codes "map") then w.Map else
+    (if bytes_eq name (codes "stream") then w.Stream else
+    (if bytes_eq name (codes "returns") then w.Returns else
+    (if bytes_eq name (codes "to") then w.To else
+    (if bytes_eq name (codes "max") then w.Max else
+    w.Name))))))))
+
+-- the word that an identifier is
+unfoldable pub keyword : List ℕ → Word
+keyword name =
+    if bytes_eq name (codes "message") then w.Message else
+    (if bytes_eq name (codes "enum") then w.Enum else
+    (if bytes_eq name (codes "service") then w.Service else
+    (if bytes_eq name (codes "oneof") then w.Oneof else
+    (if bytes_eq name (codes "extend") then w.Extend else
+    (if bytes_eq name (codes "rpc") then w.Rpc else
+    (if bytes_eq name (codes "syntax") then w.Syntax else
+    (if bytes_eq name (codes "import") then w.Import else
+    (if bytes_eq name (codes "package") then w.Package else
+    (if bytes_eq name (codes "option") then w.Option else
+    (if bytes_eq name (codes "reserved") then w.Reserved else
+    inner_keyword name))))))))))
+
+-- the symbol that a byte is; a lexer gives no other byte than these
+abbrev pub symbol : ℕ → Word
+symbol b =
+    if b == 123 then w.OpenBrace else
+    (if b == 125 then w.CloseBrace else
+    (if b == 40 then w.OpenParen else
+    (if b == 41 then w.CloseParen else
+    (if b == 91 then w.OpenBracket else
+    (if b == 93 then w.CloseBracket else
+    (if b == 60 then w.Less else
+    (if b == 62 then w.Greater else
+    (if b == 59 then w.Semicolon else
+    (if b == 44 then w.Comma else
+    (if b == 61 then w.Equals else
+    (if b == 46 then w.Dot else
+    (if b == 58 then w.Colon else
+    (if b == 43 then w.Plus else
+    (if b == 45 then w.Minus else w.Slash))))))))))))))
+
+-- a string that holds a backslash is not plain
+abbrev pub string_word : List ℕ → Word
+string_word b = if list_any (λ x. x == 92) b then w.EscapedText else w.PlainText
+
+abbrev pub word_of : Kind → List ℕ → Word
+word_of k.Ident b = keyword b
+word_of k.Int b = w.Int
+word_of k.Float b = w.Float
+word_of k.Str b = string_word b
+word_of k.Symbol b = symbol (slice_index b 0)
+word_of (k.Bad reason) b = w.Slash
+
+abbrev pub is_bad : Kind → Bool
+is_bad (k.Bad reason) = true
+is_bad _ = false
+
+-- the token lies in a text of this length
+abbrev pub IsWithin : ℕ → Token → Type 0
+IsWithin len t = (t.start ≤ t.«end») × (t.«end» ≤ len)
+
+abbrev pub span_of_token : Token → Span
+span_of_token t = record { start = t.start; «end» = t.«end» }
+
+abbrev pub lexeme_of : List ℕ → Token → Lexeme
+lexeme_of text t = record { word = word_of t.kind (slice_range text t.start t.«end»); span = span_of_token t }
+
+-- what the grammar reads: each token but the bad ones
+abbrev pub lexemes : List ℕ → List Token → List Lexeme
+lexemes text tokens = map (lexeme_of text) (filter (λ t. not (is_bad t.kind)) tokens)
