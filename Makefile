@@ -1,24 +1,22 @@
 # protols: the language server and checker for proto3, proved function by function.
 
 PREFIX ?= /usr/local
-RT := $(shell command -v rt 2>/dev/null)
 PROGRAM := crates/protols/out/protols
+# The crates whose wrong bodies `make wrong-bodies` tries, and whose proofs `make times` times; none means all.
+CRATE ?=
 
-.PHONY: all build run test install clean need-rt
+.PHONY: all build run test quick wrong-bodies times install clean need-rt
 
 all: build
 
 # The kit with its command rt has to be there: nothing else builds or proves Rattle.
 need-rt:
-	@if [ -z "$(RT)" ]; then \
-	  echo "protols is written in Rattle: put the Rattle kit's command rt on the PATH (README.md, 'Quick start')" >&2; \
-	  exit 1; \
-	fi
+	@command -v rt > /dev/null || { \
+	  echo "protols is written in Rattle: put the Rattle kit's command rt on the PATH (CONTRIBUTING.md)" >&2; exit 1; }
 
-# Proves the program and all that it stands on, and builds it. The program that is run here gets no words, and says so.
+# Proves the program and all that it stands on, and builds it.
 build: need-rt
-	@cd crates/protols && rm -f out/protols && rt run < /dev/null; test -x out/protols
-	@echo "the program is $(PROGRAM)"
+	@python3 tools/build.py
 
 # Runs the stored stream of an editor, and checks the example tree. What is written has to be what is stored.
 run: build
@@ -29,9 +27,21 @@ run: build
 	  cat out.lines; cmp out.lines examples/check.stdout; same=$$?; rm -f out.lines; \
 	  test $$status -eq 1 -a $$same -eq 0 && echo "the lines are the stored ones, and the status is 1: shop/faulty.proto is wrong on purpose"
 
-# The gate: every proof, must-fail edit and test from nothing, and then the project's own tests.
+# The gate: every proof, must-fail edit and test from nothing, each wrong body whose verdict isn't current, and the tests in tests/.
 test: need-rt
 	@python3 tests/gate.py
+
+# Before each commit: the same over what earlier runs kept, for what changed. The gate alone is the verdict.
+quick: need-rt
+	@python3 tools/quick.py
+
+# The wrong bodies whose verdict isn't current: the prover has to refuse each.
+wrong-bodies: need-rt
+	@python3 tools/wrong_bodies.py $(CRATE)
+
+# How long each crate's proof takes from nothing, and the slowest functions.
+times: need-rt
+	@python3 tools/times.py $(CRATE)
 
 install: build
 	install -D -m 755 $(PROGRAM) $(DESTDIR)$(PREFIX)/bin/protols

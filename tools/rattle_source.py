@@ -1,0 +1,213 @@
+"""The functions of a Rattle source file, and its text without their bodies, read from the tokens of the kit's own formatter.
+
+Relied on of the kit: `rattle fmt --tokens FILE..` prints for each file a line `file N` and then a line `LINE START END KIND TEXT` for each token,
+where LINE counts from 1, START and END are bytes, KIND is Code, Literal, Head, Antt, Text or End, and TEXT is a JSON string.
+"""
+import json
+import re
+import subprocess
+import tempfile
+
+import kit
+
+WORD = re.compile(r"[A-Za-z_]\w*")
+BEFORE_FN = ("pub", "const", "unsafe", "extern", "async", ")", "crate", "(", "super", "in", '""')
+
+
+class Function:
+    """A function with a body that isn't inside another function's.
+
+    `path` is its path as the checker prints it, `start` the byte where it begins, `first` and `last` its lines, `body` the bytes from brace to
+    brace. `is_plain` is false where others see its body: a const function, a trait's default, one that returns an `impl`. `is_private` says that
+    no other crate sees the function at all.
+    """
+
+    def __init__(self, path, name, start, lines, body, is_plain, is_private):
+        self.path, self.name, self.start, self.body, self.is_plain, self.is_private = path, name, start, body, is_plain, is_private
+        self.first, self.last = lines
+
+    def holders(self):
+        """Its path, and how the paths of its closures begin."""
+        above, _, name = self.path.rpartition("::")
+        return self.path, f"{above}::fn::{name}::" if above else f"fn::{name}::"
+
+    def owns(self, path):
+        exact, inner = self.holders()
+        return path == exact or path.startswith((inner, exact + "::"))
+
+    def owns_file(self, file):
+        exact, inner = (it.replace("::", "/").rstrip("/") for it in self.holders())
+        return file.startswith((f"proofs/{exact}/", f"proofs/{inner}/"))
+
+
+def tokens_of(text):
+    """The tokens of a source text, or None where it can't be read."""
+    with tempfile.NamedTemporaryFile(suffix=".rt") as file:
+        file.write(text)
+        file.flush()
+        ran = subprocess.run([kit.rtlib.RATTLE, "fmt", "--tokens", file.name], capture_output=True)
+    if ran.returncode:
+        return None
+    rows = re.findall(rb"(?m)^(\d+) (\d+) (\d+) (\w+) (.*)$", ran.stdout)
+    return [(int(line), int(start), int(end), kind.decode(), json.loads(said)) for line, start, end, kind, said in rows]
+
+
+def code_of(tokens):
+    """The tokens of the code itself: clauses, ghost items and `use` items of ghosts are left out, since their brackets may hold code."""
+    code, in_clause, in_use = [], False, False
+    for line, start, end, kind, text in tokens:
+        if in_clause:
+            in_clause = kind != "End"
+        elif in_use:
+            in_use = text != ";"
+        elif kind == "Head":
+            in_clause, in_use = text == "{", text == "use"
+        elif kind in ("Code", "Literal"):
+            code.append((line, start, end, text if kind == "Code" else '""'))
+    return code
+
+
+def last_name(words):
+    """The last plain name of a type's path, outside its type arguments."""
+    depth, name = 0, None
+    for at, word in enumerate(words):
+        if word == "<":
+            depth += 1
+        elif word == ">" and words[at - 1] not in ("-", "="):
+            depth -= 1
+        elif word == "where":
+            break
+        elif depth == 0 and WORD.fullmatch(word) and word not in ("dyn", "mut"):
+            name = word
+    return name
+
+
+def name_of_impl(words):
+    """The name of an `impl` as the checker prints it: the type's, and the trait's behind it."""
+    if words[:1] == ["<"]:
+        depth = 0
+        for at, word in enumerate(words):
+            depth += (word == "<") - (word == ">" and words[at - 1] not in ("-", "="))
+            if depth == 0:
+                words = words[at + 1 :]
+                break
+    words = words[: words.index("where")] if "where" in words else words
+    if "for" in words:
+        at = words.index("for")
+        return f"{last_name(words[at + 1 :])}{last_name(words[:at])}"
+    return last_name(words)
+
+
+def module_of(path):
+    parts = path[len("src/") : -len(".rt")].split("/")
+    return [] if parts in (["lib"], ["main"]) else parts[:-1] if parts[-1] == "mod" else parts
+
+
+class Reader:
+    """Finds the functions of a file, in one pass over its code."""
+
+    def __init__(self, path, tokens):
+        self.code, self.modules = code_of(tokens), module_of(path)
+        self.functions, self.at, self.above, self.of_traits, self.pending = [], 0, [], [], []
+
+    def word(self, at):
+        return self.code[at][3] if at < len(self.code) else ""
+
+    def balanced(self, at):
+        """The place of the bracket that closes the one at this place."""
+        depth = 0
+        while at < len(self.code):
+            depth += (self.word(at) in ("{", "(", "[")) - (self.word(at) in ("}", ")", "]"))
+            if depth == 0:
+                return at
+            at += 1
+        return len(self.code) - 1
+
+    def read(self):
+        while self.at < len(self.code):
+            word = self.word(self.at)
+            if word == "fn" and WORD.match(self.word(self.at + 1)):
+                self.read_function()
+            elif word == "{":
+                self.open()
+            elif word == "}":
+                self.above, self.of_traits, self.pending = self.above[:-1], self.of_traits[:-1], []
+                self.at += 1
+            elif word == ";":
+                self.pending = []
+                self.at += 1
+            elif word == "#" and self.word(self.at + 1) in ("[", "!"):
+                self.at = self.balanced(self.at + 1 if self.word(self.at + 1) == "[" else self.at + 2) + 1
+            else:
+                self.pending.append(word)
+                self.at += 1
+        return self.functions
+
+    def open(self):
+        """Goes into the braces of a module, an impl or a trait, and past all others."""
+        kind = next((it for it in self.pending if it in ("mod", "impl", "trait")), None)
+        if kind and "macro_rules" not in self.pending:
+            after = self.pending[self.pending.index(kind) + 1 :]
+            self.above.append(after[0] if kind == "mod" else name_of_impl(after) or "" if kind == "impl" else "?trait")
+            self.of_traits.append(kind == "trait" or kind == "impl" and "for" in after)
+        else:
+            self.at = self.balanced(self.at)
+        self.pending = []
+        self.at += 1
+
+    def read_function(self):
+        at, name, end = self.at, self.word(self.at + 1), self.at + 2
+        while end < len(self.code) and self.word(end) not in ("{", ";"):
+            end = (self.balanced(end) if self.word(end) in ("(", "[") else end) + 1
+        if self.word(end) == "{":
+            close, begin = self.balanced(end), at
+            while begin and self.word(begin - 1) in BEFORE_FN:
+                begin -= 1
+            head = [it[3] for it in self.code[begin:end]]
+            dash = head.index("-") if "-" in head else head.index("->") if "->" in head else len(head)
+            is_plain = "const" not in head[: head.index("fn")] and "impl" not in head[dash:] and "?trait" not in self.above
+            path = "::".join([*self.modules, *[it for it in self.above if it not in ("", "?trait")], name])
+            is_public = "pub" in head and head[head.index("pub") + 1] != "("
+            is_private = is_plain and not is_public and not any(self.of_traits)
+            lines, body = (self.code[begin][0], self.code[close][0]), (self.code[end][1], self.code[close][2])
+            self.functions.append(Function(path, name, self.code[begin][1], lines, body, is_plain, is_private))
+            end = close
+        self.at, self.pending = end + 1, []
+
+
+class Source:
+    """A source file: its bytes, and its functions, None where its text can't be read."""
+
+    def __init__(self, path, text):
+        self.path, self.data = path, text.encode() if isinstance(text, str) else text
+        tokens = tokens_of(self.data)
+        self.functions = Reader(path, tokens).read() if tokens is not None else None
+        self.tokens = tokens
+
+    def body(self, function):
+        return self.data[slice(*function.body)]
+
+    def pieces(self):
+        """The text between the bodies."""
+        at, pieces = 0, []
+        for function in self.functions:
+            pieces.append(self.data[at : function.body[0]])
+            at = function.body[1]
+        return [*pieces, self.data[at:]]
+
+    def with_bodies(self, bodies):
+        """The text with other bodies for some functions, by their number."""
+        pieces = self.pieces()
+        made = b"".join(piece + bodies.get(at, self.body(function)) for at, (piece, function) in enumerate(zip(pieces, self.functions)))
+        return (made + pieces[-1]).decode()
+
+    def words(self):
+        """Its tokens as text, so that comments and layout don't count; where it can't be read, its bytes."""
+        return [token[4] for token in self.tokens] if self.tokens is not None else [self.data.decode(errors="replace")]
+
+    def words_for_others(self):
+        """The same as far as other crates see it: without private functions, and without bodies."""
+        if self.functions is None:
+            return self.words()
+        hidden = [(it.start if it.is_private else it.body[0], it.body[1]) for it in self.functions if it.is_plain]
+        return [text for _, start, _, _, text in self.tokens if not any(first <= start < last for first, last in hidden)]

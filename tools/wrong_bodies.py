@@ -1,0 +1,516 @@
+#!/usr/bin/env python3
+"""Tries the wrong bodies in crates/*/wrong-bodies/*.edit: the prover has to refuse each. Several are tried in one check.
+
+usage: wrong_bodies.py [CRATE..] [--root FOLDER] [--jobs N] [--must-fail] [--anew] [--alone] [--gate] [--show]
+
+An edit has the form of the kit's must-fail edits: a line `file: src/NAME.rt`, then pairs of lines `old: TEXT` and `new: TEXT`, each TEXT once in that
+file. Its verdict is
+
+  REFUSED      the prover refuses the edited function, for a reason of its own
+  NOT REFUSED  tried alone, the crate is still proved
+  BAD EDIT     it can't be applied, or what it makes can't be read
+  UNPROVED     the crate itself isn't proved, so nothing was tried
+
+What is refused is kept in crates/NAME/wrong-bodies/verdicts.json, under a sum of the edit, the crate's sources, what it can see of the crates below it
+(the definitions that it cites, the sources without bodies and private functions) and the kit. Comments and layout don't count. What is current isn't
+tried again; --anew tries all. --must-fail takes the edits of must-fail/ in the same way, and keeps their verdicts in the crate's out/. --gate also fails where verdicts.json names an edit that isn't there. --alone tries each edit in a check of its own.
+
+The status is 0 if each edit is refused, else 1. The last line is `N refused, M not; ..`.
+
+How edits share a check
+  - The unchanged crate is checked once over what earlier checks kept. Each further check works on a copy of that.
+  - An edit may share a check if it changes one function's body and nothing else, and others don't see that body. Edits of one function, of functions
+    that may call each other in a ring, and of functions whose proofs cite each other stay apart.
+  - In a shared check an edit counts as refused only if a goal of its own function failed: in the function's line, at a line of its text, or in its own
+    proof files. That a callee isn't proved is no reason. If an error is nobody's, the whole check says nothing.
+  - What a shared check leaves open is tried again with the others that are left, and at last alone, as `rt must-fail` does it.
+"""
+import argparse
+import hashlib
+import json
+import os
+import pathlib
+import re
+import resource
+import shutil
+import subprocess
+import sys
+import tempfile
+import threading
+import time
+from concurrent.futures import ThreadPoolExecutor
+
+import kit
+from rattle_source import Source
+
+REFUSED, PASSED, BAD, UNPROVED = "REFUSED", "NOT REFUSED", "BAD EDIT", "UNPROVED"
+FOLDER, RECORD = "wrong-bodies", "verdicts.json"
+OF_THE_KIT = "must-fail"
+FLAGS = ["--jobs", "1"]
+# The most edits in one check: more would take longer to sort out where one of them can't be read.
+MOST = 24
+# A change here makes every recorded verdict old.
+FORM = "1"
+
+LOCATED = re.compile(r"(note: )?(?:\./)?((?:src|specs|proofs)/\S+?):(\d+):\d+: (.*)")
+STATUS = re.compile(r"(fn|struct|enum|union|impl|trait|const|static) (\S+): (.*)")
+# What is said where another declaration or file failed, and not this one.
+SECOND_HAND = re.compile(r"was rejected|was not admitted|were not checked|was not checked|is not proved|are not proved|could not be read")
+NAMES_ONLY = re.compile(r"has no field|is not in scope|has no `|was not admitted")
+ONLY_CALLEES = re.compile(r"(not proved|no proof)[:;] it calls .*")
+EDIT_NAME = re.compile(r"[A-Za-z0-9_-][A-Za-z0-9_.-]*\.edit")
+CITED = re.compile(r"Rattle\.(\w+)\.(specs|proofs)\.([\w.]+)")
+
+
+def sum_of(*parts):
+    made = hashlib.sha256()
+    for part in parts:
+        made.update(repr(part).encode())
+    return made.hexdigest()[:32]
+
+
+# -- the text of crates, as far as a verdict rests on it
+
+def files_below(folder, part, ending):
+    return sorted(it for it in pathlib.Path(folder, part).rglob(f"*{ending}") if it.is_file())
+
+
+def antt_text(file):
+    """The text of a file of definitions or proofs, without comments on lines of their own."""
+    return re.sub(r"(?m)^\s*--.*\n", "", file.read_text(encoding="utf-8", errors="replace"))
+
+
+def sources_of(crate):
+    """The crate's source files by their paths in it."""
+    return {str(it.relative_to(crate.folder)): it.read_text(encoding="utf-8", errors="replace") for it in files_below(crate.folder, "src", ".rt")}
+
+
+def own_text(crate):
+    src = [(path, Source(path, text).words()) for path, text in sources_of(crate).items()]
+    rest = [(str(it.relative_to(crate.folder)), antt_text(it)) for part in ("specs", "proofs") for it in files_below(crate.folder, part, ".antt")]
+    return src + rest
+
+
+def cited_definitions(crate):
+    """The files of definitions and lemmas in the crates below that this crate's text leads to, by their paths."""
+    below = {it.name: it for it in crate.below()}
+    texts = [text for text in sources_of(crate).values()]
+    texts += [antt_text(it) for part in ("specs", "proofs") for it in files_below(crate.folder, part, ".antt")]
+    found = {}
+    while texts:
+        for name, part, module in CITED.findall(texts.pop()):
+            words = module.rstrip(".").split(".")
+            for length in range(1, len(words) + 1) if name in below else ():
+                file = pathlib.Path(below[name].folder, part, *words[:length]).with_suffix(".antt")
+                if file not in found and file.is_file():
+                    found[file] = antt_text(file)
+                    texts.append(found[file])
+    return sorted((str(file), text) for file, text in found.items())
+
+
+class Surfaces:
+    """What other crates see of a crate's sources, worked out once for each."""
+
+    def __init__(self):
+        self.sums, self.lock = {}, threading.Lock()
+
+    def of(self, crate):
+        with self.lock:
+            if crate.name not in self.sums:
+                self.sums[crate.name] = sum_of([(path, Source(path, text).words_for_others()) for path, text in sources_of(crate).items()])
+            return self.sums[crate.name]
+
+
+# -- edits
+
+class Edit:
+    """An edit file, and where its one changed body is if it may share a check."""
+
+    def __init__(self, file):
+        self.file, self.name = file, os.path.basename(file)
+        self.path, self.number, self.function, self.body = None, None, None, None
+
+    def place(self, texts, sources, proved):
+        """Finds the one function whose body the edit changes, and says whether there is one and it may share a check."""
+        changed = []
+        for path, text in texts.items():
+            if path not in sources:
+                return False
+            old, new = sources[path], Source(path, text)
+            if old.functions is None or new.functions is None or len(old.functions) != len(new.functions) or old.pieces() != new.pieces():
+                return False
+            changed += [(path, at, new.body(it)) for at, it in enumerate(new.functions) if new.body(it) != old.body(old.functions[at])]
+        if len(changed) != 1:
+            return False
+        path, number, body = changed[0]
+        function = sources[path].functions[number]
+        if not function.is_plain or function.path not in proved:
+            return False
+        self.path, self.number, self.body, self.function = path, number, body, function
+        return True
+
+
+def edits_in(folder):
+    """The edits of a folder, and what else is in it that should be one."""
+    good, bad = [], []
+    for at, folders, files in os.walk(folder):
+        folders.sort()
+        for name in sorted(files):
+            if name != RECORD and not name.endswith(".md"):
+                (good if at == folder and EDIT_NAME.fullmatch(name) else bad).append(Edit(f"{at}/{name}"))
+    return good, bad
+
+
+class Neighbours:
+    """Which edits of a crate must not share a check."""
+
+    def __init__(self, crate, sources):
+        self.cited, self.reach = self.citations(crate), self.calls(sources)
+
+    @staticmethod
+    def citations(crate):
+        """For each proof file, without its ending, all those that it leads to by its imports."""
+        top, uses = pathlib.Path(crate.folder, "proofs"), {}
+        for file in files_below(crate.folder, "proofs", ".antt"):
+            named = re.findall(rf"Rattle\.{re.escape(crate.name)}\.proofs\.([\w.+-]+)", antt_text(file))
+            uses[str(file.relative_to(top).with_suffix(""))] = {it.rstrip(".").replace(".", "/") for it in named}
+        closed = {}
+        for module in uses:
+            seen, left = set(), [module]
+            while left:
+                it = left.pop()
+                if it not in seen:
+                    seen.add(it)
+                    left += uses.get(it, ())
+            closed[module] = seen
+        return closed
+
+    @staticmethod
+    def calls(sources):
+        """For each function's bare name, the names that it may come to call: more than it does."""
+        words = {}
+        for source in sources.values():
+            for function in source.functions or []:
+                words.setdefault(function.name, set()).update(re.findall(r"[A-Za-z_]\w*", source.body(function).decode(errors="replace")))
+        reach = {}
+        for name in words:
+            seen, left = set(), [name]
+            while left:
+                for it in words[left.pop()] & words.keys():
+                    if it not in seen:
+                        seen.add(it)
+                        left.append(it)
+            reach[name] = seen
+        return reach
+
+    def stay_apart(self, one, other):
+        f, g = one.function, other.function
+        if f.path == g.path:
+            return True
+        if g.name in self.reach.get(f.name, ()) and f.name in self.reach.get(g.name, ()):
+            return True
+        return self.cites(f, g) or self.cites(g, f)
+
+    def cites(self, f, g):
+        return any(f.owns_file(f"proofs/{file}/") and any(g.owns_file(f"proofs/{it}/") for it in leads) for file, leads in self.cited.items())
+
+    def groups(self, edits):
+        groups = []
+        for edit in edits:
+            fits = next((it for it in groups if len(it) < MOST and not any(self.stay_apart(edit, other) for other in it)), None)
+            if fits is None:
+                groups.append([edit])
+            else:
+                fits.append(edit)
+        return groups
+
+
+# -- what the prover said
+
+class Said:
+    """The output of a check, by function."""
+
+    def __init__(self, text, crate):
+        self.lines = text.rstrip("\n").split("\n")
+        self.last, self.status, self.located = self.lines[-1], {}, []
+        for line in self.lines:
+            found = STATUS.match(line)
+            if found and found[2].startswith(f"{crate}::"):
+                self.status[found[1], found[2][len(crate) + 2 :]] = found[3]
+            found = LOCATED.match(line)
+            if found and (found[4].startswith("error") or found[1] and found[4].startswith("it is not proved that")):
+                self.located.append((bool(found[1]), found[2], int(found[3]), found[4], line))
+
+    def is_reached(self):
+        return self.last.startswith(("logic=not-proved", "logic=proved"))
+
+    def unproved(self):
+        return {it: said for it, said in self.status.items() if not said.startswith(("proved", "assumed"))}
+
+    def proved_functions(self):
+        return {path for (kind, path), said in self.status.items() if kind == "fn" and re.match(r"proved\b", said)}
+
+
+def judge(said, group, placed):
+    """The refused edits of a group with the line that says so, or None where an error is nobody's, so that nothing can be told.
+
+    `placed` gives each edit's function as it stands in the checked text.
+    """
+
+    def owner(file, line):
+        return next((it for it in group if file == it.path and placed[it].first <= line <= placed[it].last or placed[it].owns_file(file)), None)
+
+    reasons = {it: [] for it in group}
+    for (kind, path), words in said.unproved().items():
+        edit = next((it for it in group if kind == "fn" and placed[it].owns(path)), None)
+        if edit is None:
+            # a function that nobody edited may be unproved for its callees alone
+            if kind != "fn" or not ONLY_CALLEES.fullmatch(words):
+                return None
+        elif words.startswith(("no proof", "not proved")) and "`search` did not prove" in words:
+            reasons[edit].append((True, f"fn {path}: {words}"))
+    for is_note, file, line, words, whole in said.located:
+        edit = owner(file, line)
+        if edit is None:
+            return None
+        if is_note or not SECOND_HAND.search(words):
+            reasons[edit].append((is_note or not NAMES_ONLY.search(words), whole))
+    refused = {}
+    for edit in group:
+        stated = [words for (kind, path), words in said.unproved().items() if kind == "fn" and placed[edit].owns(path)]
+        if reasons[edit] and any(it.startswith(("not proved", "no proof")) for it in stated):
+            is_goal, line = next((it for it in reasons[edit] if it[0]), reasons[edit][0])
+            refused[edit] = ("" if is_goal else "(only because a proof file names what the edit took away) ") + line[:200]
+    return refused
+
+
+# -- the edits of a crate
+
+class Trial:
+    """The edits of one crate, and their verdicts."""
+
+    def __init__(self, crate, given, slots, surfaces):
+        self.crate, self.given, self.slots, self.surfaces = crate, given, slots, surfaces
+        self.folder, self.room = f"{crate.folder}/{given.folder}", f"{crate.folder}/out/{given.folder}"
+        self.recorded = pathlib.Path(self.folder if given.folder == FOLDER else f"{crate.folder}/out", RECORD)
+        self.checks, self.log, self.verdicts = 0, [], {}
+        self.sources = {path: Source(path, text) for path, text in sources_of(crate).items()}
+
+    def record(self):
+        try:
+            return json.loads(self.recorded.read_text())
+        except FileNotFoundError:
+            return {}
+
+    def write_record(self, keys):
+        rows = {it.name: {"sum": keys[it], "said": said} for it, (verdict, said) in self.verdicts.items() if verdict == REFUSED}
+        text = json.dumps(rows, indent=1, sort_keys=True, ensure_ascii=False) + "\n"
+        if rows or self.recorded.exists():
+            self.recorded.write_text(text)
+
+    def key(self):
+        below = [(it.name, self.surfaces.of(it)) for it in self.crate.below()]
+        cited = [(os.path.relpath(file, kit.ROOT if self.given.root is None else self.given.root), text) for file, text in cited_definitions(self.crate)]
+        kit_id = kit.rtlib.text_of(f"{kit.rt.KIT}/KIT-ID").strip()
+        return sum_of(FORM, kit_id, sorted(self.crate.of_kit), own_text(self.crate), cited, below)
+
+    def check(self, texts, kept):
+        with self.slots:
+            self.checks += 1
+            return kit.rt.checked(self.crate, texts, FLAGS, kept)
+
+    def keep(self):
+        """The folder of what was checked of the unchanged crate, and what the check said; None where the crate isn't proved."""
+        kept = f"{self.room}/kept"
+        shutil.rmtree(self.room, ignore_errors=True)
+        os.makedirs(self.room)
+        seed = f"{self.crate.folder}/out/incremental"
+        if os.path.isdir(seed):
+            shutil.copytree(seed, kept)
+        else:
+            os.mkdir(kept)
+        ran = self.check({}, kept)
+        said = Said(ran.stdout, self.crate.name)
+        if ran.returncode or not said.last.startswith("logic=proved"):
+            self.log += said.lines[-3:]
+            return None, said
+        return kept, said
+
+    def over_a_copy(self, kept, call):
+        """A check writes what it made of the edited text over what was kept, so each gets a copy."""
+        with tempfile.TemporaryDirectory(dir=self.room) as room:
+            subprocess.run(["cp", "-a", "--reflink=auto", kept, f"{room}/kept"], check=True)
+            return call(f"{room}/kept")
+
+    def alone(self, edit, kept):
+        with self.slots:
+            self.checks += 1
+            well, text = self.over_a_copy(kept, lambda room: kit.rt.must_fail(self.crate, edit.file, FLAGS, room))
+        said = text.partition(f"{edit.name}: ")[2] or text
+        return REFUSED if well else PASSED if said.startswith("NOT REFUSED") else BAD, f"alone: {said}"
+
+    def together(self, group, kept):
+        """The verdicts that one check of these edits gives. Those that it leaves open aren't in it."""
+        texts, placed = {}, {}
+        for path in {it.path for it in group}:
+            texts[path] = self.sources[path].with_bodies({it.number: it.body for it in group if it.path == path})
+            functions = Source(path, texts[path]).functions
+            if functions is None:
+                return self.halves(group, kept)
+            placed.update({it: functions[it.number] for it in group if it.path == path})
+        ran = self.over_a_copy(kept, lambda room: self.check(texts, room))
+        said = Said(ran.stdout, self.crate.name)
+        if not said.is_reached() or kit.rtlib.STALE.search(ran.stdout) or any(kit.rt.unread(it, texts) for it in said.lines):
+            return self.without_blamed(group, placed, said, kept)
+        refused = judge(said, group, placed) if ran.returncode else {}
+        if refused is None:
+            self.log.append(f"a check of {len(group)} has an error that is none of its functions'")
+            refused = {}
+        return {it: (REFUSED, f"with {len(group) - 1} others: {why}") for it, why in refused.items()}
+
+    def without_blamed(self, group, placed, said, kept):
+        """Tries the edits again without those at whose lines something couldn't be read."""
+        blamed = set()
+        for line in said.lines:
+            at = re.search(r"(?:\./)?(src/\S+?):(\d+)(?::\d+)?\b", line)
+            if at:
+                blamed |= {it for it in group if it.path == at[1] and placed[it].first <= int(at[2]) <= placed[it].last}
+        self.log.append(f"a check of {len(group)} did not reach the prover; blamed: {sorted(it.name for it in blamed)}")
+        if not blamed:
+            return self.halves(group, kept)
+        rest = [it for it in group if it not in blamed]
+        return self.together(rest, kept) if len(rest) > 1 else {}
+
+    def halves(self, group, kept):
+        half, found = len(group) // 2, {}
+        for part in (group[:half], group[half:]):
+            found.update(self.together(part, kept) if len(part) > 1 else {})
+        return found
+
+    def try_all(self, edits, texts):
+        kept, said = self.keep()
+        if kept is None:
+            self.verdicts.update({it: (UNPROVED, "the crate itself is not proved") for it in edits})
+            return
+        proved = said.proved_functions()
+        left = [it for it in edits if not self.given.alone and it.place(texts[it], self.sources, proved)]
+        neighbours = Neighbours(self.crate, self.sources)
+        with ThreadPoolExecutor(self.given.jobs) as pool:
+            while len(left) > 1:
+                found = {}
+                for refused in pool.map(lambda it: self.together(it, kept) if len(it) > 1 else {}, neighbours.groups(left)):
+                    found.update(refused)
+                self.verdicts.update(found)
+                left = [it for it in left if it not in found]
+                if not found:
+                    break
+            alone = [it for it in edits if it not in self.verdicts]
+            self.log.append(f"tried alone: {[it.name for it in alone]}")
+            self.verdicts.update(zip(alone, pool.map(lambda it: self.alone(it, kept), alone)))
+        shutil.rmtree(self.room, ignore_errors=True)
+
+    def sort_out(self):
+        """Settles the edits that need no check, and gives each one's key, and those that are left with their texts."""
+        good, bad = edits_in(self.folder)
+        self.verdicts = {it: (BAD, "an edit stands right in its folder, with a plain name that ends in .edit") for it in bad}
+        record, key = self.record(), self.key()
+        keys = {it: sum_of(key, kit.rtlib.text_of(it.file)) for it in good}
+        texts = {}
+        for edit in good:
+            row = record.get(edit.name)
+            if row and row["sum"] == keys[edit] and not self.given.anew:
+                self.verdicts[edit] = REFUSED, row["said"]
+                continue
+            texts[edit], why = kit.rt.read_edit(edit.file, self.crate.folder)
+            if why:
+                self.verdicts[edit] = BAD, why
+                del texts[edit]
+        missing = sorted({*record} - {it.name for it in good}) if self.given.gate else []
+        return keys, texts, missing
+
+    def run(self):
+        """Tries what isn't current, keeps what is refused, and gives the names of recorded edits that aren't there."""
+        keys, texts, missing = self.sort_out()
+        if texts:
+            self.try_all([*texts], texts)
+        self.write_record(keys)
+        return len(texts), missing
+
+
+def processor_seconds():
+    used = [resource.getrusage(it) for it in (resource.RUSAGE_SELF, resource.RUSAGE_CHILDREN)]
+    return sum(it.ru_utime + it.ru_stime for it in used)
+
+
+def arguments(words):
+    asks = argparse.ArgumentParser(description=__doc__, formatter_class=argparse.RawDescriptionHelpFormatter)
+    asks.add_argument("crates", nargs="*")
+    asks.add_argument("--root")
+    asks.add_argument("--jobs", type=int, default=0)
+    for flag in ("--must-fail", "--anew", "--alone", "--gate", "--show"):
+        asks.add_argument(flag, action="store_true")
+    given = asks.parse_args(words)
+    given.folder = OF_THE_KIT if given.must_fail else FOLDER
+    given.jobs = given.jobs or kit.rt.processors()
+    return given
+
+
+def build_below(crates, jobs):
+    """Builds the libraries below these crates, and says which of the crates can be checked."""
+    libraries = [it for it in kit.in_order({below for crate in crates for below in crate.below()})]
+    built = kit.run_tasks([kit.proof_task(it, True) for it in libraries], lanes=jobs)
+    return [it for it in crates if all(built[below.name] for below in it.below())]
+
+
+def main(words):
+    given = arguments(words)
+    crates = kit.crates(given.root or kit.ROOT)
+    lacking = {*given.crates} - {it.name for it in crates}
+    if lacking:
+        sys.exit(f"wrong_bodies: crates.txt names no crate {', '.join(sorted(lacking))}")
+    held = kit.hold(crates)
+    crates = [it for it in crates if os.path.isdir(f"{it.folder}/{given.folder}") and (not given.crates or it.name in given.crates)]
+    slots, surfaces, printing = threading.Semaphore(given.jobs), Surfaces(), threading.Lock()
+    trials = {it: Trial(it, given, slots, surfaces) for it in crates}
+    stale = [it for it in crates if trials[it].sort_out()[1]]
+    ready = build_below(stale, given.jobs)
+    # (from here on the repository is only read, as `rt must-fail` does, which holds no lock either)
+    for it in held:
+        os.close(it)
+    counts = {REFUSED: 0}
+    tried = 0
+
+    def one(crate):
+        nonlocal tried
+        trial, began = trials[crate], time.time()
+        if crate in stale and crate not in ready:
+            with printing:
+                counts[UNPROVED] = counts.get(UNPROVED, 0) + 1
+                print(f"{crate.name}: UNPROVED: a library below it is not proved", flush=True)
+            return
+        new, missing = trial.run()
+        with printing:
+            tried += new
+            for it, (verdict, said) in sorted(trial.verdicts.items(), key=lambda row: row[0].name):
+                counts[verdict] = counts.get(verdict, 0) + 1
+                if verdict != REFUSED or given.show:
+                    print(f"{crate.name}/{it.name}: {verdict}: {said[:260]}", flush=True)
+            for name in missing:
+                counts["MISSING"] = counts.get("MISSING", 0) + 1
+                print(f"{crate.name}/{name}: MISSING: {RECORD} names it, and there is no such edit", flush=True)
+            if given.show:
+                print("".join(f"  {crate.name}: {it}\n" for it in trial.log), end="", flush=True)
+            print(f"{crate.name}: {len(trial.verdicts)} edits, {new} tried in {trial.checks} checks, {time.time() - began:.0f} s", flush=True)
+
+    with ThreadPoolExecutor(max(1, given.jobs)) as pool:
+        for _ in pool.map(one, crates):
+            pass
+    refused = counts.pop(REFUSED)
+    said = "".join(f", {n} {verdict}" for verdict, n in sorted(counts.items()))
+    print(f"{tried} edits tried now{said}; {processor_seconds():.0f} processor seconds")
+    print(f"{refused} refused, {sum(counts.values())} not")
+    return 1 if counts else 0
+
+
+if __name__ == "__main__":
+    sys.exit(main(sys.argv[1:]))
