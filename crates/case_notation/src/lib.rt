@@ -1,0 +1,11 @@
+//! How the lines of a case program are written: fields between ` :: `, named and repeated pieces, and characters that stand
+//! for those that a line can't hold.
+#![tactic(auto)]
+
+mod marks;
+mod names;
+mod words;
+
+pub use marks::{plain, shown};
+pub use names::Names;
+pub use words::{behind, field, fields_of, file_of, first_word, number};

@@ -1,0 +1,83 @@
+// The analysis after a change of one file's text: that of the changed workspace, whatever the change tells the other files.
+ghost use Rattle.std.specs.Prelude.{◌≡◌, ◌<◌, [], false, length, map, slice_index_or, IsTrue};
+ghost use Rattle.piece_collector.specs.Board.{Ascends};
+ghost use Rattle.work_index.specs.Changes.{with_text};
+ghost use Rattle.work_index.specs.Pieces.{workspace_of};
+
+use crate::analyses::{board_of, pieces_of, put, write_by_number};
+use anyhow::bail;
+use case_notation::first_word;
+use piece_collector::Piece;
+use std::alloc::{AllocError, Global};
+use work_index::{Analysis, FileWork, analyse_again, analyse_here};
+
+// Whether two pieces have one path, and one text too unless that may differ.
+fn is_alike(before: &Piece<FileWork>, after: &Piece<FileWork>, may_differ: bool) -> bool
+    ensures path { IsTrue result → before.now.path ≡ after.now.path }
+    ensures text { IsTrue result → may_differ ≡ false → before.now.text ≡ after.now.text }
+{
+    before.path() == after.path() && (may_differ || before.text() == after.text())
+}
+
+// Whether some pieces are those before a change of one file's text, given its number.
+fn differ_at(before: &[Piece<FileWork>], after: &[Piece<FileWork>], number: usize) -> bool
+    ensures within { IsTrue result → number < length after.now }
+    ensures text { IsTrue result → workspace_of before.now ≡ with_text (workspace_of after.now) number (slice_index_or (map (λ p. p.text) before.now) number []) }
+{
+    if before.len() != after.len() || number >= after.len() {
+        return false;
+    }
+    for (file, piece) in before.iter().enumerate() {
+        if !is_alike(piece, &after[file], file == number) {
+            return false;
+        }
+    }
+    true
+}
+
+// The analysis after a change of one file's text, from the one before. None where that is not how the pieces differ.
+fn analysed_again(
+    alloc: Global,
+    before: &[Piece<FileWork>],
+    after: &[Piece<FileWork>],
+    number: usize,
+) -> Result<Option<Analysis>, AllocError>
+    requires { Ascends before.now }
+{
+    let earlier = analyse_here(alloc, before)?;
+    if !differ_at(before, after, number) {
+        return Ok(None);
+    }
+    Ok(Some(analyse_again(alloc, earlier, number, after)?))
+}
+
+// The number of the file at a path.
+fn number_of(pieces: &[Piece<FileWork>], path: &str) -> anyhow::Result<usize> {
+    for (number, piece) in pieces.iter().enumerate() {
+        if piece.path() == path {
+            return Ok(number);
+        }
+    }
+    bail!("no such file")
+}
+
+/// The answer to a call on files, the last of which changes one of the others and has `> ` at the front.
+pub fn answer(alloc: Global, fields: &[&str]) -> anyhow::Result<String> {
+    let Some((last, files)) = fields.split_last() else {
+        bail!("no files");
+    };
+    let Some(change) = last.strip_prefix("> ") else {
+        bail!("no change");
+    };
+    let before = pieces_of(&mut board_of(alloc, files)?)?;
+    let mut board = board_of(alloc, files)?;
+    put(alloc, &mut board, change)?;
+    let after = pieces_of(&mut board)?;
+    let (path, _) = first_word(change);
+    let number = number_of(before.pieces(), path)?;
+    let mut line = String::new(alloc);
+    if let Some(found) = analysed_again(alloc, before.pieces(), after.pieces(), number)? {
+        write_by_number(&mut line, &found, after.pieces())?;
+    }
+    Ok(line)
+}

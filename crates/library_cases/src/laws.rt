@@ -1,0 +1,44 @@
+// The laws of the libraries are calls that do nothing.
+use analysis_laws::{names_in_order, uses_in_order, uses_of_names};
+use facts_laws::{
+    decls_in_order, names_are_identifiers, names_nest, one_list_in_order, one_value_of_facts,
+    problems_in_order,
+};
+use import_graph::{NamedFacts, closure_law, one_view, view_law};
+use proto_resolve::{diagnostic_law, finding_law, scope_law, seen_law, uses_law};
+use std::alloc::Global;
+use syntax_laws::{identifiers_law, names_law, type_names_law};
+
+/// Calls the laws.
+pub fn answer(alloc: Global) -> anyhow::Result<String> {
+    let none: Vec<NamedFacts> = Vec::new(alloc);
+    laws_of_texts();
+    laws_of_files(none.as_slice());
+    Ok(String::from_str(alloc, "laws")?)
+}
+
+fn laws_of_texts() {
+    names_law();
+    type_names_law();
+    identifiers_law();
+    problems_in_order();
+    one_list_in_order();
+    one_value_of_facts();
+    names_are_identifiers();
+    decls_in_order();
+    names_nest();
+}
+
+fn laws_of_files(files: &[NamedFacts]) {
+    closure_law();
+    view_law(files);
+    one_view(files);
+    scope_law();
+    uses_law();
+    seen_law();
+    finding_law(files);
+    diagnostic_law(files);
+    names_in_order();
+    uses_in_order();
+    uses_of_names();
+}

@@ -1,0 +1,39 @@
+// Places in texts, and diagnostics.
+use proto_facts::Diag;
+
+// Line and column of an offset, from 0.
+fn place(text: &str, offset: usize) -> (u32, u32) {
+    let mut line = 0u32;
+    let mut column = 0u32;
+    for byte in text.as_bytes().iter().take(offset) {
+        if *byte == b'\n' {
+            line = line.saturating_add(1);
+            column = 0;
+        } else {
+            column = column.saturating_add(1);
+        }
+    }
+    (line, column)
+}
+
+/// Writes a place: the line of its start, and the columns of its start and its end.
+pub fn write_place(line: &mut String, text: &str, start: usize, end: usize) -> anyhow::Result<()> {
+    let (row, from) = place(text, start);
+    let (_, to) = place(text, end);
+    Ok(write!(line, "{row}:{from}-{to}")?)
+}
+
+/// Writes diagnostics, each with a space before it: its place and its number.
+pub fn write_diagnostics(
+    line: &mut String,
+    text: &str,
+    diagnostics: &[Diag],
+) -> anyhow::Result<()> {
+    for diag in diagnostics {
+        line.push(' ')?;
+        write_place(line, text, diag.start, diag.end)?;
+        let code = diag.message.code();
+        write!(line, " {code}")?;
+    }
+    Ok(())
+}

@@ -1,0 +1,174 @@
+// Statements in words.
+use proto_syntax::{
+    Items, Literal, Node, Number, RangeEnd, ReservedList, ReservedRange, Span, TypeName,
+};
+
+// The text of a span.
+fn of(text: &str, span: Span) -> &str {
+    text.get(span.start..span.end).unwrap_or("?")
+}
+
+fn write_spans(line: &mut String, text: &str, spans: &[Span], before: &str) -> anyhow::Result<()> {
+    for span in spans {
+        line.push_str(before)?;
+        line.push_str(of(text, *span))?;
+    }
+    Ok(())
+}
+
+fn write_type(line: &mut String, text: &str, name: &TypeName) -> anyhow::Result<()> {
+    let whole = of(text, name.span);
+    write!(line, " type {whole}")?;
+    if name.is_absolute {
+        line.push_str(" from the root")?;
+    }
+    write_spans(line, text, name.components.as_slice(), "/")
+}
+
+fn write_number(line: &mut String, text: &str, number: Number) -> anyhow::Result<()> {
+    let whole = of(text, number.span);
+    let digits = of(text, number.digits);
+    let negative = number.is_negative;
+    write!(line, " {whole} {digits} {negative}")?;
+    Ok(())
+}
+
+fn write_range(line: &mut String, text: &str, range: ReservedRange) -> anyhow::Result<()> {
+    write_number(line, text, range.low)?;
+    match range.high {
+        RangeEnd::Same => Ok(()),
+        RangeEnd::Number(number) => {
+            line.push_str(" to")?;
+            write_number(line, text, number)
+        }
+        RangeEnd::Max(span) => {
+            line.push_str(" to ")?;
+            Ok(line.push_str(of(text, span))?)
+        }
+    }
+}
+
+fn write_literal(line: &mut String, text: &str, literal: &Literal) -> anyhow::Result<()> {
+    let whole = of(text, literal.span);
+    write!(line, " {whole}")?;
+    write_spans(line, text, literal.parts.as_slice(), "+")
+}
+
+fn write_list(line: &mut String, text: &str, list: &ReservedList) -> anyhow::Result<()> {
+    match list {
+        ReservedList::Ranges(ranges) => {
+            for range in ranges.as_slice() {
+                write_range(line, text, *range)?;
+            }
+        }
+        ReservedList::Names(names) => {
+            for name in names.as_slice() {
+                write_literal(line, text, name)?;
+            }
+        }
+    }
+    Ok(())
+}
+
+fn write_block(
+    line: &mut String,
+    text: &str,
+    form: &str,
+    name: Span,
+    items: &Items<Node>,
+) -> anyhow::Result<()> {
+    let name = of(text, name);
+    let count = items.len();
+    write!(line, "{form} {name} {count}")?;
+    Ok(())
+}
+
+/// Writes a statement in words, without those inside it.
+pub fn write_node(line: &mut String, text: &str, node: &Node) -> anyhow::Result<()> {
+    match node {
+        Node::Message { name, items, .. } => write_block(line, text, "message", *name, items),
+        Node::EnumDef { name, items, .. } => write_block(line, text, "enum", *name, items),
+        Node::Service { name, items, .. } => write_block(line, text, "service", *name, items),
+        Node::Oneof { name, items, .. } => write_block(line, text, "oneof", *name, items),
+        Node::Extend { target, items, .. } => {
+            write_block(line, text, "extend", target.span, items)?;
+            write_type(line, text, target)
+        }
+        Node::Rpc {
+            name,
+            request,
+            response,
+            items,
+            ..
+        } => {
+            write_block(line, text, "rpc", *name, items)?;
+            write_type(line, text, request)?;
+            write_type(line, text, response)
+        }
+        Node::Field(field) => {
+            line.push_str("field ")?;
+            line.push_str(of(text, field.name))?;
+            write_spans(line, text, field.labels.as_slice(), " ")?;
+            write_type(line, text, &field.type_name)?;
+            Ok(write_spans(line, text, &[field.number], " = ")?)
+        }
+        Node::MapField(map) => {
+            line.push_str("map ")?;
+            line.push_str(of(text, map.name))?;
+            write_spans(line, text, map.labels.as_slice(), " ")?;
+            write_type(line, text, &map.key)?;
+            write_type(line, text, &map.value)?;
+            write_spans(line, text, &[map.number], " = ")
+        }
+        Node::Value { name, number, .. } => {
+            line.push_str("value ")?;
+            line.push_str(of(text, *name))?;
+            write_number(line, text, *number)
+        }
+        Node::Reserved { list, .. } => {
+            line.push_str("reserved")?;
+            write_list(line, text, list)
+        }
+        Node::Import {
+            is_public,
+            path,
+            ..
+        } => {
+            write!(line, "import {is_public}")?;
+            write_literal(line, text, path)
+        }
+        Node::Package {
+            name,
+            components,
+            ..
+        } => {
+            line.push_str("package ")?;
+            line.push_str(of(text, *name))?;
+            write_spans(line, text, components.as_slice(), "/")
+        }
+        Node::OptionDef { name, value, .. } => write_spans(
+            line,
+            text,
+            &[*name, *value],
+            " option ",
+        ),
+        Node::Syntax { value, .. } => {
+            line.push_str("syntax")?;
+            write_literal(line, text, value)
+        }
+        Node::Empty { .. } => Ok(line.push_str("empty")?),
+    }
+}
+
+/// The statements between a block's braces.
+pub fn inner(node: &Node) -> &[Node] {
+    match node {
+        Node::Message { items, .. }
+        | Node::EnumDef { items, .. }
+        | Node::Service { items, .. }
+        | Node::Oneof { items, .. }
+        | Node::Extend { items, .. }
+        | Node::Rpc { items, .. } => items.as_slice(),
+        _ => &[],
+    }
+}
