@@ -22,6 +22,21 @@ PRIVATE_WORDS = {
     "known to everybody": "fixed",
 }
 
+# Names that had several meanings, each with what stands for it now.
+OLD_NAMES = {
+    "LinkedFile": "FileImports",
+    "Linked": "Snapshot",
+    "ViewFaults": "ViewDiagnostics",
+    "faults_of": "view_diagnostics",
+    "fault_law": "diagnostic_law",
+    "links_of": "imports_of or resolution_of",
+    "look_alike": "same_outlook",
+    "tell_alike": "same_exports",
+    "import_alike": "same_imports",
+    "messages_in_order": "problems_in_order",
+    "result_begun": "begin_result",
+}
+
 
 def documents():
     """The documents of the repository, without what was built."""
@@ -62,6 +77,15 @@ class Documents(unittest.TestCase):
                 for private, plain in PRIVATE_WORDS.items():
                     with self.subTest(document=document.relative_to(ROOT).as_posix(), line=number):
                         self.assertNotRegex(line, rf"\b{private}\b", f"say it in plain English: {plain}")
+
+    def test_no_name_has_its_old_meanings(self):
+        named = re.compile(rf"\b({'|'.join(OLD_NAMES)})\b")
+        for folder in ("crates", "docs", "bench", "tools"):
+            for path in sorted((ROOT / folder).rglob("*")):
+                if path.suffix in (".rt", ".antt", ".edit", ".md", ".txt", ".py") and not {"out", "__pycache__"} & set(path.parts):
+                    with self.subTest(file=path.relative_to(ROOT).as_posix()):
+                        found = named.search(path.read_text(encoding="utf-8"))
+                        self.assertIsNone(found, found and f"{found[0]}: {OLD_NAMES[found[0]]}")
 
     def test_each_library_has_a_readme(self):
         for line in (ROOT / "crates.txt").read_text().splitlines():
