@@ -7,7 +7,7 @@ use anyhow::bail;
 use case_notation::file_of;
 use piece_collector::{Board, Job, Lent, Piece};
 use proto_resolve::DeclRef;
-use std::alloc::Global;
+use std::alloc::{AllocError, Global};
 use work_index::{Analysis, FileWork, analyse_here};
 
 /// Sets a text, and brings the piece that is made of it.
@@ -117,25 +117,35 @@ fn write_asked(line: &mut String, found: &Analysis, question: &str) -> anyhow::R
     }
 }
 
-// All that is wrong in some files, by path, and by number where that differs; and the answers to questions, which are fields
-// with `? ` at the front.
-pub fn answer(alloc: Global, fields: &[&str]) -> anyhow::Result<String> {
+// The fields that are no questions.
+fn files_in<'a>(alloc: Global, fields: &[&'a str]) -> Result<Vec<&'a str>, AllocError> {
     let mut files = Vec::new(alloc);
     for field in fields {
         if !field.starts_with("? ") {
             files.push(*field)?;
         }
     }
-    let mut board = board_of(alloc, files.as_slice())?;
-    let pieces = pieces_of(&mut board)?;
-    let found = analyse_here(alloc, pieces.pieces())?;
+    Ok(files)
+}
+
+// All that is wrong in some files, by path, and by number where that differs.
+fn said(alloc: Global, found: &Analysis, pieces: &[Piece<FileWork>]) -> anyhow::Result<String> {
     let mut line = String::new(alloc);
-    write_by_path(&mut line, &found, pieces.pieces())?;
+    write_by_path(&mut line, found, pieces)?;
     let mut by_number = String::new(alloc);
-    write_by_number(&mut by_number, &found, pieces.pieces())?;
+    write_by_number(&mut by_number, found, pieces)?;
     if line.as_str() != by_number.as_str() {
         write!(line, " but by number {by_number}")?;
     }
+    Ok(line)
+}
+
+/// All that is wrong in some files, and the answers to questions, which are fields with `? ` at the front.
+pub fn answer(alloc: Global, fields: &[&str]) -> anyhow::Result<String> {
+    let files = files_in(alloc, fields)?;
+    let pieces = pieces_of(&mut board_of(alloc, files.as_slice())?)?;
+    let found = analyse_here(alloc, pieces.pieces())?;
+    let mut line = said(alloc, &found, pieces.pieces())?;
     for field in fields {
         if let Some(question) = field.strip_prefix("? ") {
             write_asked(&mut line, &found, question)?;

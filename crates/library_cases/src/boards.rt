@@ -3,7 +3,7 @@ ghost use Rattle.std.specs.Prelude.{◌≡◌, false};
 
 use anyhow::bail;
 use case_notation::{field, file_of, first_word, number, plain, shown};
-use piece_collector::{Board, BoardEvent, Job, Lent, Piece, Work, run_events};
+use piece_collector::{Board, BoardEvent, Job, Lent, Piece, Verdict, Work, run_events};
 use std::alloc::{AllocError, Global};
 
 /// Work whose product is the text's length.
@@ -44,12 +44,17 @@ pub fn answer(alloc: Global, call: &str, fields: &[&str]) -> anyhow::Result<Stri
     match call {
         "board" => run(alloc, &mut line, fields)?,
         "piece" => write_piece(alloc, &mut line, &piece(alloc, field(fields, 0))?)?,
-        _ => match Piece::make(&Refused, job(alloc, field(fields, 0))?) {
-            Ok(_) => line.push_str("made")?,
-            Err(job) => write_job(alloc, &mut line, &job)?,
-        },
+        _ => refuse(alloc, &mut line, field(fields, 0))?,
     }
     Ok(line)
+}
+
+// The job that comes back where its work finds no memory.
+fn refuse(alloc: Global, line: &mut String, words: &str) -> anyhow::Result<()> {
+    match Piece::make(&Refused, job(alloc, words)?) {
+        Ok(_) => Ok(line.push_str("made")?),
+        Err(job) => write_job(alloc, line, &job),
+    }
 }
 
 // A job: the path, the stamp and the text.
@@ -126,22 +131,36 @@ fn run(alloc: Global, line: &mut String, fields: &[&str]) -> anyhow::Result<()> 
     };
     let mut board = Board::counting_from(alloc, Length, number(stamp)?);
     let events = events(alloc, fields)?;
-    match run_events(&mut board, events) {
-        Ok(verdicts) => {
-            for verdict in verdicts.as_slice() {
-                write!(line, "{verdict:?} ")?;
-            }
-        }
+    write_run(line, &mut board, events)?;
+    for call in fields.iter().skip_while(|field| **field != "then").skip(1) {
+        line.push_str("; ")?;
+        step(alloc, line, &mut board, call)?;
+    }
+    Ok(())
+}
+
+fn write_run(
+    line: &mut String,
+    board: &mut Board<Length>,
+    events: Vec<BoardEvent<Length>>,
+) -> anyhow::Result<()>
+    requires { board.old.is_lent ≡ false }
+    ensures { board.new.is_lent ≡ false }
+{
+    match run_events(board, events) {
+        Ok(verdicts) => write_verdicts(line, verdicts.as_slice())?,
         Err(fault) => {
             let code = fault.code();
             write!(line, "fault {code} ")?;
         }
     }
     let complete = board.is_complete();
-    write!(line, "complete {complete}")?;
-    for call in fields.iter().skip_while(|field| **field != "then").skip(1) {
-        line.push_str("; ")?;
-        step(alloc, line, &mut board, call)?;
+    Ok(write!(line, "complete {complete}")?)
+}
+
+fn write_verdicts(line: &mut String, verdicts: &[Verdict]) -> anyhow::Result<()> {
+    for verdict in verdicts {
+        write!(line, "{verdict:?} ")?;
     }
     Ok(())
 }
@@ -158,40 +177,65 @@ fn step(
 {
     let (word, rest) = first_word(call);
     match word {
-        "set" => {
-            let (path, text) = file_of(alloc, rest)?;
-            match board.set_text(path, text) {
-                Ok(stamp) => write!(line, "{stamp}")?,
-                Err(fault) => write!(line, "{fault}")?,
-            }
-        }
+        "set" => set(alloc, line, board, rest),
         "remove" => {
             let known = board.remove(rest);
-            write!(line, "{known}")?;
+            Ok(write!(line, "{known}")?)
         }
-        "next" => match board.next_job()? {
-            Some(job) => write_job(alloc, line, &job)?,
-            None => line.push_str("none")?,
-        },
-        "work" => {
-            if let Some(job) = board.next_job()? {
-                let verdict = board.offer(made(job)?);
-                write!(line, "{verdict:?}")?;
-            }
-        }
+        "next" => next(alloc, line, board),
+        "work" => work(line, board),
         "offer" => {
             let verdict = board.offer(piece(alloc, rest)?);
-            write!(line, "{verdict:?}")?;
+            Ok(write!(line, "{verdict:?}")?)
         }
         "fail" => {
             let (path, stamp) = first_word(rest);
             let verdict = board.fail(path, number(stamp)?);
-            write!(line, "{verdict:?}")?;
+            Ok(write!(line, "{verdict:?}")?)
         }
-        "lend" => lend(alloc, line, board)?,
-        _ => bail!("no such call"),
+        _ => lend(alloc, line, board),
     }
-    Ok(())
+}
+
+fn set(
+    alloc: Global,
+    line: &mut String,
+    board: &mut Board<Length>,
+    file: &str,
+) -> anyhow::Result<()>
+    requires { board.old.is_lent ≡ false }
+    ensures { board.new.is_lent ≡ false }
+{
+    let (path, text) = file_of(alloc, file)?;
+    match board.set_text(path, text) {
+        Ok(stamp) => Ok(write!(line, "{stamp}")?),
+        Err(fault) => {
+            let code = fault.code();
+            Ok(write!(line, "fault {code}")?)
+        }
+    }
+}
+
+fn next(alloc: Global, line: &mut String, board: &mut Board<Length>) -> anyhow::Result<()>
+    requires { board.old.is_lent ≡ false }
+    ensures { board.new.is_lent ≡ false }
+{
+    match board.next_job()? {
+        Some(job) => write_job(alloc, line, &job),
+        None => Ok(line.push_str("none")?),
+    }
+}
+
+// Offers the piece that is made of the next job.
+fn work(line: &mut String, board: &mut Board<Length>) -> anyhow::Result<()>
+    requires { board.old.is_lent ≡ false }
+    ensures { board.new.is_lent ≡ false }
+{
+    let Some(job) = board.next_job()? else {
+        bail!("no job");
+    };
+    let verdict = board.offer(made(job)?);
+    Ok(write!(line, "{verdict:?}")?)
 }
 
 // Lends all pieces where the board is complete, and takes them back.

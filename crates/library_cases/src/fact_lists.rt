@@ -10,21 +10,45 @@ use std::alloc::{AllocError, Global};
 pub fn answer(alloc: Global, call: &str, fields: &[&str]) -> anyhow::Result<String> {
     match call {
         "in order" => ordered(alloc, fields),
-        "joined" => joined_text(alloc, fields),
-        "copied name" => {
-            let name = Name::of(plain(alloc, field(fields, 0))?);
-            Ok(String::from_str(alloc, name.copy(alloc)?.as_str())?)
-        }
-        _ => {
-            let text = plain(alloc, field(fields, 0))?;
-            let found = facts_of(alloc, text.as_str())?;
-            match call {
-                "problems" => problems(alloc, &found),
-                "copied facts" => all_facts(alloc, &found.copy()?),
-                _ => all_facts(alloc, &found),
-            }
-        }
+        "long text" => problems_of_length(alloc, field(fields, 0)),
+        "joined" => joined_part(alloc, fields),
+        "part" => part_shown(alloc, fields),
+        "copied name" => copied_name(alloc, field(fields, 0)),
+        "problems" => problems(alloc, &facts_in(alloc, field(fields, 0))?),
+        "copied facts" => all_facts(alloc, &copied_facts(alloc, field(fields, 0))?),
+        _ => all_facts(alloc, &facts_in(alloc, field(fields, 0))?),
     }
+}
+
+/// The facts of the text of a field.
+pub fn facts_in(alloc: Global, field: &str) -> Result<FileFacts, AllocError> {
+    facts_of(alloc, plain(alloc, field)?.as_str())
+}
+
+fn copied_facts(alloc: Global, field: &str) -> Result<FileFacts, AllocError> {
+    facts_in(alloc, field)?.copy()
+}
+
+fn copied_name(alloc: Global, field: &str) -> anyhow::Result<String> {
+    let name = Name::of(plain(alloc, field)?);
+    let copy = name.copy(alloc)?;
+    Ok(String::from_str(alloc, copy.as_str())?)
+}
+
+fn problems_of_length(alloc: Global, length: &str) -> anyhow::Result<String> {
+    let text = long_text(alloc, length.parse::<usize>()?)?;
+    problems(alloc, &facts_of(alloc, text.as_str())?)
+}
+
+fn joined_part(alloc: Global, fields: &[&str]) -> anyhow::Result<String> {
+    let name = part(field(fields, 1), field(fields, 2))?;
+    let full_name = joined(alloc, field(fields, 0), name)?;
+    Ok(String::from_str(alloc, full_name.as_str())?)
+}
+
+fn part_shown(alloc: Global, fields: &[&str]) -> anyhow::Result<String> {
+    let part = part(field(fields, 0), field(fields, 1))?;
+    Ok(format!(in alloc; "<{part}>")?)
 }
 
 /// The facts of a text.
@@ -107,17 +131,26 @@ fn message(words: &str) -> anyhow::Result<Problem> {
     bail!("no such message")
 }
 
-// Diagnostics, each a start and the words of its message, in order: with number, severity and words.
-fn ordered(alloc: Global, fields: &[&str]) -> anyhow::Result<String> {
+fn diag(field: &str) -> anyhow::Result<Diag> {
+    let (start, words) = first_word(field);
+    Ok(Diag {
+        start: start.parse::<usize>()?,
+        end: 9,
+        message: message(words)?,
+    })
+}
+
+fn diags(alloc: Global, fields: &[&str]) -> anyhow::Result<Vec<Diag>> {
     let mut diags = Vec::new(alloc);
     for field in fields {
-        let (start, words) = first_word(field);
-        diags.push(Diag {
-            start: start.parse::<usize>()?,
-            end: 9,
-            message: message(words)?,
-        })?;
+        diags.push(diag(field)?)?;
     }
+    Ok(diags)
+}
+
+// Diagnostics, each a start and the words of its message, in order: with number, severity and words.
+fn ordered(alloc: Global, fields: &[&str]) -> anyhow::Result<String> {
+    let diags = diags(alloc, fields)?;
     let mut line = String::new(alloc);
     for diag in in_order(alloc, diags.as_slice())?.as_slice() {
         let start = diag.start;
@@ -129,14 +162,24 @@ fn ordered(alloc: Global, fields: &[&str]) -> anyhow::Result<String> {
     Ok(line)
 }
 
-// A scope, and a part of a text by its start and end: the full name.
-fn joined_text(alloc: Global, fields: &[&str]) -> anyhow::Result<String> {
-    let (start, end) = first_word(field(fields, 2));
+// The part of a text from an offset to another.
+fn part<'a>(text: &'a str, offsets: &str) -> anyhow::Result<&'a str> {
+    let (start, end) = first_word(offsets);
     let span = Span {
         start: start.parse::<usize>()?,
         end: end.parse::<usize>()?,
     };
-    let name = text_at(field(fields, 1), span);
-    let full_name = joined(alloc, field(fields, 0), name)?;
-    Ok(String::from_str(alloc, full_name.as_str())?)
+    Ok(text_at(text, span))
+}
+
+// A text of so many bytes: a `syntax` statement and spaces.
+fn long_text(alloc: Global, length: usize) -> Result<String, AllocError> {
+    let spaces = "                                                                ";
+    let mut text = String::from_str(alloc, "syntax = \"proto3\";\n")?;
+    let left = length.saturating_sub(text.len());
+    for _ in 0..left / 64 {
+        text.push_str(spaces)?;
+    }
+    text.push_str(spaces.get(..left % 64).unwrap_or(""))?;
+    Ok(text)
 }

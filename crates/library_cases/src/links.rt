@@ -1,11 +1,14 @@
 // What names mean, in lists of files.
-use crate::fact_lists::facts_of;
+ghost use Rattle.std.specs.Prelude.{◌≡◌, ◌<◌, length, IfOk};
+
+use crate::fact_lists::facts_in;
 use crate::graphs::named_facts;
 use crate::places::{write_diagnostics, write_place};
 use crate::texts::tree_of;
-use case_notation::{field, file_of, plain};
-use import_graph::{NamedFacts, are_in_path_order, same_outlook};
-use proto_facts::FileFacts;
+use anyhow::bail;
+use case_notation::{field, file_of};
+use import_graph::{Graph, NamedFacts, are_in_path_order, same_outlook};
+use proto_facts::{FileFacts, Name};
 use proto_resolve::{Index, Links, Table, Target, resolve_file, same_exports, same_imports};
 use std::alloc::{AllocError, Global};
 
@@ -65,10 +68,6 @@ fn all_links(alloc: Global, fields: &[&str]) -> anyhow::Result<String> {
     Ok(line)
 }
 
-fn facts_in(alloc: Global, field: &str) -> Result<FileFacts, AllocError> {
-    facts_of(alloc, plain(alloc, field)?.as_str())
-}
-
 // Whether two texts say the same to the files that see them, and of imports.
 fn outlines(alloc: Global, fields: &[&str]) -> anyhow::Result<String> {
     let first = facts_in(alloc, field(fields, 0))?;
@@ -78,12 +77,22 @@ fn outlines(alloc: Global, fields: &[&str]) -> anyhow::Result<String> {
     Ok(format!(in alloc; "{tells} {imports}")?)
 }
 
-// The files of one file, at `a.proto`.
-fn alone(alloc: Global, field: &str) -> Result<Vec<NamedFacts>, AllocError> {
+// The table of one file, at `a.proto`.
+fn alone(alloc: Global, field: &str) -> anyhow::Result<Table>
+    ensures { IfOk result (λ table. length table ≡ 1) }
+{
+    let path = Name::of(String::from_str(alloc, "a.proto")?);
+    let facts = facts_in(alloc, field)?;
     let mut files = Vec::new(alloc);
-    let path = String::from_str(alloc, "a.proto")?;
-    files.push(named_facts(alloc, path, plain(alloc, field)?.as_str())?)?;
-    Ok(files)
+    files.push(NamedFacts { path, facts })?;
+    if !are_in_path_order(files.as_slice()) {
+        bail!("not in order");
+    }
+    let table = Table::of(alloc, files)?;
+    if table.len() != 1 {
+        bail!("not one file");
+    }
+    Ok(table)
 }
 
 // Where the names of declarations start.
@@ -109,53 +118,43 @@ fn write_named(line: &mut String, table: &Table, names: &[&str]) -> anyhow::Resu
 // Two texts of the only file: what the table says of these names once the second one's facts are in the place of the
 // first one's, whether the file is closed then and was before, and whether its graphs look alike.
 fn replaced(alloc: Global, fields: &[&str]) -> anyhow::Result<String> {
-    let files = alone(alloc, field(fields, 0))?;
+    let table = alone(alloc, field(fields, 0))?;
     let other = facts_in(alloc, field(fields, 1))?;
-    let mut line = String::new(alloc);
-    if !are_in_path_order(files.as_slice()) {
-        return Ok(line);
-    }
-    let table = Table::of(alloc, files)?;
-    if table.len() != 1 {
-        return Ok(line);
-    }
     let (table, before) = table.replace_facts(alloc, 0, other)?;
-    if table.len() != 1 {
-        return Ok(line);
+    let mut line = String::new(alloc);
+    if table.len() == 1 {
+        write_graphs(&mut line, &before, table.graph())?;
+        write_decls(&mut line, table.facts(0))?;
     }
-    let closed = table.graph().is_closed(0)?;
-    let closed_before = before.is_closed(0)?;
-    let alike = same_outlook(&before, table.graph(), 0)?;
-    write!(
-        line,
-        "closed {closed}, before {closed_before}, alike {alike}"
-    )?;
-    write_decls(&mut line, table.facts(0))?;
     write_named(&mut line, &table, fields)?;
     Ok(line)
 }
 
+fn write_graphs(line: &mut String, before: &Graph, after: &Graph) -> anyhow::Result<()>
+    requires before { 0 < length before.now }
+    requires after { 0 < length after.now }
+{
+    let closed = after.is_closed(0)?;
+    let closed_before = before.is_closed(0)?;
+    let alike = same_outlook(before, after, 0)?;
+    Ok(write!(
+        line,
+        "closed {closed}, before {closed_before}, alike {alike}"
+    )?)
+}
+
 // The same, where the second text says the same to the other files and of imports: its facts are set.
 fn set(alloc: Global, fields: &[&str]) -> anyhow::Result<String> {
-    let files = alone(alloc, field(fields, 0))?;
+    let mut table = alone(alloc, field(fields, 0))?;
     let other = facts_in(alloc, field(fields, 1))?;
-    let mut line = String::new(alloc);
-    if !are_in_path_order(files.as_slice()) {
-        return Ok(line);
-    }
-    let mut table = Table::of(alloc, files)?;
-    if table.len() != 1 {
-        return Ok(line);
-    }
     if !same_exports(&other, table.facts(0)) || !same_imports(&other, table.facts(0)) {
-        return Ok(line);
+        bail!("not alike");
     }
     table.set_facts(0, other);
-    if table.len() != 1 {
-        return Ok(line);
+    let mut line = String::from_str(alloc, "set")?;
+    if table.len() == 1 {
+        write_decls(&mut line, table.facts(0))?;
     }
-    line.push_str("set")?;
-    write_decls(&mut line, table.facts(0))?;
     write_named(&mut line, &table, fields)?;
     Ok(line)
 }

@@ -25,10 +25,17 @@ use std::io::{self, BufRead, BufReader};
 fn answer(alloc: Global, call: &str, fields: &[&str]) -> anyhow::Result<String> {
     match call {
         "laws" => laws::answer(alloc),
-        "tokens" | "faults" | "statements" | "depth" => texts::answer(alloc, call, fields),
-        "problems" | "facts" | "copied facts" | "in order" | "joined" | "copied name" => {
-            fact_lists::answer(alloc, call, fields)
-        }
+        "tokens" | "token size" | "faults" | "statements" | "depth" => texts::answer(
+            alloc, call, fields,
+        ),
+        "problems"
+        | "facts"
+        | "copied facts"
+        | "in order"
+        | "long text"
+        | "joined"
+        | "part"
+        | "copied name" => { fact_lists::answer(alloc, call, fields) }
         "graph" | "alike" | "ring" => graphs::answer(alloc, call, fields),
         "links" | "outlines" | "replaced" | "set" => links::answer(alloc, call, fields),
         "board" | "piece" | "refused piece" => boards::answer(alloc, call, fields),
@@ -65,7 +72,10 @@ fn main(rt: HostRuntime) -> io::Result<()> {
     let mut names = Names::new(alloc);
     for line in BufReader::new(alloc, rt.reader())?.lines(alloc) {
         match answer_line(alloc, &mut names, line?.as_str()) {
-            Ok(answer) => println!(rt; "{answer}")?,
+            Ok(answer) => {
+                let answer = answer.as_str().trim_end();
+                println!(rt; "{answer}")?;
+            }
             Err(error) => println!(rt; "error: {error}")?,
         }
     }

@@ -2,15 +2,17 @@
 use crate::places::write_place;
 use crate::statements::{inner, write_node};
 use case_notation::{field, plain};
-use proto_lex::lex;
+use proto_lex::{Token, lex};
 use proto_syntax::{FileTree, SyntaxProblem, parse};
 use std::alloc::{AllocError, Global};
+use std::mem::size_of;
 
 /// The answer to a call on a text.
 pub fn answer(alloc: Global, call: &str, fields: &[&str]) -> anyhow::Result<String> {
     let text = plain(alloc, field(fields, 0))?;
     match call {
         "tokens" => tokens(alloc, text.as_str()),
+        "token size" => is_token_small(alloc),
         "faults" => faults(alloc, text.as_str()),
         "depth" => depth(alloc, text.as_str()),
         _ => statements(alloc, text.as_str()),
@@ -21,6 +23,11 @@ pub fn answer(alloc: Global, call: &str, fields: &[&str]) -> anyhow::Result<Stri
 pub fn tree_of(alloc: Global, text: &str) -> Result<FileTree, AllocError> {
     let tokens = lex(alloc, text)?;
     parse(alloc, text, tokens.as_slice())
+}
+
+fn is_token_small(alloc: Global) -> anyhow::Result<String> {
+    let is_small = size_of::<Token>() <= 24;
+    Ok(format!(in alloc; "{is_small}")?)
 }
 
 // A kind and the offsets of each token.

@@ -1,6 +1,4 @@
-//! Tests of `lsp_frame` through its public interface: frames read from and written to devices in memory.
-//!
-//! They are a crate of their own, so that the frames aren't proved once more with them.
+//! A test of `lsp_frame` that is run with allocations refused. All its other cases are in crates/session_cases.
 #![tactic(auto)]
 
 #[cfg(test)]
