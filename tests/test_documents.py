@@ -94,6 +94,12 @@ class Documents(unittest.TestCase):
                 with self.subTest(crate=crate):
                     self.assertTrue((ROOT / "crates" / crate / "README.md").is_file())
 
+    def test_each_library_is_in_the_table_of_crates(self):
+        rows = re.findall(r"^\| (`[^|]*) \|", (ROOT / "docs/ARCHITECTURE.md").read_text(encoding="utf-8"), re.MULTILINE)
+        named = {name for row in rows for name in re.findall(r"`(\w+)`", row)}
+        crates = {line.partition(":")[0] for line in (ROOT / "crates.txt").read_text().splitlines() if re.match(r"\w+:", line)}
+        self.assertEqual({crate for crate in crates if not re.search(r"_(cases|tests|notation)$", crate)} - named, set())
+
     def test_the_front_page_is_short(self):
         self.assertLess(len((ROOT / "README.md").read_text(encoding="utf-8").split()), 1500)
 
