@@ -16,6 +16,7 @@ use crate::members::{
 use crate::numbers::ZERO_VALUE;
 use crate::overlaps::add_range_twice;
 use crate::reach::add_number_reserved;
+use crate::text::Source;
 use file_facts::{Diag, Interval, Member, Numbering, Problem, text_at};
 use sqlite_items::Items;
 use std::alloc::{AllocError, Global};
@@ -49,40 +50,38 @@ fn add_interval_diags(
 
 // Adds what is wrong with the reserved names, and with the members by them.
 fn add_name_diags(
-    alloc: Global,
-    text: &str,
+    source: Source<'_>,
     items: &[Node],
     members: &[Member],
     diags: &mut Items<Diag>,
 ) -> Result<(), AllocError>
-    ensures { OnOk result (diags.new ≡ diags.old ++ spec.name_diags text.now members.now (body.names text.now items.now)) }
+    ensures { OnOk result (diags.new ≡ diags.old ++ spec.name_diags source.entry.text.now members.now (body.names source.entry.text.now items.now)) }
 {
-    let mut names = Items::new(alloc);
-    add_names(alloc, text, items, &mut names)?;
+    let mut names = Items::new(source.alloc);
+    add_names(source.alloc, source.text, items, &mut names)?;
     if names.is_empty() {
         return Ok(());
     }
-    let mut seen = BTreeSet::new(alloc);
-    add_name_twice(alloc, names.as_slice(), &mut seen, diags)?;
-    add_name_reserved(text, &seen, members, diags)
+    let mut seen = BTreeSet::new(source.alloc);
+    add_name_twice(source.alloc, names.as_slice(), &mut seen, diags)?;
+    add_name_reserved(source.text, &seen, members, diags)
 }
 
 // Adds what is wrong with what a body reserves, and with the members by it.
 fn add_reserved_diags(
-    alloc: Global,
+    source: Source<'_>,
     numbering: Numbering,
-    text: &str,
     items: &[Node],
     members: &[Member],
     diags: &mut Items<Diag>,
 ) -> Result<(), AllocError>
-    ensures { OnOk result (diags.new ≡ diags.old ++ spec.reserved_diags numbering text.now members.now items.now) }
+    ensures { OnOk result (diags.new ≡ diags.old ++ spec.reserved_diags numbering source.entry.text.now members.now items.now) }
 {
-    add_bounds(numbering, text, items, diags)?;
-    let mut found = Items::new(alloc);
-    add_intervals(numbering, text, items, &mut found)?;
-    add_interval_diags(alloc, found.as_slice(), members, diags)?;
-    add_name_diags(alloc, text, items, members, diags)
+    add_bounds(numbering, source.text, items, diags)?;
+    let mut found = Items::new(source.alloc);
+    add_intervals(numbering, source.text, items, &mut found)?;
+    add_interval_diags(source.alloc, found.as_slice(), members, diags)?;
+    add_name_diags(source, items, members, diags)
 }
 
 fn add_later_labels(items: &[Node], diags: &mut Items<Diag>) -> Result<(), AllocError>
@@ -112,39 +111,30 @@ fn room_for(alloc: Global, items: &[Node]) -> Result<Items<Member>, AllocError>
 }
 
 fn add_message_diags(
-    alloc: Global,
-    text: &str,
+    source: Source<'_>,
     items: &[Node],
     diags: &mut Items<Diag>,
 ) -> Result<(), AllocError>
-    ensures { OnOk result (diags.new ≡ diags.old ++ spec.message_diags text.now items.now) }
+    ensures { OnOk result (diags.new ≡ diags.old ++ spec.message_diags source.entry.text.now items.now) }
 {
-    let mut members = room_for(alloc, items)?;
-    add_fields(text, items, &mut members)?;
+    let mut members = room_for(source.alloc, items)?;
+    add_fields(source.text, items, &mut members)?;
     add_out_of_range(Numbering::Fields, members.as_slice(), diags)?;
     add_kept_free(members.as_slice(), diags)?;
-    add_used_twice(alloc, Numbering::Fields, members.as_slice(), diags)?;
-    add_reserved_diags(
-        alloc,
-        Numbering::Fields,
-        text,
-        items,
-        members.as_slice(),
-        diags,
-    )?;
+    add_used_twice(source.alloc, Numbering::Fields, members.as_slice(), diags)?;
+    add_reserved_diags(source, Numbering::Fields, items, members.as_slice(), diags)?;
     add_later_labels(items, diags)
 }
 
 fn add_extend_diags(
-    alloc: Global,
-    text: &str,
+    source: Source<'_>,
     items: &[Node],
     diags: &mut Items<Diag>,
 ) -> Result<(), AllocError>
-    ensures { OnOk result (diags.new ≡ diags.old ++ spec.extend_diags text.now items.now) }
+    ensures { OnOk result (diags.new ≡ diags.old ++ spec.extend_diags source.entry.text.now items.now) }
 {
-    let mut members = room_for(alloc, items)?;
-    add_plain_fields(text, items, &mut members)?;
+    let mut members = room_for(source.alloc, items)?;
+    add_plain_fields(source.text, items, &mut members)?;
     add_out_of_range(Numbering::Fields, members.as_slice(), diags)?;
     add_kept_free(members.as_slice(), diags)?;
     add_later_labels(items, diags)
@@ -190,27 +180,20 @@ fn add_alias_diags(
 }
 
 fn add_enum_diags(
-    alloc: Global,
-    text: &str,
+    source: Source<'_>,
     name: Span,
     items: &[Node],
     diags: &mut Items<Diag>,
 ) -> Result<(), AllocError>
-    ensures { OnOk result (diags.new ≡ diags.old ++ spec.enum_diags text.now name items.now) }
+    ensures { OnOk result (diags.new ≡ diags.old ++ spec.enum_diags source.entry.text.now name items.now) }
 {
-    let mut values = room_for(alloc, items)?;
-    add_values(text, items, &mut values)?;
+    let mut values = room_for(source.alloc, items)?;
+    add_values(source.text, items, &mut values)?;
     add_first(name, values.as_slice(), diags)?;
     add_out_of_range(Numbering::Values, values.as_slice(), diags)?;
-    add_alias_diags(alloc, allows_alias(text, items), values.as_slice(), diags)?;
-    add_reserved_diags(
-        alloc,
-        Numbering::Values,
-        text,
-        items,
-        values.as_slice(),
-        diags,
-    )
+    let may = allows_alias(source.text, items);
+    add_alias_diags(source.alloc, may, values.as_slice(), diags)?;
+    add_reserved_diags(source, Numbering::Values, items, values.as_slice(), diags)
 }
 
 fn is_key_word(word: &str) -> bool
@@ -255,21 +238,20 @@ fn add_map_diags(text: &str, field: &MapField, diags: &mut Items<Diag>) -> Resul
 
 // Adds what is wrong in a statement itself, without the statements inside it.
 pub fn add_statement_diags(
-    alloc: Global,
-    text: &str,
+    source: Source<'_>,
     node: &Node,
     diags: &mut Items<Diag>,
 ) -> Result<(), AllocError>
-    ensures { OnOk result (diags.new ≡ diags.old ++ spec.statement_diags text.now node.now) }
+    ensures { OnOk result (diags.new ≡ diags.old ++ spec.statement_diags source.entry.text.now node.now) }
 {
     match node {
-        Node::Message { items, .. } => add_message_diags(alloc, text, items.as_slice(), diags),
+        Node::Message { items, .. } => add_message_diags(source, items.as_slice(), diags),
         Node::EnumDef { name, items, .. } => {
-            add_enum_diags(alloc, text, *name, items.as_slice(), diags)
+            add_enum_diags(source, *name, items.as_slice(), diags)
         }
-        Node::Extend { items, .. } => add_extend_diags(alloc, text, items.as_slice(), diags),
+        Node::Extend { items, .. } => add_extend_diags(source, items.as_slice(), diags),
         Node::Oneof { items, .. } => add_all_labels(items.as_slice(), diags),
-        Node::MapField(field) => add_map_diags(text, field, diags),
+        Node::MapField(field) => add_map_diags(source.text, field, diags),
         _ => Ok(()),
     }
 }

@@ -4,14 +4,17 @@ ghost use Rattle.std.specs.Prelude.{◌≡◌, ◌++◌, ◌∷◌, [], length, 
 ghost use Rattle.file_facts.specs.Decls as spec;
 ghost use Rattle.file_facts.specs.declared.fact.DeclKind.TheVariants as kinds;
 
+use crate::text::Source;
 use file_facts::{Decl, DeclKind, joined, text_at};
 use sqlite_items::Items;
-use std::alloc::{AllocError, Global};
+use std::alloc::AllocError;
 use syntax_tree::{Node, Span};
 
 // Where a statement stands, and so what it declares there.
 #[derive(Clone, Copy)]
 pub struct Enclosing<'a> {
+    // The text that it stands in.
+    pub source: Source<'a>,
     // What a field is declared as there: as a field or as an extension.
     pub members: DeclKind,
     // What full names begin with there; empty at the top of a file without a package.
@@ -21,15 +24,10 @@ pub struct Enclosing<'a> {
 }
 
 // What a name declares in a place.
-fn declared(
-    alloc: Global,
-    text: &str,
-    kind: DeclKind,
-    name: Span,
-    place: Enclosing<'_>,
-) -> Result<Decl, AllocError>
-    ensures { IfOk result (λ d. d ≡ spec.declared text.now kind name place.entry.scope.now place.entry.parent) }
+fn declared(kind: DeclKind, name: Span, place: Enclosing<'_>) -> Result<Decl, AllocError>
+    ensures { IfOk result (λ d. d ≡ spec.declared place.entry.source.text.now kind name place.entry.scope.now place.entry.parent) }
 {
+    let Source { alloc, text } = place.source;
     Ok(Decl {
         kind,
         full_name: joined(alloc, place.scope, text_at(text, name))?,
@@ -41,133 +39,121 @@ fn declared(
 // Adds the declarations of statements, and of all inside them.
 #[cycle(decls)]
 fn add_decls(
-    alloc: Global,
-    text: &str,
     nodes: &[Node],
     place: Enclosing<'_>,
     found: &mut Items<Decl>,
 ) -> Result<(), AllocError>
-    ensures { OnOk result (found.new ≡ found.old ++ spec.decls_in text.now nodes.now place.entry.members place.entry.scope.now place.entry.parent (length found.old)) }
+    ensures { OnOk result (found.new ≡ found.old ++ spec.decls_in place.entry.source.text.now nodes.now place.entry.members place.entry.scope.now place.entry.parent (length found.old)) }
 {
     'nodes: for node in nodes {
-        add_decl(alloc, text, node, place, found)?;
+        add_decl(node, place, found)?;
     }
     Ok(())
 }
 
 // Adds a declaration that has no others inside it.
 fn add_own(
-    alloc: Global,
-    text: &str,
     kind: DeclKind,
     name: Span,
     place: Enclosing<'_>,
     found: &mut Items<Decl>,
 ) -> Result<(), AllocError>
-    ensures { OnOk result (found.new ≡ found.old ++ spec.declared text.now kind name place.entry.scope.now place.entry.parent ∷ []) }
+    ensures { OnOk result (found.new ≡ found.old ++ spec.declared place.entry.source.text.now kind name place.entry.scope.now place.entry.parent ∷ []) }
 {
-    found.push(declared(alloc, text, kind, name, place)?)
+    found.push(declared(kind, name, place)?)
 }
 
 // Adds a message or a service, and what is declared inside it: its full name is the scope of that.
 #[cycle(decls)]
 fn add_scope(
-    alloc: Global,
-    text: &str,
     kind: DeclKind,
     name: Span,
     items: &[Node],
     place: Enclosing<'_>,
     found: &mut Items<Decl>,
 ) -> Result<(), AllocError>
-    ensures { OnOk result (found.new ≡ found.old ++ spec.scope_decls text.now kind name items.now place.entry.scope.now place.entry.parent (length found.old)) }
+    ensures { OnOk result (found.new ≡ found.old ++ spec.scope_decls place.entry.source.text.now kind name items.now place.entry.scope.now place.entry.parent (length found.old)) }
 {
     let own = found.len();
-    let decl = declared(alloc, text, kind, name, place)?;
-    let inner = decl.full_name.copy(alloc)?;
+    let decl = declared(kind, name, place)?;
+    let inner = decl.full_name.copy(place.source.alloc)?;
     found.push(decl)?;
     let inside = Enclosing {
+        source: place.source,
         members: DeclKind::Field,
         scope: inner.as_str(),
         parent: Some(own),
     };
-    add_decls(alloc, text, items, inside, found)
+    add_decls(items, inside, found)
 }
 
 // Adds an enum or a oneof, and what is declared inside it, whose scope is the same.
 #[cycle(decls)]
 fn add_block(
-    alloc: Global,
-    text: &str,
     kind: DeclKind,
     name: Span,
     items: &[Node],
     place: Enclosing<'_>,
     found: &mut Items<Decl>,
 ) -> Result<(), AllocError>
-    ensures { OnOk result (found.new ≡ found.old ++ spec.block_decls text.now kind name items.now place.entry.scope.now place.entry.parent (length found.old)) }
+    ensures { OnOk result (found.new ≡ found.old ++ spec.block_decls place.entry.source.text.now kind name items.now place.entry.scope.now place.entry.parent (length found.old)) }
 {
     let inside = Enclosing {
         members: DeclKind::Field,
-        scope: place.scope,
         parent: Some(found.len()),
+        ..place
     };
-    add_own(alloc, text, kind, name, place, found)?;
-    add_decls(alloc, text, items, inside, found)
+    add_own(kind, name, place, found)?;
+    add_decls(items, inside, found)
 }
 
 // Adds what is declared in an `extend` block, whose scope and parent are those of the block.
 #[cycle(decls)]
 fn add_extensions(
-    alloc: Global,
-    text: &str,
     items: &[Node],
     place: Enclosing<'_>,
     found: &mut Items<Decl>,
 ) -> Result<(), AllocError>
-    ensures { OnOk result (found.new ≡ found.old ++ spec.decls_in text.now items.now kinds.Extension place.entry.scope.now place.entry.parent (length found.old)) }
+    ensures { OnOk result (found.new ≡ found.old ++ spec.decls_in place.entry.source.text.now items.now kinds.Extension place.entry.scope.now place.entry.parent (length found.old)) }
 {
     let inside = Enclosing {
         members: DeclKind::Extension,
-        scope: place.scope,
-        parent: place.parent,
+        ..place
     };
-    add_decls(alloc, text, items, inside, found)
+    add_decls(items, inside, found)
 }
 
 // Adds the declarations of a statement, and of all inside it.
 #[cycle(decls)]
 pub fn add_decl(
-    alloc: Global,
-    text: &str,
     node: &Node,
     place: Enclosing<'_>,
     found: &mut Items<Decl>,
 ) -> Result<(), AllocError>
-    ensures { OnOk result (found.new ≡ found.old ++ spec.decls_of text.now node.now place.entry.members place.entry.scope.now place.entry.parent (length found.old)) }
+    ensures { OnOk result (found.new ≡ found.old ++ spec.decls_of place.entry.source.text.now node.now place.entry.members place.entry.scope.now place.entry.parent (length found.old)) }
 {
     match node {
         Node::Message { name, items, .. } => {
             let items = items.as_slice();
-            add_scope(alloc, text, DeclKind::Message, *name, items, place, found)
+            add_scope(DeclKind::Message, *name, items, place, found)
         }
         Node::Service { name, items, .. } => {
             let items = items.as_slice();
-            add_scope(alloc, text, DeclKind::Service, *name, items, place, found)
+            add_scope(DeclKind::Service, *name, items, place, found)
         }
         Node::EnumDef { name, items, .. } => {
             let items = items.as_slice();
-            add_block(alloc, text, DeclKind::EnumDef, *name, items, place, found)
+            add_block(DeclKind::EnumDef, *name, items, place, found)
         }
         Node::Oneof { name, items, .. } => {
             let items = items.as_slice();
-            add_block(alloc, text, DeclKind::Oneof, *name, items, place, found)
+            add_block(DeclKind::Oneof, *name, items, place, found)
         }
-        Node::Extend { items, .. } => add_extensions(alloc, text, items.as_slice(), place, found),
-        Node::Rpc { name, .. } => add_own(alloc, text, DeclKind::Rpc, *name, place, found),
-        Node::Field(field) => add_own(alloc, text, place.members, field.name, place, found),
-        Node::MapField(field) => add_own(alloc, text, place.members, field.name, place, found),
-        Node::Value { name, .. } => add_own(alloc, text, DeclKind::Value, *name, place, found),
+        Node::Extend { items, .. } => add_extensions(items.as_slice(), place, found),
+        Node::Rpc { name, .. } => add_own(DeclKind::Rpc, *name, place, found),
+        Node::Field(field) => add_own(place.members, field.name, place, found),
+        Node::MapField(field) => add_own(place.members, field.name, place, found),
+        Node::Value { name, .. } => add_own(DeclKind::Value, *name, place, found),
         _ => Ok(()),
     }
 }

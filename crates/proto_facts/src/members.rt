@@ -66,12 +66,7 @@ fn add_field(text: &str, node: &Node, found: &mut Items<Member>) -> Result<(), A
     ensures { OnOk result (found.new ≡ found.old ++ spec.fields_of text.now (out-Node node.now)) }
 {
     match node {
-        Node::Field(field) => found.push(member(
-            Numbering::Fields,
-            text,
-            field.name,
-            plain(field.number),
-        )),
+        Node::Field(_) => add_plain_field(text, node, found),
         Node::MapField(field) => found.push(member(
             Numbering::Fields,
             text,

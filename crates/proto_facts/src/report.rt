@@ -9,6 +9,7 @@ use crate::file::{
     add_declared_twice, add_faults, add_imported_twice, add_imports, add_package_diags,
     add_packages, add_starts, add_stated, add_syntax_late, first_package, opaque,
 };
+use crate::text::Source;
 use crate::walk::add_statements;
 use file_facts::{
     Decl, Diag, FileFacts, ImportFact, StatedPackage, StatedSyntax, SyntaxFact, in_order,
@@ -16,6 +17,14 @@ use file_facts::{
 use sqlite_items::Items;
 use std::alloc::{AllocError, Global};
 use syntax_tree::FileTree;
+
+// The statements that say what a file itself is and needs.
+#[derive(Clone, Copy)]
+struct OwnStatements<'a> {
+    stated: &'a [StatedSyntax],
+    packages: &'a [StatedPackage],
+    imports: &'a [ImportFact],
+}
 
 // The facts of a file that is not analysed.
 fn opaque_facts(alloc: Global, diag: Diag) -> Result<FileFacts, AllocError>
@@ -45,25 +54,18 @@ fn package_name(packages: &[StatedPackage]) -> &str
 
 // The declarations of a file in a package. Adds what is wrong with its tokens and statements.
 fn add_tree_diags(
-    alloc: Global,
-    text: &str,
+    source: Source<'_>,
     tree: &FileTree,
     package: &str,
     diags: &mut Items<Diag>,
 ) -> Result<Items<Decl>, AllocError>
-    ensures decls { IfOk result (λ d. d ≡ spec.decls_with text.now «package».now tree.now.nodes) }
-    ensures diags { OnOk result (diags.new ≡ diags.old ++ spec.tree_diags text.now tree.now) }
+    ensures decls { IfOk result (λ d. d ≡ spec.decls_with source.entry.text.now «package».now tree.now.nodes) }
+    ensures diags { OnOk result (diags.new ≡ diags.old ++ spec.tree_diags source.entry.text.now tree.now) }
 {
-    let mut decls = Items::new(alloc);
+    let mut decls = Items::new(source.alloc);
     add_faults(tree.faults.as_slice(), diags)?;
-    add_statements(
-        alloc,
-        text,
-        tree.nodes.as_slice(),
-        package,
-        &mut decls,
-        diags,
-    )?;
+    let nodes = tree.nodes.as_slice();
+    add_statements(source, nodes, package, &mut decls, diags)?;
     Ok(decls)
 }
 
@@ -96,20 +98,23 @@ fn add_file_diags(
 
 // The declarations of a file that is analysed. Adds all its diagnostics, one kind after the other.
 fn add_analysed(
-    alloc: Global,
-    text: &str,
+    source: Source<'_>,
     tree: &FileTree,
-    stated: &[StatedSyntax],
-    packages: &[StatedPackage],
-    imports: &[ImportFact],
+    own: OwnStatements<'_>,
     diags: &mut Items<Diag>,
 ) -> Result<Items<Decl>, AllocError>
-    ensures decls { IfOk result (λ d. d ≡ spec.decls_with text.now (spec.package_name (spec.first_package packages.now)) tree.now.nodes) }
-    ensures diags { IfOk result (λ d. diags.new ≡ diags.old ++ spec.diags_of text.now tree.now stated.now packages.now imports.now d) }
+    ensures decls { IfOk result (λ d. d ≡ spec.decls_with source.entry.text.now (spec.package_name (spec.first_package own.entry.packages.now)) tree.now.nodes) }
+    ensures diags { IfOk result (λ d. diags.new ≡ diags.old ++ spec.diags_of source.entry.text.now tree.now own.entry.stated.now own.entry.packages.now own.entry.imports.now d) }
 {
-    let decls = add_tree_diags(alloc, text, tree, package_name(packages), diags)?;
-    add_late_diags(alloc, tree, stated, diags)?;
-    add_file_diags(alloc, packages, imports, decls.as_slice(), diags)?;
+    let decls = add_tree_diags(source, tree, package_name(own.packages), diags)?;
+    add_late_diags(source.alloc, tree, own.stated, diags)?;
+    add_file_diags(
+        source.alloc,
+        own.packages,
+        own.imports,
+        decls.as_slice(),
+        diags,
+    )?;
     Ok(decls)
 }
 
@@ -126,16 +131,13 @@ fn analysed_facts(
     add_packages(alloc, text, nodes, &mut packages)?;
     let mut imports = Items::new(alloc);
     add_imports(alloc, text, nodes, &mut imports)?;
-    let mut found = Items::new(alloc);
-    let decls = add_analysed(
-        alloc,
-        text,
-        tree,
+    let own = OwnStatements {
         stated,
-        packages.as_slice(),
-        imports.as_slice(),
-        &mut found,
-    )?;
+        packages: packages.as_slice(),
+        imports: imports.as_slice(),
+    };
+    let mut found = Items::new(alloc);
+    let decls = add_analysed(Source { alloc, text }, tree, own, &mut found)?;
     let diags = in_order(alloc, found.as_slice())?;
     let package = first_package(packages);
     Ok(FileFacts::of(alloc, SyntaxFact::Proto3, package, imports, decls, diags))

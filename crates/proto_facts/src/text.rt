@@ -8,6 +8,13 @@ use file_facts::{Name, text_at};
 use std::alloc::{AllocError, Global};
 use syntax_tree::{Literal, Span};
 
+// A text, and the memory for what is found in it.
+#[derive(Clone, Copy)]
+pub struct Source<'a> {
+    pub alloc: Global,
+    pub text: &'a str,
+}
+
 fn unquoted(text: &str, span: Span) -> &str
     ensures { result.now ≡ spec.text_at text.now (spec.unquoted span) }
 {

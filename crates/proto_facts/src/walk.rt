@@ -9,24 +9,24 @@ ghost use Rattle.file_facts.specs.Tree as spec;
 
 use crate::bodies::add_statement_diags;
 use crate::decls::{Enclosing, add_decl};
+use crate::text::Source;
 use file_facts::{Decl, DeclKind, Diag};
 use sqlite_items::Items;
-use std::alloc::{AllocError, Global};
+use std::alloc::AllocError;
 use syntax_tree::Node;
 
 // Adds what is wrong in each statement of a list, and in those inside it.
 #[cycle(statements)]
 pub fn add_all_diags(
-    alloc: Global,
-    text: &str,
+    source: Source<'_>,
     nodes: &[Node],
     diags: &mut Items<Diag>,
 ) -> Result<(), AllocError>
-    ensures { OnOk result (diags.new ≡ diags.old ++ flat_map (checks.statement_diags text.now) (spec.all_statements nodes.now)) }
+    ensures { OnOk result (diags.new ≡ diags.old ++ flat_map (checks.statement_diags source.entry.text.now) (spec.all_statements nodes.now)) }
 {
     'nodes: for node in nodes {
-        add_statement_diags(alloc, text, node, diags)?;
-        add_inner_diags(alloc, text, node, diags)?;
+        add_statement_diags(source, node, diags)?;
+        add_inner_diags(source, node, diags)?;
     }
     Ok(())
 }
@@ -34,45 +34,44 @@ pub fn add_all_diags(
 // Adds what each statement of a list declares and what is wrong in it, and in those inside it. One statement after the
 // other has both done, while it is at hand.
 pub fn add_statements(
-    alloc: Global,
-    text: &str,
+    source: Source<'_>,
     nodes: &[Node],
     scope: &str,
     decls: &mut Items<Decl>,
     diags: &mut Items<Diag>,
 ) -> Result<(), AllocError>
-    ensures decls { OnOk result (decls.new ≡ decls.old ++ declared.decls_in text.now nodes.now kind.Field scope.now None (length decls.old)) }
-    ensures diags { OnOk result (diags.new ≡ diags.old ++ flat_map (checks.statement_diags text.now) (spec.all_statements nodes.now)) }
+    ensures decls { OnOk result (decls.new ≡ decls.old ++ declared.decls_in source.entry.text.now nodes.now kind.Field scope.now None (length decls.old)) }
+    ensures diags { OnOk result (diags.new ≡ diags.old ++ flat_map (checks.statement_diags source.entry.text.now) (spec.all_statements nodes.now)) }
 {
     let top = Enclosing {
+        source,
         members: DeclKind::Field,
         scope,
         parent: None,
     };
     'nodes: for node in nodes {
-        add_decl(alloc, text, node, top, decls)?;
-        add_statement_diags(alloc, text, node, diags)?;
-        add_inner_diags(alloc, text, node, diags)?;
+        add_decl(node, top, decls)?;
+        add_statement_diags(source, node, diags)?;
+        add_inner_diags(source, node, diags)?;
     }
     Ok(())
 }
 
 #[cycle(statements)]
 fn add_inner_diags(
-    alloc: Global,
-    text: &str,
+    source: Source<'_>,
     node: &Node,
     diags: &mut Items<Diag>,
 ) -> Result<(), AllocError>
-    ensures { OnOk result (diags.new ≡ diags.old ++ flat_map (checks.statement_diags text.now) (spec.all_statements (spec.inside node.now))) }
+    ensures { OnOk result (diags.new ≡ diags.old ++ flat_map (checks.statement_diags source.entry.text.now) (spec.all_statements (spec.inside node.now))) }
 {
     match node {
-        Node::Message { items, .. } => add_all_diags(alloc, text, items.as_slice(), diags),
-        Node::EnumDef { items, .. } => add_all_diags(alloc, text, items.as_slice(), diags),
-        Node::Service { items, .. } => add_all_diags(alloc, text, items.as_slice(), diags),
-        Node::Oneof { items, .. } => add_all_diags(alloc, text, items.as_slice(), diags),
-        Node::Extend { items, .. } => add_all_diags(alloc, text, items.as_slice(), diags),
-        Node::Rpc { items, .. } => add_all_diags(alloc, text, items.as_slice(), diags),
+        Node::Message { items, .. } => add_all_diags(source, items.as_slice(), diags),
+        Node::EnumDef { items, .. } => add_all_diags(source, items.as_slice(), diags),
+        Node::Service { items, .. } => add_all_diags(source, items.as_slice(), diags),
+        Node::Oneof { items, .. } => add_all_diags(source, items.as_slice(), diags),
+        Node::Extend { items, .. } => add_all_diags(source, items.as_slice(), diags),
+        Node::Rpc { items, .. } => add_all_diags(source, items.as_slice(), diags),
         _ => Ok(()),
     }
 }

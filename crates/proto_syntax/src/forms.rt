@@ -1,11 +1,12 @@
 // The forms of statements. The first word of an item and the body that it stands in choose the form. The rarer forms
 // aren't inlined: what they keep would make each statement dearer.
 
-ghost use Rattle.std.specs.Prelude.{◌≡◌, ◌≤◌, IfOk, option_map, length};
+ghost use Rattle.std.specs.Prelude.{◌≡◌, ◌≤◌, IfOk, length};
 ghost use Rattle.syntax_tree.specs.Forms as spec;
 ghost use Rattle.proto_syntax.specs.Reads.{Reads};
 
 use crate::cut::ends_in;
+use crate::headers::rpc_header;
 use crate::parts::{TokenReader, Unread, between, is_content, last_of, room_for_one, span_of};
 use sqlite_items::Items;
 use std::alloc::{AllocError, Global};
@@ -304,98 +305,6 @@ fn option_form(alloc: Global, tokens: &mut TokenReader<'_>, span: Span) -> Resul
         name: between(first.span, last_of(first.span, parts.as_slice())),
         value,
     })
-}
-
-// ---- what stands before the braces of a block
-
-fn block_name(tokens: &mut TokenReader<'_>, word: Word) -> Result<Span, Unread>
-    ensures { Reads (spec.block_name word tokens.old.rest.now) result tokens.new.rest.now }
-{
-    tokens.word(word)?;
-    tokens.identifier()
-}
-
-#[tactic(auto, unfolding(syntax_tree::specs::Forms::extend_header))]
-fn extend_header(alloc: Global, tokens: &mut TokenReader<'_>) -> Result<Header, Unread>
-    ensures { Reads (spec.extend_header tokens.old.rest.now) result tokens.new.rest.now }
-{
-    tokens.word(Word::Extend)?;
-    Ok(Header::Extend(tokens.type_name(alloc)?))
-}
-
-#[tactic(auto, unfolding(syntax_tree::specs::Forms::rpc_header))]
-fn rpc_header(alloc: Global, tokens: &mut TokenReader<'_>) -> Result<Header, Unread>
-    ensures { Reads (spec.rpc_header tokens.old.rest.now) result tokens.new.rest.now }
-{
-    tokens.word(Word::Rpc)?;
-    let name = tokens.identifier()?;
-    let request = tokens.in_parentheses(alloc)?;
-    tokens.word(Word::Returns)?;
-    let response = tokens.in_parentheses(alloc)?;
-    Ok(Header::Rpc {
-        name,
-        request,
-        response,
-    })
-}
-
-fn header_form(alloc: Global, tokens: &mut TokenReader<'_>, word: Word) -> Result<Header, Unread>
-    ensures { Reads (spec.header_form word tokens.old.rest.now) result tokens.new.rest.now }
-{
-    match word {
-        Word::Message => Ok(Header::Message(block_name(tokens, word)?)),
-        Word::Enum => Ok(Header::Enum(block_name(tokens, word)?)),
-        Word::Service => Ok(Header::Service(block_name(tokens, word)?)),
-        Word::Oneof => Ok(Header::Oneof(block_name(tokens, word)?)),
-        Word::Extend => extend_header(alloc, tokens),
-        Word::Rpc => rpc_header(alloc, tokens),
-        _ => Err(Unread::NoForm),
-    }
-}
-
-// A header and its `{`.
-#[tactic(auto, unfolding(syntax_tree::specs::Forms::header_and_brace))]
-fn header_and_brace(alloc: Global, tokens: &mut TokenReader<'_>) -> Result<Header, Unread>
-    ensures { Reads (spec.header_and_brace tokens.old.rest.now) result tokens.new.rest.now }
-{
-    let Some(first) = tokens.rest.first() else {
-        return Err(Unread::NoForm);
-    };
-    let header = header_form(alloc, tokens, first.word)?;
-    tokens.word(Word::OpenBrace)?;
-    Ok(header)
-}
-
-// A header and the tokens behind its `{`.
-pub fn header_and_rest(
-    alloc: Global,
-    item: &[Lexeme],
-) -> Result<Option<(Header, &[Lexeme])>, AllocError>
-    ensures { IfOk result (λ found. option_map (λ p. (p.0, p.1.now)) found ≡ spec.header_and_rest item.now) }
-{
-    let mut tokens = TokenReader { rest: item };
-    match header_and_brace(alloc, &mut tokens) {
-        Ok(header) => Ok(Some((header, tokens.rest))),
-        Err(Unread::NoForm) => Ok(None),
-        Err(Unread::Memory) => Err(AllocError),
-    }
-}
-
-pub fn opens(body: Body, word: Word) -> bool
-    ensures { result ≡ spec.opens body word }
-{
-    match body {
-        Body::File => matches!(
-            word,
-            Word::Message | Word::Enum | Word::Service | Word::Extend
-        ),
-        Body::Message => matches!(
-            word,
-            Word::Message | Word::Enum | Word::Extend | Word::Oneof
-        ),
-        Body::Service => matches!(word, Word::Rpc),
-        _ => false,
-    }
 }
 
 #[inline(never)]

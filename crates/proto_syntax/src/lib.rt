@@ -7,6 +7,7 @@
 
 mod cut;
 mod forms;
+mod headers;
 mod parser;
 mod parts;
 mod read;

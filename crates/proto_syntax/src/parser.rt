@@ -4,7 +4,7 @@ ghost use Rattle.proto_lex.specs.Tokens as lexer;
 ghost use Rattle.syntax_tree.specs.Lexeme.{IsWithin};
 ghost use Rattle.syntax_tree.specs.Read as spec;
 
-use crate::read::body_tree;
+use crate::read::{BodyReader, body_tree};
 use crate::scan::lexemes;
 use crate::skips::Matched;
 use proto_lex::{Token, ordered_tokens};
@@ -44,6 +44,11 @@ fn tree_of(alloc: Global, text: &str, tokens: &[Token]) -> Result<FileTree, Allo
         tokens: lexemes.as_slice(),
         skips: &[],
     };
-    let nodes = body_tree(alloc, MAX_BLOCKS, Body::File, file, &mut faults)?;
+    let reader = BodyReader {
+        alloc,
+        blocks: MAX_BLOCKS,
+        body: Body::File,
+    };
+    let nodes = body_tree(reader, file, &mut faults)?;
     Ok(FileTree { nodes, faults })
 }

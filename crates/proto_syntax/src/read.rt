@@ -6,7 +6,8 @@ ghost use Rattle.syntax_tree.specs.Cut as cut;
 ghost use Rattle.syntax_tree.specs.Forms as forms;
 
 use crate::cut::{ends_in, is_stray, next_item};
-use crate::forms::{header_and_rest, opens, statement};
+use crate::forms::statement;
+use crate::headers::{header_and_rest, opens};
 use crate::parts::span_of;
 use crate::skips::{Matched, skips};
 use sqlite_items::Items;
@@ -25,6 +26,15 @@ const MOST_BLOCKS: usize = 4096;
 
 // How many blocks may still open in a body whose braces are matched before it is read: it stands inside three blocks.
 const BLOCKS_IN_A_MATCHED_BODY: usize = 61;
+
+// What a body is read with.
+#[derive(Clone, Copy)]
+pub struct BodyReader {
+    pub alloc: Global,
+    // How many blocks may still open, one inside the other.
+    pub blocks: usize,
+    pub body: Body,
+}
 
 fn bad(problem: SyntaxProblem, item: &[Lexeme], faults: &mut Items<Fault>) -> Result<(), AllocError>
     ensures { OnOk result (faults.new ≡ faults.old ++ (spec.bad problem item.now).faults) }
@@ -153,30 +163,32 @@ fn header_and_inside(
     }
 }
 
-// Reads a finished item: a block, in which this many more may open, or a statement.
+// Reads a finished item: a block, inside which as many may open as the reader allows, or a statement.
 #[cycle(blocks)]
 fn form_tree(
-    alloc: Global,
-    blocks: usize,
-    body: Body,
+    reader: BodyReader,
     item: Matched<'_>,
     nodes: &mut Items<Node>,
     faults: &mut Items<Fault>,
 ) -> Result<(), AllocError>
-    ensures nodes { OnOk result (nodes.new ≡ nodes.old ++ (spec.form_tree (spec.body_tree blocks) body item.entry.tokens.now).nodes) }
-    ensures faults { OnOk result (faults.new ≡ faults.old ++ (spec.form_tree (spec.body_tree blocks) body item.entry.tokens.now).faults) }
+    ensures nodes { OnOk result (nodes.new ≡ nodes.old ++ (spec.form_tree (spec.body_tree reader.blocks) reader.body item.entry.tokens.now).nodes) }
+    ensures faults { OnOk result (faults.new ≡ faults.old ++ (spec.form_tree (spec.body_tree reader.blocks) reader.body item.entry.tokens.now).faults) }
 {
-    if !may_open(body, item.tokens) {
-        return statement_tree(alloc, body, item.tokens, nodes, faults);
+    if !may_open(reader.body, item.tokens) {
+        return statement_tree(reader.alloc, reader.body, item.tokens, nodes, faults);
     }
-    match header_and_inside(alloc, item)? {
-        None => statement_tree(alloc, body, item.tokens, nodes, faults),
+    match header_and_inside(reader.alloc, item)? {
+        None => statement_tree(reader.alloc, reader.body, item.tokens, nodes, faults),
         Some((header, rest)) => {
             if !ends_in(Word::CloseBrace, rest.tokens) {
                 return bad(SyntaxProblem::NotUnderstood, item.tokens, faults);
             }
             let (inner, _) = rest.split_at(rest.tokens.len() - 1);
-            let items = body_tree(alloc, blocks, body_of(&header), inner, faults)?;
+            let inside = BodyReader {
+                body: body_of(&header),
+                ..reader
+            };
+            let items = body_tree(inside, inner, faults)?;
             nodes.push(block_node(span_of(item.tokens), header, items))
         }
     }
@@ -184,41 +196,41 @@ fn form_tree(
 
 #[cycle(blocks)]
 fn finished_tree(
-    alloc: Global,
-    blocks: usize,
-    body: Body,
+    reader: BodyReader,
     item: Matched<'_>,
     nodes: &mut Items<Node>,
     faults: &mut Items<Fault>,
 ) -> Result<(), AllocError>
-    ensures nodes { OnOk result (nodes.new ≡ nodes.old ++ (spec.finished_tree blocks body item.entry.tokens.now).nodes) }
-    ensures faults { OnOk result (faults.new ≡ faults.old ++ (spec.finished_tree blocks body item.entry.tokens.now).faults) }
+    ensures nodes { OnOk result (nodes.new ≡ nodes.old ++ (spec.finished_tree reader.blocks reader.body item.entry.tokens.now).nodes) }
+    ensures faults { OnOk result (faults.new ≡ faults.old ++ (spec.finished_tree reader.blocks reader.body item.entry.tokens.now).faults) }
 {
-    if blocks == 0 {
-        deepest_tree(alloc, body, item.tokens, nodes, faults)
+    if reader.blocks == 0 {
+        deepest_tree(reader.alloc, reader.body, item.tokens, nodes, faults)
     } else {
-        form_tree(alloc, blocks - 1, body, item, nodes, faults)
+        let inside = BodyReader {
+            blocks: reader.blocks - 1,
+            ..reader
+        };
+        form_tree(inside, item, nodes, faults)
     }
 }
 
 #[cycle(blocks)]
 fn item_tree(
-    alloc: Global,
-    blocks: usize,
-    body: Body,
+    reader: BodyReader,
     item: Matched<'_>,
     is_finished: bool,
     nodes: &mut Items<Node>,
     faults: &mut Items<Fault>,
 ) -> Result<(), AllocError>
-    requires { is_finished ≡ cut.is_finished body item.tokens.now }
-    ensures nodes { OnOk result (nodes.new ≡ nodes.old ++ (spec.item_tree (spec.finished_tree blocks body) body item.entry.tokens.now).nodes) }
-    ensures faults { OnOk result (faults.new ≡ faults.old ++ (spec.item_tree (spec.finished_tree blocks body) body item.entry.tokens.now).faults) }
+    requires { is_finished ≡ cut.is_finished reader.body item.tokens.now }
+    ensures nodes { OnOk result (nodes.new ≡ nodes.old ++ (spec.item_tree (spec.finished_tree reader.blocks reader.body) reader.body item.entry.tokens.now).nodes) }
+    ensures faults { OnOk result (faults.new ≡ faults.old ++ (spec.item_tree (spec.finished_tree reader.blocks reader.body) reader.body item.entry.tokens.now).faults) }
 {
-    if is_stray(body, item.tokens) {
+    if is_stray(reader.body, item.tokens) {
         bad(SyntaxProblem::NotUnderstood, item.tokens, faults)
     } else if is_finished {
-        finished_tree(alloc, blocks, body, item, nodes, faults)
+        finished_tree(reader, item, nodes, faults)
     } else {
         bad(SyntaxProblem::Unfinished, item.tokens, faults)
     }
@@ -236,56 +248,44 @@ fn room_for_items(alloc: Global, tokens: usize) -> Result<Items<Node>, AllocErro
     Ok(Items::from_vec(items))
 }
 
-// Reads a body, in which this many blocks may still open, one inside the other. Where it stands deep, its braces are
-// matched first: what stands further inside is then not looked through again for each block around it.
+// Reads a body. Where it stands deep, its braces are matched first: what stands further inside is then not looked through
+// again for each block around it.
 #[cycle(blocks)]
 pub fn body_tree(
-    alloc: Global,
-    blocks: usize,
-    body: Body,
+    reader: BodyReader,
     ts: Matched<'_>,
     faults: &mut Items<Fault>,
 ) -> Result<Items<Node>, AllocError>
-    ensures nodes { IfOk result (λ nodes. nodes ≡ (spec.body_tree blocks body ts.entry.tokens.now).nodes) }
-    ensures faults { OnOk result (faults.new ≡ faults.old ++ (spec.body_tree blocks body ts.entry.tokens.now).faults) }
+    ensures nodes { IfOk result (λ nodes. nodes ≡ (spec.body_tree reader.blocks reader.body ts.entry.tokens.now).nodes) }
+    ensures faults { OnOk result (faults.new ≡ faults.old ++ (spec.body_tree reader.blocks reader.body ts.entry.tokens.now).faults) }
 {
-    if blocks != BLOCKS_IN_A_MATCHED_BODY {
-        return items_tree(alloc, blocks, body, ts, faults);
+    if reader.blocks != BLOCKS_IN_A_MATCHED_BODY {
+        return items_tree(reader, ts, faults);
     }
-    let skips = skips(alloc, ts.tokens)?;
+    let skips = skips(reader.alloc, ts.tokens)?;
     let matched = Matched {
         tokens: ts.tokens,
         skips: skips.as_slice(),
     };
-    items_tree(alloc, blocks, body, matched, faults)
+    items_tree(reader, matched, faults)
 }
 
 // Reads the items of a body in turn.
 #[cycle(blocks)]
 fn items_tree(
-    alloc: Global,
-    blocks: usize,
-    body: Body,
+    reader: BodyReader,
     ts: Matched<'_>,
     faults: &mut Items<Fault>,
 ) -> Result<Items<Node>, AllocError>
-    ensures nodes { IfOk result (λ nodes. nodes ≡ (spec.body_tree blocks body ts.entry.tokens.now).nodes) }
-    ensures faults { OnOk result (faults.new ≡ faults.old ++ (spec.body_tree blocks body ts.entry.tokens.now).faults) }
+    ensures nodes { IfOk result (λ nodes. nodes ≡ (spec.body_tree reader.blocks reader.body ts.entry.tokens.now).nodes) }
+    ensures faults { OnOk result (faults.new ≡ faults.old ++ (spec.body_tree reader.blocks reader.body ts.entry.tokens.now).faults) }
 {
-    let mut nodes = room_for_items(alloc, ts.tokens.len())?;
+    let mut nodes = room_for_items(reader.alloc, ts.tokens.len())?;
     let mut rest = ts;
     'items: while !rest.tokens.is_empty() {
-        let cut = next_item(body, rest);
+        let cut = next_item(reader.body, rest);
         let (item, more) = rest.split_at(cut.len);
-        item_tree(
-            alloc,
-            blocks,
-            body,
-            item,
-            cut.is_finished,
-            &mut nodes,
-            faults,
-        )?;
+        item_tree(reader, item, cut.is_finished, &mut nodes, faults)?;
         rest = more;
     }
     Ok(nodes)

@@ -6,4 +6,4 @@ use Rattle.proto_facts.proofs.walk.+statements.Given as goal
 
 abbrev pub invariant-add_all_diags-nodes : goal.invariant-add_all_diags-nodes
 invariant-add_all_diags-nodes l =
-    l.diags ++ flat_map (statement_diags l.text) (all_statements (drop l.node-index l.nodes)) ≡ l.fn.diags ++ flat_map (statement_diags l.text) (all_statements l.nodes)
+    l.diags ++ flat_map (statement_diags l.source.text.now) (all_statements (drop l.node-index l.nodes)) ≡ l.fn.diags ++ flat_map (statement_diags l.source.text.now) (all_statements l.nodes)

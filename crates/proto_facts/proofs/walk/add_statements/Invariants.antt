@@ -9,6 +9,6 @@ use Rattle.proto_facts.proofs.walk.add_statements.Given as goal
 -- what is found and what is left are all
 abbrev pub invariant-nodes : goal.invariant-nodes
 invariant-nodes l = record {
-  decls : l.decls ++ decls_in l.text (drop l.node-index l.nodes) kind.Field l.scope None (length l.decls) ≡ l.fn.decls ++ decls_in l.text l.nodes kind.Field l.scope None (length l.fn.decls);
-  diags : l.diags ++ flat_map (statement_diags l.text) (all_statements (drop l.node-index l.nodes)) ≡ l.fn.diags ++ flat_map (statement_diags l.text) (all_statements l.nodes);
+  decls : l.decls ++ decls_in l.source.text.now (drop l.node-index l.nodes) kind.Field l.scope None (length l.decls) ≡ l.fn.decls ++ decls_in l.source.text.now l.nodes kind.Field l.scope None (length l.fn.decls);
+  diags : l.diags ++ flat_map (statement_diags l.source.text.now) (all_statements (drop l.node-index l.nodes)) ≡ l.fn.diags ++ flat_map (statement_diags l.source.text.now) (all_statements l.nodes);
 }
