@@ -20,6 +20,7 @@ mod laws;
 mod outline;
 mod packages;
 mod resolve;
+mod resolver;
 mod scope_chain;
 mod scopes;
 mod site;

@@ -1,15 +1,14 @@
 // The scope in which a name is looked for, and what it means.
 ghost use Rattle.std.specs.Prelude.{◌≡◌, ◌==◌, ◌<◌, length, All, IfOk, IfSome, option_copied, option_and_then};
 ghost use Rattle.proto_resolve.specs.Files.{decl_at};
-ghost use Rattle.proto_resolve.specs.Views.{IsView};
 ghost use Rattle.proto_resolve.specs.Names.{found, is_type, is_holder, settles, settles_at, first_text, joined_all, texts_of, scope_of, IsThere};
 
 use crate::finding::found;
 use crate::full_names::{joined_all, push_component};
 use crate::index::Index;
+use crate::resolver::Resolver;
 use crate::site::{NameSite, Needs};
 use crate::target::{DeclRef, Target};
-use crate::view::View;
 use file_facts::DeclKind;
 use std::alloc::{AllocError, Global};
 
@@ -70,83 +69,66 @@ fn first_text(site: &NameSite) -> &str
     }
 }
 
-// Whether a scope settles a name. The full name of the first component is written over `name`.
-fn settles_at<I: Index>(
-    alloc: Global,
-    index: &I,
-    view: &View,
-    site: &NameSite,
-    scope: &str,
-    name: &mut String,
-) -> Result<bool, AllocError>
-    requires { IsView (I.files index.now) view.now }
-    ensures { IfOk result (λ r. r ≡ settles_at (I.files index.now) view.now.file view.now.files site.now scope.now) }
-{
-    name.clear();
-    name.push_str(scope)?;
-    push_component(name, first_text(site))?;
-    let target = found(alloc, index, view, name.as_str())?;
-    Ok(settles(index, site.components.len() == 1, &target))
-}
-
-// The innermost scope that settles a name: where its first component is found as what ends the search.
-pub fn scope_of<'a, I: Index>(
-    alloc: Global,
-    index: &I,
-    view: &View,
-    site: &'a NameSite,
-) -> Result<Option<&'a str>, AllocError>
-    requires { IsView (I.files index.now) view.now }
-    ensures { IfOk result (λ r. option_copied r ≡ scope_of (I.files index.now) view.now.file view.now.files site.now) }
-{
-    if site.is_absolute {
-        return Ok(Some(""));
+impl<I: Index> Resolver<'_, I> {
+    // Whether a scope settles a name. The full name of the first component is written over `name`.
+    fn settles_at(
+        &self,
+        site: &NameSite,
+        scope: &str,
+        name: &mut String,
+    ) -> Result<bool, AllocError>
+        ensures { IfOk result (λ r. r ≡ settles_at (I.files self.now.index.now) self.now.view.now.file self.now.view.now.files site.now scope.now) }
+    {
+        name.clear();
+        name.push_str(scope)?;
+        push_component(name, first_text(site))?;
+        let target = found(self.alloc, self.index, self.view, name.as_str())?;
+        Ok(settles(self.index, site.components.len() == 1, &target))
     }
-    let scopes = site.scopes.place();
-    let mut name = String::new(alloc);
-    for number in 0..scopes.len() {
-        let scope = scopes.get(number);
-        if settles_at(alloc, index, view, site, scope, &mut name)? {
-            return Ok(Some(scope));
+
+    // The innermost scope that settles a name: where its first component is found as what ends the search.
+    pub fn scope_of<'s>(&self, site: &'s NameSite) -> Result<Option<&'s str>, AllocError>
+        ensures { IfOk result (λ r. option_copied r ≡ scope_of (I.files self.now.index.now) self.now.view.now.file self.now.view.now.files site.now) }
+    {
+        if site.is_absolute {
+            return Ok(Some(""));
+        }
+        let scopes = site.scopes.place();
+        let mut name = String::new(self.alloc);
+        for number in 0..scopes.len() {
+            let scope = scopes.get(number);
+            if self.settles_at(site, scope, &mut name)? {
+                return Ok(Some(scope));
+            }
+        }
+        Ok(None)
+    }
+
+    // What a name means, if anything, where this is its scope.
+    pub fn meaning_in(
+        &self,
+        scope: Option<&str>,
+        site: &NameSite,
+    ) -> Result<Option<Target>, AllocError>
+        ensures value { IfOk result (λ r. r ≡ option_and_then (λ s. found (I.files self.now.index.now) self.now.view.now.file self.now.view.now.files (joined_all s (texts_of site.now))) (option_copied scope.entry)) }
+        ensures within { IfOk result (λ r. IfSome r (IsThere (I.files self.now.index.now))) }
+    {
+        match scope {
+            None => Ok(None),
+            Some(scope) => {
+                let target = self.found_in(scope, site)?;
+                Ok(target)
+            }
         }
     }
-    Ok(None)
-}
 
-// What a name means, if anything, where this is its scope.
-pub fn meaning_in<I: Index>(
-    alloc: Global,
-    index: &I,
-    view: &View,
-    scope: Option<&str>,
-    site: &NameSite,
-) -> Result<Option<Target>, AllocError>
-    requires { IsView (I.files index.now) view.now }
-    ensures value { IfOk result (λ r. r ≡ option_and_then (λ s. found (I.files index.now) view.now.file view.now.files (joined_all s (texts_of site.now))) (option_copied scope.entry)) }
-    ensures within { IfOk result (λ r. IfSome r (IsThere (I.files index.now))) }
-{
-    match scope {
-        None => Ok(None),
-        Some(scope) => {
-            let target = found_in(alloc, index, view, scope, site)?;
-            Ok(target)
-        }
+    // What stands at the full name that the components have in a scope.
+    fn found_in(&self, scope: &str, site: &NameSite) -> Result<Option<Target>, AllocError>
+        ensures value { IfOk result (λ r. r ≡ found (I.files self.now.index.now) self.now.view.now.file self.now.view.now.files (joined_all scope.now (texts_of site.now))) }
+        ensures within { IfOk result (λ r. IfSome r (IsThere (I.files self.now.index.now))) }
+    {
+        let name = joined_all(self.alloc, scope, site.components.as_slice())?;
+        let target = found(self.alloc, self.index, self.view, name.as_str())?;
+        Ok(target)
     }
-}
-
-// What stands at the full name that the components have in a scope.
-fn found_in<I: Index>(
-    alloc: Global,
-    index: &I,
-    view: &View,
-    scope: &str,
-    site: &NameSite,
-) -> Result<Option<Target>, AllocError>
-    requires { IsView (I.files index.now) view.now }
-    ensures value { IfOk result (λ r. r ≡ found (I.files index.now) view.now.file view.now.files (joined_all scope.now (texts_of site.now))) }
-    ensures within { IfOk result (λ r. IfSome r (IsThere (I.files index.now))) }
-{
-    let name = joined_all(alloc, scope, site.components.as_slice())?;
-    let target = found(alloc, index, view, name.as_str())?;
-    Ok(target)
 }

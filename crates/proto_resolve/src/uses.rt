@@ -11,7 +11,7 @@ use crate::diagnostics::push_name_diagnostic;
 use crate::finding::found;
 use crate::full_names::push_component;
 use crate::index::Index;
-use crate::scopes::{meaning_in, scope_of};
+use crate::resolver::Resolver;
 use crate::site::{Component, NameSite};
 use crate::target::Target;
 use crate::view::View;
@@ -53,119 +53,97 @@ pub fn resolve_names<I: Index>(
         uses: Items::new(alloc),
         diagnostics: Items::new(alloc),
     };
+    let resolver = Resolver { alloc, index, view };
     for (number, site) in sites.iter().enumerate() {
-        push_name(alloc, index, view, number, site, &mut names)?;
+        resolver.push_name(number, site, &mut names)?;
     }
     Ok(names)
 }
 
-fn push_name<I: Index>(
-    alloc: Global,
-    index: &I,
-    view: &View,
+// A name that is looked for in a scope: its number in its file, the scope, and its components.
+#[derive(Clone, Copy)]
+struct ScopedName<'a> {
     number: usize,
-    site: &NameSite,
-    names: &mut ResolvedNames,
-) -> Result<(), AllocError>
-    requires { IsView (I.files index.now) view.now }
-    ensures uses { OnOk result (names.new.uses ≡ names.old.uses ++ uses_of (I.files index.now) view.now.file view.now.files number site.now) }
-    ensures diagnostics { OnOk result (names.new.diagnostics ≡ names.old.diagnostics ++ name_diagnostics (I.files index.now) view.now.file view.now.files site.now) }
-{
-    let scope = scope_of(alloc, index, view, site)?;
-    let target = meaning_in(alloc, index, view, scope, site)?;
-    push_name_diagnostic(index, site, &target, &mut names.diagnostics)?;
-    push_uses_of(
-        alloc,
-        index,
-        view,
-        number,
-        scope,
-        site,
-        target,
-        &mut names.uses,
-    )
+    scope: &'a str,
+    components: &'a [Component],
 }
 
-// Adds the uses of a name that has this scope and this meaning.
-fn push_uses_of<I: Index>(
-    alloc: Global,
-    index: &I,
-    view: &View,
-    number: usize,
-    scope: Option<&str>,
-    site: &NameSite,
-    target: Option<Target>,
-    uses: &mut Items<NameUse>,
-) -> Result<(), AllocError>
-    requires view { IsView (I.files index.now) view.now }
-    requires target { target ≡ option_and_then (λ s. found (I.files index.now) view.now.file view.now.files (joined_all s (texts_of site.now))) (option_copied scope) }
-    ensures { OnOk result (uses.new ≡ uses.old ++ option_map_or (uses_at (I.files index.now) view.now.file view.now.files number site.now) (option_copied scope.entry) []) }
-{
-    match (scope, target) {
-        (Some(scope), Some(target)) => push_uses_in(
-            alloc,
-            index,
-            view,
-            number,
-            scope,
-            site.components.as_slice(),
-            target,
-            uses,
-        ),
-        _ => Ok(()),
-    }
-}
-
-// Adds the uses of components that mean this together.
-fn push_uses_in<I: Index>(
-    alloc: Global,
-    index: &I,
-    view: &View,
-    number: usize,
-    scope: &str,
-    components: &[Component],
-    target: Target,
-    uses: &mut Items<NameUse>,
-) -> Result<(), AllocError>
-    requires view { IsView (I.files index.now) view.now }
-    requires target { found (I.files index.now) view.now.file view.now.files (joined_all scope.now (map (λ c. c.text) components.now)) ≡ Some target }
-    ensures { OnOk result (uses.new ≡ uses.old ++ uses_in (I.files index.now) view.now.file view.now.files number scope.now components.now) }
-{
-    if components.is_empty() {
-        return Ok(());
-    }
-    let last = components.len() - 1;
-    push_uses_before(alloc, index, view, number, scope, &components[..last], uses)?;
-    let span = components[last].span;
-    uses.push(NameUse {
-        span,
-        name: number,
-        target,
-    })
-}
-
-fn push_uses_before<I: Index>(
-    alloc: Global,
-    index: &I,
-    view: &View,
-    number: usize,
-    scope: &str,
-    components: &[Component],
-    uses: &mut Items<NameUse>,
-) -> Result<(), AllocError>
-    requires { IsView (I.files index.now) view.now }
-    ensures { OnOk result (uses.new ≡ uses.old ++ uses_in (I.files index.now) view.now.file view.now.files number scope.now components.now) }
-{
-    let mut name = String::from_str(alloc, scope)?;
-    for component in components {
-        push_component(&mut name, component.text.as_str())?;
-        if let Some(target) = found(alloc, index, view, name.as_str())? {
-            uses.push(NameUse {
-                span: component.span,
-                name: number,
-                target,
-            })?;
+impl<I: Index> Resolver<'_, I> {
+    // Adds the uses of a name, and what is wrong with what it means.
+    fn push_name(
+        &self,
+        number: usize,
+        site: &NameSite,
+        names: &mut ResolvedNames,
+    ) -> Result<(), AllocError>
+        ensures uses { OnOk result (names.new.uses ≡ names.old.uses ++ uses_of (I.files self.now.index.now) self.now.view.now.file self.now.view.now.files number site.now) }
+        ensures diagnostics { OnOk result (names.new.diagnostics ≡ names.old.diagnostics ++ name_diagnostics (I.files self.now.index.now) self.now.view.now.file self.now.view.now.files site.now) }
+    {
+        let scope = self.scope_of(site)?;
+        let target = self.meaning_in(scope, site)?;
+        push_name_diagnostic(self.index, site, &target, &mut names.diagnostics)?;
+        match (scope, target) {
+            (Some(scope), Some(target)) => {
+                let components = site.components.as_slice();
+                let name = ScopedName {
+                    number,
+                    scope,
+                    components,
+                };
+                self.push_uses(name, target, &mut names.uses)
+            }
+            _ => Ok(()),
         }
     }
-    Ok(())
+
+    // Adds the uses of a name that means this.
+    fn push_uses(
+        &self,
+        name: ScopedName<'_>,
+        target: Target,
+        uses: &mut Items<NameUse>,
+    ) -> Result<(), AllocError>
+        requires { found (I.files self.now.index.now) self.now.view.now.file self.now.view.now.files (joined_all name.scope.now (map (λ c. c.text) name.components.now)) ≡ Some target }
+        ensures { OnOk result (uses.new ≡ uses.old ++ uses_in (I.files self.now.index.now) self.now.view.now.file self.now.view.now.files name.entry.number name.entry.scope.now name.entry.components.now) }
+    {
+        let components = name.components;
+        if components.is_empty() {
+            return Ok(());
+        }
+        let last = components.len() - 1;
+        let before = ScopedName {
+            number: name.number,
+            scope: name.scope,
+            components: &components[..last],
+        };
+        self.push_uses_before(before, uses)?;
+        let span = components[last].span;
+        uses.push(NameUse {
+            span,
+            name: name.number,
+            target,
+        })
+    }
+
+    // Adds the uses of the components of a name.
+    fn push_uses_before(
+        &self,
+        name: ScopedName<'_>,
+        uses: &mut Items<NameUse>,
+    ) -> Result<(), AllocError>
+        ensures { OnOk result (uses.new ≡ uses.old ++ uses_in (I.files self.now.index.now) self.now.view.now.file self.now.view.now.files name.entry.number name.entry.scope.now name.entry.components.now) }
+    {
+        let mut full_name = String::from_str(self.alloc, name.scope)?;
+        for component in name.components {
+            push_component(&mut full_name, component.text.as_str())?;
+            if let Some(target) = found(self.alloc, self.index, self.view, full_name.as_str())? {
+                uses.push(NameUse {
+                    span: component.span,
+                    name: name.number,
+                    target,
+                })?;
+            }
+        }
+        Ok(())
+    }
 }
