@@ -1,7 +1,9 @@
-// The `.proto` files of a folder and of the folders below it.
+// The walk over a folder and the folders below it.
 
-use lsp_session::DiskFile;
-use std::alloc::{AllocError, AllocFailed, Global};
+use crate::fault::FolderFault;
+use crate::found::FoundFile;
+use crate::skipping::{skip, skip_named, skip_unread};
+use std::alloc::{AllocError, Global};
 use std::fs::{self, Metadata};
 use std::io::{self, BufRead, BufReader, ErrorKind, Read};
 use std::rt::Files;
@@ -13,44 +15,20 @@ const MAX_DEPTH: u32 = 64;
 // How many entries may be listed in all, those that are skipped included.
 const MAX_ENTRIES: u32 = 100_000;
 
-/// Why a folder wasn't read.
-#[derive(Clone, Copy, Debug, PartialEq, Eq)]
-pub enum FolderFault {
-    /// The folder itself can't be listed.
-    Unlisted,
-    /// More than 64 folders stand in one another below it, or more than 100,000 entries were listed.
-    LimitPassed,
-    /// Memory was refused.
-    Memory,
-}
-
-impl From<AllocError> for FolderFault {
-    fn from(_error: AllocError) -> FolderFault {
-        FolderFault::Memory
-    }
-}
-
-impl<T: Drop> From<AllocFailed<T>> for FolderFault {
-    fn from(_error: AllocFailed<T>) -> FolderFault {
-        FolderFault::Memory
-    }
-}
-
 // A folder that was met and isn't listed yet. Its path is the one below the root, whose own path is empty; its depth
 // is how many folders stand on that path.
-#[derive(Debug, Drop)]
+#[derive(Drop)]
 struct Folder {
     path: String,
     depth: u32,
 }
 
 // A walk over the folder `dir`: what it has found, and what is still to be listed.
-#[derive(Debug, Drop)]
+#[derive(Drop)]
 struct Walk<'d> {
     alloc: Global,
-    root: usize,
     dir: &'d str,
-    files: Vec<DiskFile>,
+    files: Vec<FoundFile>,
     folders: Vec<Folder>,
     entries: u32,
 }
@@ -68,26 +46,12 @@ fn path_in(alloc: Global, folder: &str, name: &str) -> Result<String, AllocError
     Ok(path)
 }
 
-// Says that an entry is left out. A closed standard error changes nothing.
-fn skip(rt: &impl Eprint) {
-    let _told = eprintln!(rt; "skipped");
-}
-
-// Leaves an entry out that can't be read, where that wasn't for want of memory.
-fn skip_unread(rt: &impl Eprint, error: &io::Error) -> Result<(), FolderFault> {
-    if error.kind() == ErrorKind::OutOfMemory {
-        return Err(FolderFault::Memory);
-    }
-    skip(rt);
-    Ok(())
-}
-
 // Leaves a folder out that can't be listed; the root has to be.
-fn skip_unlisted(rt: &impl Eprint, folder: &Folder, error: &io::Error) -> Result<(), FolderFault> {
+fn skip_unlisted(rt: &impl Eprint, folder: &Folder, error: io::Error) -> Result<(), FolderFault> {
     if folder.depth == 0 && error.kind() != ErrorKind::OutOfMemory {
-        return Err(FolderFault::Unlisted);
+        return Err(FolderFault::Unlisted { error });
     }
-    skip_unread(rt, error)
+    skip_unread(rt, folder.path.as_str(), &error)
 }
 
 // The text of the file at a place in the file system, about `length` bytes long. An error also where it isn't UTF-8.
@@ -100,14 +64,14 @@ fn read_text<R: Files + AllocGlobal>(rt: &R, place: &str, length: u64) -> io::Re
     file.read_to_end(&mut bytes)?;
     match String::from_utf8(bytes) {
         Ok(text) => Ok(text),
-        Err(_) => Err(io::Error::from(ErrorKind::InvalidData)),
+        Err(_) => Err(io::Error::new(ErrorKind::InvalidData, "not UTF-8")),
     }
 }
 
 // Keeps a folder that was met, to be listed later.
 fn add_folder(walk: &mut Walk<'_>, holder: &Folder, path: String) -> Result<(), FolderFault> {
     if holder.depth >= MAX_DEPTH {
-        return Err(FolderFault::LimitPassed);
+        return Err(FolderFault::TooDeep);
     }
     let depth = holder.depth + 1;
     walk.folders.push(Folder { path, depth })?;
@@ -124,11 +88,10 @@ fn add_file<R: Files + AllocGlobal + Eprint>(
 ) -> Result<(), FolderFault> {
     match read_text(rt, place, length) {
         Ok(text) => {
-            let root = walk.root;
-            walk.files.push(DiskFile { root, path, text })?;
+            walk.files.push(FoundFile { path, text })?;
             Ok(())
         }
-        Err(error) => skip_unread(rt, &error),
+        Err(error) => skip_unread(rt, path.as_str(), &error),
     }
 }
 
@@ -144,7 +107,7 @@ fn add_named<R: Files + AllocGlobal + Eprint>(
     let place = path_in(walk.alloc, walk.dir, path.as_str())?;
     let found = match fs::symlink_metadata(rt, place.as_str()) {
         Ok(found) => found,
-        Err(error) => return skip_unread(rt, &error),
+        Err(error) => return skip_unread(rt, path.as_str(), &error),
     };
     if found.is_dir() {
         add_folder(walk, folder, path)
@@ -153,7 +116,7 @@ fn add_named<R: Files + AllocGlobal + Eprint>(
     } else if found.is_file() {
         add_file(rt, walk, place.as_str(), path, found.len())
     } else {
-        skip(rt);
+        skip(rt, path.as_str(), "neither a file nor a folder");
         Ok(())
     }
 }
@@ -167,7 +130,7 @@ fn add_entry<R: Files + AllocGlobal + Eprint>(
     name: &[u8],
 ) -> Result<(), FolderFault> {
     if walk.entries >= MAX_ENTRIES {
-        return Err(FolderFault::LimitPassed);
+        return Err(FolderFault::TooManyEntries);
     }
     walk.entries += 1;
     if name.starts_with(b".") {
@@ -176,7 +139,7 @@ fn add_entry<R: Files + AllocGlobal + Eprint>(
     match str::from_utf8(name) {
         Ok(name) => add_named(rt, walk, folder, name),
         Err(_) => {
-            skip(rt);
+            skip_named(rt, folder.path.as_str(), name);
             Ok(())
         }
     }
@@ -187,7 +150,37 @@ fn is_entry(name: &[u8]) -> bool {
     name != b".".as_slice() && name != b"..".as_slice()
 }
 
-// Lists a folder. The names are read as bytes, since not each of them has to be UTF-8.
+// Takes the next name of a listing, each of which has a byte 0 behind it. With no further one it is empty.
+fn next_name<L: BufRead>(names: &mut L, name: &mut Vec<u8>) -> io::Result<()> {
+    name.clear();
+    names.read_until(0, name)?;
+    let _end = name.pop();
+    Ok(())
+}
+
+// Takes the entries of a listing. The names are read as bytes, since not each of them has to be UTF-8.
+fn add_entries<R: Files + AllocGlobal + Eprint, L: BufRead>(
+    rt: &R,
+    walk: &mut Walk<'_>,
+    folder: &Folder,
+    names: &mut L,
+) -> Result<(), FolderFault> {
+    let mut name = Vec::new(walk.alloc);
+    for _ in 0..u64::MAX {
+        if let Err(error) = next_name(names, &mut name) {
+            return skip_unlisted(rt, folder, error);
+        }
+        if name.is_empty() {
+            break;
+        }
+        if is_entry(&name) {
+            add_entry(rt, walk, folder, &name)?;
+        }
+    }
+    Ok(())
+}
+
+// Lists a folder.
 fn list<R: Files + AllocGlobal + Eprint>(
     rt: &R,
     walk: &mut Walk<'_>,
@@ -197,45 +190,30 @@ fn list<R: Files + AllocGlobal + Eprint>(
     let place = path_in(walk.alloc, walk.dir, folder.path.as_str())?;
     let opened = match rt.open_dir(place.as_str()) {
         Ok(opened) => opened,
-        Err(error) => return skip_unlisted(rt, folder, &error),
+        Err(error) => return skip_unlisted(rt, folder, error),
     };
-    let Ok(mut names) = BufReader::new(walk.alloc, opened) else {
-        return Err(FolderFault::Memory);
-    };
-    let mut name = Vec::new(walk.alloc);
-    for _ in 0..u64::MAX {
-        name.clear();
-        match names.read_until(0, &mut name) {
-            Ok(0) => break,
-            Ok(_) => {}
-            Err(error) => return skip_unlisted(rt, folder, &error),
-        }
-        // Behind each name stands a byte 0.
-        let _end = name.pop();
-        if is_entry(&name) {
-            add_entry(rt, walk, folder, &name)?;
-        }
+    match BufReader::new(walk.alloc, opened) {
+        Ok(mut names) => add_entries(rt, walk, folder, &mut names),
+        Err(_) => Err(FolderFault::Memory),
     }
-    Ok(())
 }
 
-/// The files below the folder at the path `dir` whose names end in `.proto`, each with the number `root` and its path
-/// below the folder, in no particular order.
+/// The files below the folder at the path `dir` whose names end in `.proto`, each with its path below the folder, in no
+/// particular order.
 ///
 /// Names that begin with `.` and symbolic links are skipped; the folder itself may be a link. An entry that can't be
-/// read, and one whose name or text isn't UTF-8, is skipped with the line `skipped` on standard error.
+/// read, and one whose name or text isn't UTF-8, is skipped with the line `skipped` on standard error, and a line that
+/// says which entry it is, and why.
 ///
 /// # Errors
 /// [`FolderFault`] says each.
 pub fn read_folder<R: Files + AllocGlobal + Eprint>(
     rt: &R,
-    root: usize,
     dir: &str,
-) -> Result<Vec<DiskFile>, FolderFault> {
+) -> Result<Vec<FoundFile>, FolderFault> {
     let alloc = rt.alloc();
     let mut walk = Walk {
         alloc,
-        root,
         dir,
         files: Vec::new(alloc),
         folders: Vec::new(alloc),
@@ -245,12 +223,21 @@ pub fn read_folder<R: Files + AllocGlobal + Eprint>(
         path: String::new(alloc),
         depth: 0,
     })?;
+    walk_folders(rt, &mut walk)?;
+    Ok(walk.files)
+}
+
+// Lists each folder that is still to be listed, and those that are met there.
+fn walk_folders<R: Files + AllocGlobal + Eprint>(
+    rt: &R,
+    walk: &mut Walk<'_>,
+) -> Result<(), FolderFault> {
     // Each folder but the first is an entry, so that there are no more turns than this.
     for _ in 0..=MAX_ENTRIES {
         let Some(folder) = walk.folders.pop() else {
             break;
         };
-        list(rt, &mut walk, &folder)?;
+        list(rt, walk, &folder)?;
     }
-    Ok(walk.files)
+    Ok(())
 }

@@ -1,6 +1,6 @@
 // The URL of a folder that is a root of the workspace.
 ghost use Rattle.std.specs.Prelude.{◌≡◌, IfOk, string_bytes};
-ghost use Rattle.protols.specs.Path as spec;
+ghost use Rattle.program_options.specs.Path as spec;
 
 use std::alloc::{AllocError, Global};
 use workspace_uri::escape_path;
