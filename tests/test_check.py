@@ -7,7 +7,7 @@ import subprocess
 import unittest
 
 import stream
-from test_folder import FOLDER, SKIPPED, FolderTest
+from test_folder import FOLDER, SKIPPED, FolderTest, fixed
 
 CHECK_USAGE = b"Usage: protols check [--root DIR]\n"
 
@@ -62,9 +62,9 @@ class Check(FolderTest):
             self.put(path, spelled(row))
 
     def run_check(self, *words, cwd=None):
-        """What `protols check` writes on both outputs, and its status."""
+        """What `protols check` writes on standard output, the fixed lines of its standard error, and its status."""
         ended = subprocess.run([str(stream.PROGRAM), "check", *map(str, words)], stdin=subprocess.DEVNULL, capture_output=True, cwd=cwd, timeout=120)
-        return ended.stdout, ended.stderr, ended.returncode
+        return ended.stdout, fixed(ended.stderr), ended.returncode
 
     def test_lines_and_statuses(self):
         for files, lines, status in WORKSPACES:

@@ -1,11 +1,12 @@
 """End-to-end tests of the command line of `protols serve` and of the folder that it reads.
 
-A file whose content isn't UTF-8 shows that it was read: it gives the line `skipped` on standard error. So the number of
-these lines says how many of such files the walk over the folder has found.
+A file whose content isn't UTF-8 shows that it was read: it gives the line `skipped` on standard error, and a line that says
+which file it is and why. So the number of the former says how many of such files the walk over the folder has found.
 """
 import contextlib
 import os
 import pathlib
+import re
 import resource
 import shutil
 import socket
@@ -40,6 +41,10 @@ NOT_UTF8 = b"\xff"
 SKIPPED = b"skipped\n"
 FOLDER = b"protols: folder\n"
 
+# What follows the lines `skipped` and `protols: folder`, where paths may hold line feeds.
+SKIPPED_WHY = re.compile(rb"^skipped\nprotols: skipped (.+?): (not UTF-8|the name isn't UTF-8|neither a file nor a folder|[^\n:]+ \(os error \d+\))\n", re.DOTALL | re.MULTILINE)
+FOLDER_WHY = re.compile(rb"^protols: folder\nprotols: folder (.*?): (can't be listed: [^\n:]+|more than 64 folders stand in one another|more than 100,000 entries)\n", re.DOTALL | re.MULTILINE)
+
 MOST_FOLDERS = 64
 MOST_ENTRIES = 100_000
 
@@ -49,6 +54,20 @@ NOBODY = 65534
 def text(path):
     """A path, text or bytes, as bytes."""
     return os.fsencode(path)
+
+
+def fixed(err):
+    """The fixed lines of standard error. Behind each `skipped` and `protols: folder` stands one that says what and why."""
+    for line, explained in ((rb"^skipped$", SKIPPED_WHY), (rb"^protols: folder$", FOLDER_WHY)):
+        if len(re.findall(line, err, re.MULTILINE)) != len(explained.findall(err)):
+            raise AssertionError(f"a line isn't explained by the one behind it: {err!r}")
+    return FOLDER_WHY.sub(FOLDER, SKIPPED_WHY.sub(SKIPPED, err))
+
+
+def run_fixed(data, words):
+    """Runs the program: its standard output, the fixed lines of its standard error, and its status."""
+    out, err, status = run(data, words)
+    return out, fixed(err), status
 
 
 class FolderTest(unittest.TestCase):
@@ -71,14 +90,14 @@ class FolderTest(unittest.TestCase):
 
     def check(self, skipped, *, root=None, status=1, told=b""):
         """The folder is read with that many entries skipped, and then the input ends."""
-        out, err, ended = run(b"", ("serve", "--root", self.root if root is None else root))
-        self.assertEqual((out, err, ended), (b"", SKIPPED * skipped + told, status))
+        ended = run_fixed(b"", ("serve", "--root", self.root if root is None else root))
+        self.assertEqual(ended, (b"", SKIPPED * skipped + told, status))
 
     def check_unread(self, root):
         """The folder can't be read, whatever the input is."""
         for data in (b"", FIRST_INPUT, b"no frame\r\n\r\n"):
             with self.subTest(root=root, data=data[:10]):
-                self.assertEqual(run(data, ("serve", "--root", root)), (b"", FOLDER, 3))
+                self.assertEqual(run_fixed(data, ("serve", "--root", root)), (b"", FOLDER, 3))
 
 
 class CommandLine(FolderTest):
@@ -171,6 +190,13 @@ class CommandLine(FolderTest):
                 for part in (b"--root <DIR>", b"--stdio", b"--clientProcessId <ID>", b"default", b"Example"):
                     self.assertIn(part, out)
 
+    def test_version(self):
+        """The program's name, its version, and the kit that it is proved with."""
+        kit = subprocess.run(["rt", "version"], stdin=subprocess.DEVNULL, capture_output=True, check=True, timeout=stream.LIMIT).stdout.strip()
+        for words in (["--version"], ["-V"]):
+            with self.subTest(words=words):
+                self.assertEqual(run(FIRST_INPUT, words), (b"protols 1 (%b)\n" % kit, b"", 0))
+
     def test_help_that_nobody_reads_is_802(self):
         with nobody_reads() as output:
             words = stream.command(["--help"])
@@ -231,6 +257,39 @@ class Names(FolderTest):
         self.put("good.proto", line * 500_000)
         self.put("bad.proto", line * 500_000 + NOT_UTF8)
         self.check(1)
+
+
+class Reasons(FolderTest):
+    """What standard error says behind `skipped` and `protols: folder`."""
+
+    def check_told(self, *lines, command="serve", root=None, status=1):
+        out, err, ended = run(b"", (command, "--root", self.root if root is None else root))
+        self.assertEqual((out, sorted(err.splitlines()), ended), (b"", sorted(lines), status))
+
+    def test_what_is_skipped_and_why(self):
+        self.put("sub/é.proto", PROTO3.encode("latin-1") + b"// caf\xe9\n")
+        self.put(b"sub/\xff.txt", PROTO3)
+        os.mkfifo(self.root / "pipe.proto")
+        lines = (
+            b"skipped",
+            b"skipped",
+            b"skipped",
+            "protols: skipped sub/é.proto: not UTF-8".encode(),
+            rb"protols: skipped sub/\xff.txt: the name isn't UTF-8",
+            b"protols: skipped pipe.proto: neither a file nor a folder",
+        )
+        self.check_told(*lines)
+        self.check_told(*lines, command="check", status=0)
+
+    def test_a_folder_that_is_not_there(self):
+        root = self.holder / "none"
+        why = f"protols: folder {root}: can't be listed: No such file or directory (os error 2)".encode()
+        self.check_told(b"protols: folder", why, root=root, status=3)
+        self.check_told(b"protols: folder", why, command="check", root=root, status=3)
+
+    def test_folders_in_one_another(self):
+        (self.root / "/".join(["d"] * (MOST_FOLDERS + 1))).mkdir(parents=True)
+        self.check_told(b"protols: folder", f"protols: folder {self.root}: more than 64 folders stand in one another".encode(), status=3)
 
 
 class Links(FolderTest):
@@ -308,7 +367,7 @@ class Unreadable(FolderTest):
     def run_as_nobody(self, root, command="serve"):
         """Runs the program so that permissions count: not as the user who may do everything."""
         if os.geteuid() != 0:
-            return run(b"", (command, "--root", root))
+            return run_fixed(b"", (command, "--root", root))
         program = self.holder / "protols"
         shutil.copy(stream.command()[0], program)
         program.chmod(0o755)
@@ -316,7 +375,7 @@ class Unreadable(FolderTest):
         done = subprocess.run(
             words, stdin=subprocess.DEVNULL, capture_output=True, timeout=stream.LIMIT, user=NOBODY, group=NOBODY, extra_groups=[]
         )
-        return done.stdout, done.stderr, done.returncode
+        return done.stdout, fixed(done.stderr), done.returncode
 
     @contextlib.contextmanager
     def without_permissions(self, *paths):
@@ -387,7 +446,7 @@ class Limits(FolderTest):
 
     def check_deep(self):
         """One folder more is too deep. How much was skipped before depends on the order of the listing."""
-        out, err, status = run(b"", ("serve", "--root", self.root))
+        out, err, status = run_fixed(b"", ("serve", "--root", self.root))
         self.assertEqual((out, err.replace(SKIPPED, b"", 1), status), (b"", FOLDER, 3))
 
     def test_the_root_has_no_part_in_the_depth(self):
@@ -404,7 +463,7 @@ class Limits(FolderTest):
         self.check(1)
         # Entries that are skipped count too.
         os.mknod(self.root / ".hidden")
-        out, err, status = run(b"", ("serve", "--root", self.root))
+        out, err, status = run_fixed(b"", ("serve", "--root", self.root))
         self.assertEqual((out, err.replace(SKIPPED, b"", 1), status), (b"", FOLDER, 3))
 
 
@@ -507,7 +566,7 @@ class Statuses(FolderTest):
         ]
         for data, output, told, status in cases:
             with self.subTest(status=status, told=told):
-                self.assertEqual(run(data, words), (output, SKIPPED + told, status))
+                self.assertEqual(run_fixed(data, words), (output, SKIPPED + told, status))
 
 
 if __name__ == "__main__":

@@ -1,21 +1,24 @@
 -- From a header part and a body to what the stream begins with.
-use Rattle.std.proofs.Common.{◌≡◌, ℕ, suc, ◌+◌, ◌<◌, true, false, Bool, cond, List, [], ◌∷◌, ◌++◌, length, drop, arith, ap, sym, ◌∙◌, refl, Option, None, Some, Ok, Err, length-append, eqb, nat_lt, nat_le}
+use Rattle.std.proofs.Common.{◌≡◌, ℕ, suc, ◌+◌, ◌<◌, true, false, Bool, cond, List, [], ◌∷◌, ◌++◌, length, take, drop, arith, ap, sym, ◌∙◌, refl, Option, None, Some, Ok, Err, inl, inr, append_assoc, length-append, eqb, nat_lt, nat_le}
 use Rattle.std.specs.Prelude.{IfSome}
 use Rattle.std.proofs.lemmas.List.{take_at, drop_at}
 use Rattle.std.proofs.lemmas.Bool.Decides.{nat_tests}
 use Rattle.std.proofs.lemmas.Bool.{lt-ltb}
 use Rattle.std.specs.Global.{Vec}
-use Rattle.std.specs.Io.KnownBytes.{Consumes}
+use Rattle.std.specs.Io.KnownBytes.{Consumes, Keeps}
 use Rattle.lsp_frame.specs.Header.{body_length}
 use Rattle.lsp_frame.specs.declared.reader.Frame.TheVariants.{Body, End}
 use Rattle.lsp_frame.specs.declared.fault.FrameFault.{FrameFault}
 use Rattle.lsp_frame.specs.declared.fault.FrameFault.TheVariants.{BadHeader, NoLength, BadLength, BodyTooLong, HeaderTooLong, Truncated, Read, Memory}
 use Rattle.lsp_frame.specs.Stream.{header_len, without_header, StreamEnd, InputEnd, BadFrame, Whole, NoFrame, first_frame, behind_header, left_behind, left_of_body, max_header}
-use Rattle.lsp_frame.specs.Reading.{Answers, Shows, ShowsEnd, HasCause}
-use Rattle.lsp_frame.specs.Steps.{TakesHeader, TakesBody}
+use Rattle.lsp_frame.specs.Reading.{Answers, BreaksOff, Shows, ShowsEnd, HasCause}
+use Rattle.lsp_frame.specs.Steps.{TakesHeader, TakesBody, StopsInHeader, StopsInBody, IsOutside}
 use Rattle.lsp_frame.specs.declared.counts.Counts.{Counts}
 use Rattle.lsp_frame.proofs.StreamLemmas.{frames-whole, frames-end}
 use Rattle.lsp_frame.proofs.Faults.{IsOfHeader}
+use Rattle.lsp_frame.proofs.FoundHeaders.{header_at, header_kept}
+use Rattle.lsp_frame.proofs.Shown.{shown}
+use Rattle.std.proofs.KnownBytes.{Consumes-kept}
 
 first_frame-none : (bytes : List ℕ) (end : StreamEnd) → header_len bytes ≡ None → without_header bytes ≡ end → first_frame bytes ≡ NoFrame end
 unfolding first_frame
@@ -44,12 +47,18 @@ show bytes left BadLength e l = shows_end bytes left _ e l
 show bytes left BodyTooLong e l = shows_end bytes left _ e l
 show bytes left HeaderTooLong e l = shows_end bytes left _ e l
 show bytes left Truncated e l = shows_end bytes left _ e l
-show bytes left Read e l = tt
+show bytes left Read e l = let known = shown bytes Read e in absurd (omega (arith, known.1))
 show bytes left Memory e l = tt
 
 -- no header part, of these bytes and with these left
 show_headless : (bytes : List ℕ) (left : Option (List ℕ)) (fault : FrameFault) → header_len bytes ≡ None → without_header bytes ≡ BadFrame fault → left ≡ Some (drop max_header bytes) → Shows bytes left fault
 show_headless bytes left fault none end is_left = show bytes left fault (first_frame-none bytes _ none end) (is_left ∙ ap Some (sym (left_behind-none bytes none)))
+
+-- the source failed before the end of a header part
+broken_header : (bytes : List ℕ) (left : Option (List ℕ)) → StopsInHeader bytes left → BreaksOff bytes left
+broken_header bytes None h = absurd h.consumed
+broken_header bytes (Some rest) h =
+    record { taken = h.taken; rest = rest; joined = h.consumed; is_left = refl; end = without_header h.taken; first = first_frame-none h.taken (without_header h.taken) h.none refl }
 
 headless : (bytes : List ℕ) (left : Option (List ℕ)) (fault : FrameFault) → TakesHeader bytes left (Err fault) → Shows bytes left fault
 headless bytes left BadHeader h = show_headless bytes left BadHeader h.0 h.1 h.2
@@ -58,7 +67,7 @@ headless bytes left BadLength h = show_headless bytes left BadLength h.0 h.1 h.2
 headless bytes left BodyTooLong h = show_headless bytes left BodyTooLong h.0 h.1 h.2
 headless bytes left HeaderTooLong h = show_headless bytes left HeaderTooLong h.0 h.1 h.2
 headless bytes left Truncated h = show_headless bytes left Truncated h.0 h.1 h.2
-headless bytes left Read h = tt
+headless bytes left Read h = broken_header bytes left h
 headless bytes left Memory h = tt
 
 pub no_header : (a b : Option (List ℕ)) (fault : FrameFault) → IfSome a (λ bytes. TakesHeader bytes b (Err fault)) → IfSome a (λ bytes. Answers bytes b (Err fault))
@@ -97,21 +106,55 @@ bad_header (Some bytes) (Some rest) header fault h e =
 short : (rest : List ℕ) (n : ℕ) → length rest < n → behind_header rest (Ok n) ≡ NoFrame (BadFrame Truncated)
 short rest n lt = rw (lt-ltb (length rest) n lt) refl
 
-no_body : (bytes rest : List ℕ) (c : Option (List ℕ)) (n : ℕ) (fault : FrameFault) → first_frame bytes ≡ behind_header rest (Ok n) → left_behind bytes ≡ [] → TakesBody rest n c (Err fault) → Shows bytes c fault
-no_body bytes rest c n BadHeader e l h = cc
-no_body bytes rest c n NoLength e l h = cc
-no_body bytes rest c n BadLength e l h = cc
-no_body bytes rest c n BodyTooLong e l h = cc
-no_body bytes rest c n HeaderTooLong e l h = cc
-no_body bytes rest c n Truncated e l h = show bytes c Truncated (e ∙ short rest n h.1) (h.2 ∙ ap Some (sym l))
-no_body bytes rest c n Read e l h = tt
-no_body bytes rest c n Memory e l h = tt
+-- the source failed before the end of a body
+broken_body : (bytes header rest : List ℕ) (c : Option (List ℕ)) (n : ℕ) → header_len bytes ≡ Some (length header) → bytes ≡ header ++ rest → body_length header ≡ Ok n → StopsInBody rest n c → BreaksOff bytes c
+broken_body bytes header rest None n found is e t = absurd t.consumed
+broken_body bytes header rest (Some last) n found is e t =
+    let at = header_at bytes (length header) found in
+    let front : take (length header) bytes ≡ header = ap (take (length header)) is ∙ take_at header rest (length header) refl in
+    let again : header_len (header ++ t.taken) ≡ Some (length header) = rw front at (header_kept bytes t.taken (length header) at) in
+    record {
+      taken = header ++ t.taken;
+      rest = last;
+      joined = is ∙ ap (λ l. header ++ l) t.consumed ∙ sym (append_assoc header t.taken last);
+      is_left = refl;
+      end = BadFrame Truncated;
+      first = first_frame-some header t.taken again ∙ ap (behind_header t.taken) e ∙ short t.taken n t.short;
+    }
+
+no_body : (bytes rest : List ℕ) (c : Option (List ℕ)) (n : ℕ) (fault : FrameFault) → first_frame bytes ≡ behind_header rest (Ok n) → left_behind bytes ≡ [] → (StopsInBody rest n c → BreaksOff bytes c) → TakesBody rest n c (Err fault) → Shows bytes c fault
+no_body bytes rest c n BadHeader e l broken h = cc
+no_body bytes rest c n NoLength e l broken h = cc
+no_body bytes rest c n BadLength e l broken h = cc
+no_body bytes rest c n BodyTooLong e l broken h = cc
+no_body bytes rest c n HeaderTooLong e l broken h = cc
+no_body bytes rest c n Truncated e l broken h = show bytes c Truncated (e ∙ short rest n h.1) (h.2 ∙ ap Some (sym l))
+no_body bytes rest c n Read e l broken h = broken h
+no_body bytes rest c n Memory e l broken h = tt
 
 pub short_body : (a b c : Option (List ℕ)) (header : List ℕ) (n : ℕ) (fault : FrameFault) → HasHeader a b header → body_length header ≡ Ok n → IfSome b (λ rest. TakesBody rest n c (Err fault)) → IfSome a (λ bytes. Answers bytes c (Err fault))
 short_body None b c header n fault h e t = tt
 short_body (Some bytes) None c header n fault h e t = absurd h.1
 short_body (Some bytes) (Some rest) c header n fault h e t =
-    no_body bytes rest c n fault (first_frame-after bytes header rest h.0 h.1 ∙ ap (behind_header rest) e) (left-after bytes header rest h.0 h.1 ∙ ap (left_of_body rest) e) t
+    no_body bytes rest c n fault (first_frame-after bytes header rest h.0 h.1 ∙ ap (behind_header rest) e) (left-after bytes header rest h.0 h.1 ∙ ap (left_of_body rest) e) (broken_body bytes header rest c n h.0 h.1 e) t
+
+-- the source failed behind these bytes of a body, or memory was refused
+pub stopped_in_body : (a b c : Option (List ℕ)) (items : List ℕ) (n : ℕ) (fault : FrameFault) → Consumes a b items → (fault ≡ Read → Keeps b c) → IsOutside fault → length items < n → IfSome a (λ bytes. TakesBody bytes n c (Err fault))
+stopped_in_body None b c items n fault taken kept outside few = tt
+stopped_in_body (Some bytes) b c items n Read taken kept outside few = record { taken = items; consumed = Consumes-kept (Some bytes) b c items taken (kept refl); short = few }
+stopped_in_body (Some bytes) b c items n Memory taken kept outside few = tt
+stopped_in_body (Some bytes) b c items n BadHeader taken kept (inl e) few = cc
+stopped_in_body (Some bytes) b c items n BadHeader taken kept (inr e) few = cc
+stopped_in_body (Some bytes) b c items n NoLength taken kept (inl e) few = cc
+stopped_in_body (Some bytes) b c items n NoLength taken kept (inr e) few = cc
+stopped_in_body (Some bytes) b c items n BadLength taken kept (inl e) few = cc
+stopped_in_body (Some bytes) b c items n BadLength taken kept (inr e) few = cc
+stopped_in_body (Some bytes) b c items n BodyTooLong taken kept (inl e) few = cc
+stopped_in_body (Some bytes) b c items n BodyTooLong taken kept (inr e) few = cc
+stopped_in_body (Some bytes) b c items n HeaderTooLong taken kept (inl e) few = cc
+stopped_in_body (Some bytes) b c items n HeaderTooLong taken kept (inr e) few = cc
+stopped_in_body (Some bytes) b c items n Truncated taken kept (inl e) few = cc
+stopped_in_body (Some bytes) b c items n Truncated taken kept (inr e) few = cc
 
 pub whole : (body rest : List ℕ) (n : ℕ) → length body ≡ n → behind_header (body ++ rest) (Ok n) ≡ Whole body rest
 whole body rest n len =

@@ -11,7 +11,7 @@ use Rattle.lsp_frame.specs.Header.{line_end, between_line_ends, prepend_byte, he
 use Rattle.lsp_frame.specs.Stream.{header_len, max_header}
 use Rattle.lsp_frame.proofs.Headers.{NoneWhole, header_len-at}
 use Rattle.lsp_frame.proofs.Lines.{HasNoLineEnd-tail, some_stretch, between_line_ends-line, no_end_here, end_before}
-use Rattle.lsp_frame.proofs.Splits.{header_at}
+use Rattle.lsp_frame.proofs.FoundHeaders.{header_at}
 
 take_while-some : (b : ℕ) (line : List ℕ) (lines : List (List ℕ)) → take_while is_some_line ((b ∷ line) ∷ lines) ≡ (b ∷ line) ∷ take_while is_some_line lines
 take_while-some b line lines = let some : nat_lt 0 (suc (length line)) ≡ true = lt-ltb 0 (suc (length line)) (omega arith) in rw (some, one-add) refl

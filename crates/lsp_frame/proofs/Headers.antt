@@ -4,11 +4,11 @@ use Rattle.std.proofs.lemmas.List.{take-append-le, take_all, append-nil, drop_al
 use Rattle.std.proofs.lemmas.Bool.Decides.{eqb_tells}
 use Rattle.lsp_frame.specs.Header.{is_whole_header}
 use Rattle.std.specs.Prelude.{nat_le, IfSome}
-use Rattle.std.specs.Io.KnownBytes.{Consumes}
-use Rattle.std.proofs.KnownBytes.{Consumes-trans}
+use Rattle.std.specs.Io.KnownBytes.{Consumes, Keeps}
+use Rattle.std.proofs.KnownBytes.{Consumes-trans, Consumes-kept}
 use Rattle.std.proofs.lemmas.Bool.{le-leb}
 use Rattle.std.proofs.lemmas.Bool.Decides.{nat_tests}
-use Rattle.lsp_frame.specs.Steps.{TakesByte}
+use Rattle.lsp_frame.specs.Steps.{TakesByte, StopsInHeader}
 use Rattle.lsp_frame.specs.declared.fault.FrameFault.TheVariants.{HeaderTooLong, Truncated}
 use Rattle.lsp_frame.specs.Stream.{least_below, header_len, max_header, without_header, StreamEnd, InputEnd, BadFrame}
 
@@ -120,3 +120,8 @@ closed a b c items all x n taken next grown len few none here =
     let whole : Consumes a c all = rw grown (Consumes-trans a b c items (x ∷ []) taken next) in
     let before : NoneWhole all (length all - 1) = rw (more, grown) (NoneWhole-front items (x ∷ []) (n + 1 - 1) (omega arith) (λ k le. none k (omega arith))) in
     header_taken a c all whole (omega arith) (omega arith) before here
+
+-- the source failed behind these bytes, in which no header part ends
+pub stopped_in_header : (a b c : Option (List ℕ)) (items : List ℕ) → Consumes a b items → Keeps b c → NoneWhole items (length items) → IfSome a (λ bytes. StopsInHeader bytes c)
+stopped_in_header None b c items taken kept none = tt
+stopped_in_header (Some bytes) b c items taken kept none = record { taken = items; consumed = Consumes-kept (Some bytes) b c items taken kept; none = ended items none }

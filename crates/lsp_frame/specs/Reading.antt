@@ -1,5 +1,5 @@
 -- What `read_frame` answers of a stream, and what it leaves of it.
-use Rattle.std.specs.Prelude.{◌≡◌, ℕ, List, [], Option, Some, Result, Ok, Err, ⊤}
+use Rattle.std.specs.Prelude.{◌≡◌, ℕ, List, [], ◌++◌, Option, Some, Result, Ok, Err, ⊤}
 use Rattle.lsp_frame.specs.Counts.{NoError, HasFailed}
 use Rattle.lsp_frame.specs.Stream.{StreamEnd, Whole, NoFrame, InputEnd, BadFrame, first_frame, frames, with_body, no_frames, left_behind}
 use Rattle.lsp_frame.specs.declared.counts.Counts.{Counts}
@@ -21,9 +21,19 @@ pub record ShowsEnd (bytes : List ℕ) (left : Option (List ℕ)) (end : StreamE
   pub none : frames bytes ≡ no_frames end
   pub is_left : left ≡ Some (left_behind bytes)
 
--- a fault that the bytes show; one of the reader or of memory says nothing of them
+-- some of the bytes were taken, with which no whole frame begins, and the others are left
+pub record BreaksOff (bytes : List ℕ) (left : Option (List ℕ)) : Type 0 where
+  pub taken : List ℕ
+  pub rest : List ℕ
+  pub joined : bytes ≡ taken ++ rest
+  pub is_left : left ≡ Some rest
+  pub end : StreamEnd
+  pub first : first_frame taken ≡ NoFrame end
+
+-- A fault that the bytes show. One of the reader comes within a frame, behind which no byte is taken; one of memory says
+-- nothing of the bytes.
 abbrev pub Shows : List ℕ → Option (List ℕ) → FrameFault → Type 0
-Shows bytes left Read = ⊤
+Shows bytes left Read = BreaksOff bytes left
 Shows bytes left Memory = ⊤
 Shows bytes left fault = ShowsEnd bytes left (BadFrame fault)
 

@@ -31,18 +31,30 @@ pub record TakesSome (old new : Option (List ℕ)) (before after : List ℕ) (ro
   pub within : n ≤ room
   pub end : n ≡ 0 → IsAtEnd new
 
+-- some bytes were taken that no header part begins, and the others are left
+pub record StopsInHeader (bytes : List ℕ) (left : Option (List ℕ)) : Type 0 where
+  pub taken : List ℕ
+  pub consumed : Consumes (Some bytes) left taken
+  pub none : header_len taken ≡ None
+
+-- some bytes were taken, fewer than n, and the others are left
+pub record StopsInBody (bytes : List ℕ) (n : ℕ) (left : Option (List ℕ)) : Type 0 where
+  pub taken : List ℕ
+  pub consumed : Consumes (Some bytes) left taken
+  pub short : length taken < n
+
 -- the header part at the front was taken, or there is none for that reason
 abbrev pub TakesHeader : List ℕ → Option (List ℕ) → Result (Option (Vec ℕ)) FrameFault → Type 0
 TakesHeader bytes left (Ok (Some header)) = (header_len bytes ≡ Some (length header.items)) × Consumes (Some bytes) left header.items
 TakesHeader bytes left (Ok None) = (header_len bytes ≡ None) × (without_header bytes ≡ InputEnd) × (left ≡ Some (drop max_header bytes))
-TakesHeader bytes left (Err Read) = ⊤
+TakesHeader bytes left (Err Read) = StopsInHeader bytes left
 TakesHeader bytes left (Err Memory) = ⊤
 TakesHeader bytes left (Err fault) = (header_len bytes ≡ None) × (without_header bytes ≡ BadFrame fault) × (left ≡ Some (drop max_header bytes))
 
 -- a body of n bytes was taken, or there are fewer, and none is left
 abbrev pub TakesBody : List ℕ → ℕ → Option (List ℕ) → Result (Vec ℕ) FrameFault → Type 0
 TakesBody bytes n left (Ok body) = (length body.items ≡ n) × Consumes (Some bytes) left body.items
-TakesBody bytes n left (Err Read) = ⊤
+TakesBody bytes n left (Err Read) = StopsInBody bytes n left
 TakesBody bytes n left (Err Memory) = ⊤
 TakesBody bytes n left (Err fault) = (fault ≡ Truncated) × (length bytes < n) × (left ≡ Some [])
 

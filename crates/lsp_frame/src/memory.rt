@@ -1,6 +1,8 @@
 // A source and a sink over memory, which fail as a test wants it.
-ghost use Rattle.std.specs.Prelude.{◌≡◌, ◌<◌, ◌≤◌, [], vec_len, vec_capacity, drop, Some, IfOk};
-ghost use Rattle.lsp_frame.specs.Counts.{no_counts};
+ghost use Rattle.std.specs.Prelude.{◌≡◌, ◌<◌, ◌≤◌, [], length, vec_len, vec_capacity, drop, Some, IfOk};
+ghost use Rattle.std.specs.Io.{ReadsAtMost, WritesAtMost};
+ghost use Rattle.std.specs.Io.KnownBytes.{ReadConsumes, WriteAppends};
+ghost use Rattle.lsp_frame.specs.Counts.{no_counts, after_read, after_write};
 
 use crate::counts::Counts;
 use crate::device::{ByteSink, ByteSource, Fail};
@@ -42,11 +44,21 @@ impl MemSource {
 }
 
 impl ByteSource for MemSource {
+    ghost use Rattle.lsp_frame.specs.Devices.{SourceStaysSet, source_answer};
+
     ghost left = { λ source. Some (drop source.taken source.bytes.items) };
 
     ghost counts = { λ source. source.counts };
 
-    fn read(&mut self, buffer: &mut [u8]) -> Result<usize, Fail> {
+    fn read(&mut self, buffer: &mut [u8]) -> Result<usize, Fail>
+        ensures bound { ReadsAtMost result buffer.new }
+        ensures bytes { ReadConsumes (⟦<MemSource as ByteSource>⟧.left self.old) (⟦<MemSource as ByteSource>⟧.left self.new) result buffer.new }
+        ensures counts { ⟦<MemSource as ByteSource>⟧.counts self.new ≡ after_read (⟦<MemSource as ByteSource>⟧.counts self.old) result }
+
+        // It answers as it is set, and stays so set but for an interruption that came.
+        ensures answer { result ≡ source_answer self.old (length buffer.old) }
+        ensures settings { SourceStaysSet self.old self.new }
+    {
         if self.interruptions > 0 {
             self.interruptions -= 1;
             self.counts.add_interruption();
@@ -118,11 +130,21 @@ impl MemSink {
 }
 
 impl ByteSink for MemSink {
+    ghost use Rattle.lsp_frame.specs.Devices.{SinkStaysSet, sink_answer};
+
     ghost written = { λ sink. Some sink.bytes.items };
 
     ghost counts = { λ sink. sink.counts };
 
-    fn write(&mut self, buffer: &[u8]) -> Result<usize, Fail> {
+    fn write(&mut self, buffer: &[u8]) -> Result<usize, Fail>
+        ensures bound { WritesAtMost result buffer.now }
+        ensures bytes { WriteAppends (⟦<MemSink as ByteSink>⟧.written self.old) (⟦<MemSink as ByteSink>⟧.written self.new) result buffer.now }
+        ensures counts { ⟦<MemSink as ByteSink>⟧.counts self.new ≡ after_write (⟦<MemSink as ByteSink>⟧.counts self.old) result buffer.now }
+
+        // It answers as it is set, and stays so set but for an interruption that came.
+        ensures answer { result ≡ sink_answer self.old (length buffer.now) }
+        ensures settings { SinkStaysSet self.old self.new }
+    {
         if self.interruptions > 0 {
             self.interruptions -= 1;
             self.counts.add_interruption();

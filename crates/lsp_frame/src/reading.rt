@@ -108,6 +108,7 @@ fn read_onto<S: ByteSource>(
     ensures counts { NoneFell (S.counts source.old) (S.counts source.new) }
     ensures once { (S.counts source.new).errors ≤ (S.counts source.old).errors + 1 }
     ensures fault { IfErr result IsOutside }
+    ensures kept { IfErr result (λ f. f ≡ FrameFault.Read → Keeps (S.left source.old) (S.left source.new)) }
     ensures cause { IfErr result (HasCause (S.counts source.old) (S.counts source.new)) }
     ensures calm { MatchResult result (λ _. NoError (S.counts source.old) (S.counts source.new)) (NoErrorUnlessRead (S.counts source.old) (S.counts source.new)) }
 {

@@ -4,7 +4,7 @@ use Rattle.std.proofs.lemmas.List.{append_cancel_left, drop_all, map-append, tak
 use Rattle.std.proofs.lemmas.List.Sums.{fold-append}
 use Rattle.serde_json.specs.Written.{compact_text}
 use Rattle.lsp_rpc.specs.Message.{message_of}
-use Rattle.lsp_session.specs.Configuration.{Configuration}
+use Rattle.lsp_config.specs.Configuration.{Configuration}
 use Rattle.lsp_session.specs.Core.{Event, Arrive, Process, messages, processed, done, waiting, CoreState, IsAfter, Advances}
 use Rattle.lsp_session.specs.Session.{Run, start, turn, next, session}
 use Rattle.lsp_session.specs.Steps.{turns, Knows, replies_to}

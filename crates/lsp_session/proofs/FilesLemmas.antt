@@ -8,7 +8,7 @@ use Rattle.lsp_rpc.specs.declared.method.Method.TheVariants.{Initialize, Shutdow
 use Rattle.workspace_uri.specs.Uri.{path_of}
 use Rattle.lsp_workspace.specs.Files.{Files, AreInPathOrder, KeepsPathOrder, opened_files, changed_files, saved_files, closed_files}
 use Rattle.lsp_workspace.proofs.PathOrder.{from_disk-order, opened_files-order, changed_files-order, saved_files-order, closed_files-order}
-use Rattle.lsp_session.specs.Configuration.{Configuration, in_root_order}
+use Rattle.lsp_config.specs.Configuration.{Configuration, in_root_order}
 use Rattle.lsp_session.specs.Session.{State, Run, at_path, path_in, opened, changed, document_in, diagnosed, running_request, first_request, requested, exits, running_notification, notified, received, turn_in, start, next, session}
 use Rattle.lsp_session.specs.declared.phase.Phase.{Phase}
 use Rattle.lsp_session.specs.declared.phase.Phase.TheVariants.{Uninitialized, Running, Shut, Exited}

@@ -1,4 +1,3 @@
-mod ConfigLemmas
 mod CoreLemmas
 mod FilesLemmas
 mod RunLemmas

@@ -1,48 +1,45 @@
 -- A session over a stream: what was read, what was written, and what is left.
-use Rattle.std.proofs.Common.{◌≡◌, ℕ, zero, suc, ◌+◌, ◌<◌, true, false, Bool, List, [], ◌∷◌, ◌++◌, map, take, drop, get_or, length, fold, refl, sym, ap, ◌∙◌, arith, append_assoc, append-nil, length-append, Option, None, Some, take-append-drop}
-use Rattle.std.specs.Prelude.{IfSome, IfOk, IfErr, OnOk, ⊤}
+use Rattle.std.proofs.Common.{◌≡◌, ℕ, zero, suc, ◌+◌, ◌<◌, ◌≤◌, true, false, Bool, List, [], ◌∷◌, ◌++◌, map, take, drop, get_or, length, fold, refl, sym, ap, ◌∙◌, arith, append_assoc, append-nil, length-append, Option, None, Some, option_map, Result, Ok, Err, take-append-drop}
+use Rattle.std.specs.Prelude.{IfSome, IfOk, IfErr, OnOk, ⊤, is_some}
 use Rattle.std.specs.Io.KnownBytes.{Appends}
 use Rattle.std.proofs.KnownBytes.{Appends-trans, Appends-nil}
 use Rattle.std.proofs.Math.Seq.{take-append-add}
 use Rattle.std.proofs.lemmas.Grind.{flat_map-append}
-use Rattle.std.proofs.lemmas.List.{take-append-le, take_at, take_more, drop_more}
+use Rattle.std.proofs.lemmas.List.{take-append-le, take_at, take_all, take_more, drop_more}
 use Rattle.serde_json.specs.Written.{compact_text}
 use Rattle.lsp_frame.specs.Fault.{code_of}
 use Rattle.lsp_frame.specs.Stream.{StreamEnd, InputEnd, BadFrame, first_frame, frames, with_body, no_frames}
-use Rattle.lsp_frame.specs.Counts.{HasFailed}
-use Rattle.lsp_frame.specs.Reading.{TakesFrame, Shows, ShowsEnd, HasCause}
+use Rattle.lsp_frame.specs.Counts.{NoneFell, NoError, HasFailed}
+use Rattle.lsp_frame.specs.Reading.{TakesFrame, BreaksOff, Shows, ShowsEnd, HasCause, NoErrorUnlessRead}
 use Rattle.lsp_frame.specs.declared.counts.Counts.{Counts}
 use Rattle.lsp_frame.specs.declared.fault.FrameFault.{FrameFault}
 use Rattle.lsp_frame.specs.declared.fault.FrameFault.TheVariants.{BadHeader, NoLength, BadLength, BodyTooLong, HeaderTooLong, Truncated, Read, Memory}
+use Rattle.lsp_frame.specs.declared.reader.LastAnswer.{LastAnswer}
+use Rattle.lsp_frame.specs.declared.reader.LastAnswer.TheVariants.{AtEnd, Failed}
 use Rattle.lsp_frame.specs.Writing.{frame_of}
+use Rattle.lsp_frame.proofs.CountsLemmas.{NoneFell-refl, NoneFell-trans, HasFailed-after}
+use Rattle.lsp_frame.proofs.Splits.{begins_with}
+use Rattle.lsp_frame.proofs.StreamLemmas.{frames-whole, frames-end}
 use Rattle.lsp_rpc.specs.Message.{message_of}
-use Rattle.lsp_session.specs.Configuration.{Configuration}
+use Rattle.lsp_config.specs.Configuration.{Configuration}
+use Rattle.lsp_config.specs.Fault.{ComesWhileServing, IsWriteOrMemory}
+use Rattle.lsp_config.specs.Sending.{SendsPrefix}
+use Rattle.lsp_config.specs.declared.fault.ServeFault.{ServeFault}
+use Rattle.lsp_config.specs.declared.fault.ServeFault.TheVariants as served
 use Rattle.lsp_session.specs.Core.{CoreState}
 use Rattle.lsp_session.specs.Session.{State, Run, turn, turn_in, next, start, session}
-use Rattle.lsp_session.specs.Steps.{turns, Knows, replies_to, end_by}
-use Rattle.lsp_session.specs.declared.fault.ServeFault.TheVariants as served
-use Rattle.lsp_session.specs.Stream.{SendsPrefix, IsExit, HasFrameCode, frames_of, output, ended, ended_in, exit_of, is_exited, taken_from, behind_first, behind_frames, behind_exit}
+use Rattle.lsp_session.specs.Serving.{Calls, IsCaused, Serves, Serving, Ends, Finishes, Fails, Served, Comes, exit_in, end_by}
+use Rattle.lsp_session.specs.Steps.{turns, Knows, replies_to}
+use Rattle.lsp_session.specs.Stream.{IsExit, HasFrameCode, LeavesReader, Answered, frames_of, output, ended, ended_in, exit_of, is_exited, taken_from, behind_first, behind_frames, behind_exit}
 use Rattle.lsp_session.specs.declared.ended.Ended.{Ended}
 use Rattle.lsp_session.specs.declared.ended.Ended.TheVariants as how
 use Rattle.lsp_session.specs.declared.phase.Phase.{Phase}
 use Rattle.lsp_session.specs.declared.phase.Phase.TheVariants.{Uninitialized, Running, Shut, Exited}
 use Rattle.lsp_session.proofs.CoreLemmas.{session-none, session-append, session-snoc, fold-next, knows-state}
 
--- of the stream `bytes`, `rest` is left, and the replies to the messages before it went out
-pub record Serves (config : Configuration) (bytes rest : List ℕ) (core : CoreState) (v w : Option (List ℕ)) : Type 0 where
-  pub bodies : List (List ℕ)
-  pub knows : Knows config core bodies
-  pub came : (frames bytes).bodies ≡ bodies ++ (frames rest).bodies
-  pub same_end : (frames rest).end ≡ (frames bytes).end
-  pub wrote : Appends v w (frames_of (session config bodies).replies)
-  pub behind : rest ≡ behind_frames (length bodies) bytes
-  pub taken : (later : List (List ℕ)) → taken_from (start config) (bodies ++ later) ≡ length bodies + taken_from core.state later
-
--- the same where the source tells its bytes
-abbrev pub Serving : Configuration → Option (List ℕ) → Option (List ℕ) → CoreState → Option (List ℕ) → Option (List ℕ) → Type 0
-Serving config None left core v w = ⊤
-Serving config (Some bytes) None core v w = ⊥
-Serving config (Some bytes) (Some rest) core v w = Serves config bytes rest core v w
+-- the bodies of the stream are those that were taken, and those that are left
+pub came : {config : Configuration} {bytes rest : List ℕ} {core : CoreState} {v w : Option (List ℕ)} → (s : Serves config bytes rest core v w) → (frames bytes).bodies ≡ s.bodies ++ (frames rest).bodies
+came {config} {bytes} {rest} s = ap (λ l. (frames l).bodies) s.joined ∙ s.whatever rest
 
 -- ---- at the start
 
@@ -59,7 +56,9 @@ serving-start config (Some bytes) v core k =
     record {
       bodies = [];
       knows = k;
-      came = refl;
+      front = [];
+      joined = refl;
+      whatever = λ behind. refl;
       same_end = refl;
       wrote = rw (ap (λ r. frames_of r.replies) (session-none config)) (Appends-nil v);
       behind = refl;
@@ -88,12 +87,17 @@ serving-more config (Some bytes) (Some rest) (Some left) v w x old new body s op
     let known = knows bodies s.knows in
     let first = session config bodies in
     let after : session config (bodies ++ body ∷ []) ≡ next first body = session-snoc config bodies body in
+    let begin = begins_with rest body t.rest t.first in
     let size : length (bodies ++ body ∷ []) ≡ suc (length bodies) = omega (arith, length-append bodies (body ∷ [])) in
     let state : (turn old.state (message_of body)).state ≡ new.state = ap (λ u. (turn u (message_of body)).state) (knows-state config old bodies s.knows) ∙ sym (ap (λ r. r.state) after) ∙ sym (knows-state config new (bodies ++ body ∷ []) known) in
     record {
       bodies = bodies ++ body ∷ [];
       knows = known;
-      came = s.came ∙ ap (λ f. bodies ++ f.bodies) split ∙ sym (append_assoc bodies (body ∷ []) (frames left).bodies);
+      front = s.front ++ begin.frame;
+      joined = s.joined ∙ ap (λ l. s.front ++ l) (begin.joined ∙ ap (λ l. begin.frame ++ l) (sym same)) ∙ sym (append_assoc s.front begin.frame left);
+      whatever = λ behind.
+          ap (λ l. (frames l).bodies) (append_assoc s.front begin.frame behind) ∙ s.whatever (begin.frame ++ behind) ∙ ap (λ f. bodies ++ f.bodies) (frames-whole (begin.frame ++ behind) body behind (begin.whatever behind))
+          ∙ sym (append_assoc bodies (body ∷ []) (frames behind).bodies);
       same_end = sym (ap (λ f. f.end) split) ∙ s.same_end;
       wrote = rw (ap (λ r. frames_of r.replies) after ∙ flat_map-append frame_of first.replies (replies_to config bodies body)) (Appends-trans v w x (frames_of first.replies) (frames_of (replies_to config bodies body)) s.wrote (wrote bodies s.knows));
       behind = same ∙ sym (ap (λ n. behind_frames n bytes) size ∙ behind_frames-snoc (length bodies) bytes ∙ ap (λ l. behind_first l (first_frame l)) (sym s.behind) ∙ ap (behind_first rest) t.first);
@@ -104,11 +108,6 @@ serving-more config (Some bytes) (Some rest) (Some left) v w x old new body s op
 
 -- ---- at the end of the stream
 
--- all of the output went out, and the session ended so
-pub record Ends (config : Configuration) (bytes : List ℕ) (v w : Option (List ℕ)) (end : Ended) : Type 0 where
-  pub whole : Appends v w (output config bytes)
-  pub ended : end ≡ ended config bytes
-
 ended_in-open : (phase : Phase) → is_exited phase ≡ false → (ended_in phase InputEnd ≡ how.InputEnd) × ((fault : _) → ended_in phase (BadFrame fault) ≡ how.BadFrame (code_of fault))
 ended_in-open Uninitialized e = (refl, λ fault. refl)
 ended_in-open Running e = (refl, λ fault. refl)
@@ -118,17 +117,18 @@ ended_in-open (Exited after_shutdown) e = cc
 all_came : (bytes rest : List ℕ) (bodies : List (List ℕ)) (end : StreamEnd) → (frames bytes).bodies ≡ bodies ++ (frames rest).bodies → frames rest ≡ no_frames end → (frames bytes).bodies ≡ bodies
 all_came bytes rest bodies end came none = came ∙ ap (λ f. bodies ++ f.bodies) none ∙ append-nil bodies
 
-pub ends_with_stream : (config : Configuration) (a b v w : Option (List ℕ)) (core : CoreState) (end : StreamEnd) (how_ended : Ended) → Serving config a b core v w → is_exited core.state.phase ≡ false
-    → IfSome b (λ rest. frames rest ≡ no_frames end) → ((phase : Phase) → is_exited phase ≡ false → ended_in phase end ≡ how_ended) → IfSome a (λ bytes. Ends config bytes v w how_ended)
-ends_with_stream config None b v w core end how_ended s open_still none is = tt
-ends_with_stream config (Some bytes) None v w core end how_ended s open_still none is = absurd s
-ends_with_stream config (Some bytes) (Some rest) v w core end how_ended s open_still none is =
-    let all : (frames bytes).bodies ≡ s.bodies = all_came bytes rest s.bodies end s.came none in
+pub ends_with_stream : (config : Configuration) (a b c v w : Option (List ℕ)) (core : CoreState) (end : StreamEnd) (how_ended : Ended) → Serving config a b core v w → is_exited core.state.phase ≡ false
+    → IfSome b (λ rest. frames rest ≡ no_frames end) → ((phase : Phase) → is_exited phase ≡ false → ended_in phase end ≡ how_ended) → (IsExit how_ended → ⊥) → IfSome a (λ bytes. Ends config bytes c v w how_ended)
+ends_with_stream config None b c v w core end how_ended s open_still none is no_exit = tt
+ends_with_stream config (Some bytes) None c v w core end how_ended s open_still none is no_exit = absurd s
+ends_with_stream config (Some bytes) (Some rest) c v w core end how_ended s open_still none is no_exit =
+    let all : (frames bytes).bodies ≡ s.bodies = all_came bytes rest s.bodies end (came s) none in
     let state : core.state ≡ (session config (frames bytes).bodies).state = knows-state config core s.bodies s.knows ∙ ap (λ bs. (session config bs).state) (sym all) in
     let last : (frames bytes).end ≡ end = sym s.same_end ∙ ap (λ f. f.end) none in
     record {
       whole = rw (ap (λ bs. frames_of (session config bs).replies) all) s.wrote;
       ended = sym (is core.state.phase open_still) ∙ ap (λ u. ended_in u.phase end) state ∙ ap (ended_in (session config (frames bytes).bodies).state.phase) (sym last);
+      behind = λ exit. absurd (no_exit exit);
     }
 
 pub ends_with_input : (phase : Phase) → is_exited phase ≡ false → ended_in phase InputEnd ≡ how.InputEnd
@@ -162,30 +162,23 @@ exit_is Running after_shutdown e = cc
 exit_is Shut after_shutdown e = cc
 exit_is (Exited before) after_shutdown e = let same : before ≡ after_shutdown = cc in ap Exited same
 
--- the same, and the bytes behind the exit are left
-pub record Exits (config : Configuration) (bytes : List ℕ) (left v w : Option (List ℕ)) (end : Ended) : Type 0 where
-  pub ends : Ends config bytes v w end
-  pub behind : left ≡ Some (behind_exit config bytes)
-
 exited : (phase : Phase) (after_shutdown : Bool) → phase ≡ Exited after_shutdown → is_exited phase ≡ true
 exited phase after_shutdown e = rw e refl
 
-pub exits_at : (config : Configuration) (a b v w : Option (List ℕ)) (core : CoreState) (after_shutdown : Bool) → Serving config a b core v w → core.state.phase ≡ Exited after_shutdown → IfSome a (λ bytes. Exits config bytes b v w (how.Exit after_shutdown))
+pub exits_at : (config : Configuration) (a b v w : Option (List ℕ)) (core : CoreState) (after_shutdown : Bool) → Serving config a b core v w → core.state.phase ≡ Exited after_shutdown → IfSome a (λ bytes. Ends config bytes b v w (how.Exit after_shutdown))
 exits_at config None b v w core after_shutdown s e = tt
 exits_at config (Some bytes) None v w core after_shutdown s e = absurd s
 exits_at config (Some bytes) (Some rest) v w core after_shutdown s e =
     let later = (frames rest).bodies in
     let state = knows-state config core s.bodies s.knows in
     let here : is_exited core.state.phase ≡ true = exited core.state.phase after_shutdown e in
-    let same : session config (frames bytes).bodies ≡ session config s.bodies = ap (session config) s.came ∙ session-append config s.bodies later ∙ stays-exited (session config s.bodies) later (ap (λ u. is_exited u.phase) (sym state) ∙ here) in
+    let same : session config (frames bytes).bodies ≡ session config s.bodies = ap (session config) (came s) ∙ session-append config s.bodies later ∙ stays-exited (session config s.bodies) later (ap (λ u. is_exited u.phase) (sym state) ∙ here) in
     let phase : (session config (frames bytes).bodies).state.phase ≡ Exited after_shutdown = ap (λ r. r.state.phase) same ∙ ap (λ u. u.phase) (sym state) ∙ e in
-    let count : taken_from (start config) (frames bytes).bodies ≡ length s.bodies = ap (taken_from (start config)) s.came ∙ s.taken later ∙ omega (arith, taken-exited core.state later here) in
+    let count : taken_from (start config) (frames bytes).bodies ≡ length s.bodies = ap (taken_from (start config)) (came s) ∙ s.taken later ∙ omega (arith, taken-exited core.state later here) in
     record {
-      ends = record {
-        whole = rw (ap (λ r. frames_of r.replies) same) s.wrote;
-        ended = sym (ap (λ p. ended_in p (frames bytes).end) phase);
-      };
-      behind = ap Some (s.behind ∙ ap (λ n. behind_frames n bytes) (sym count));
+      whole = rw (ap (λ r. frames_of r.replies) same) s.wrote;
+      ended = sym (ap (λ p. ended_in p (frames bytes).end) phase);
+      behind = λ exit. ap Some (s.behind ∙ ap (λ n. behind_frames n bytes) (sym count));
     }
 
 -- ---- where something failed
@@ -205,7 +198,7 @@ stops config None b v w core s = tt
 stops config (Some bytes) None v w core s = absurd s
 stops config (Some bytes) (Some rest) v w core s =
     let more = output-more config s.bodies (frames rest).bodies in
-    front-of v w (frames_of (session config s.bodies).replies) more.0 (output config bytes) (ap (λ bs. frames_of (session config bs).replies) s.came ∙ more.1) s.wrote
+    front-of v w (frames_of (session config s.bodies).replies) more.0 (output config bytes) (ap (λ bs. frames_of (session config bs).replies) (came s) ∙ more.1) s.wrote
 
 pub nothing_sent : (v : Option (List ℕ)) (all : List ℕ) → SendsPrefix v v all
 nothing_sent v all = (0, omega arith, Appends-nil v)
@@ -227,9 +220,9 @@ stops_within config (Some bytes) (Some rest) c v w x core body s t sent =
     let new = replies_to config bodies body in
     let later = (frames t.rest).bodies in
     let more = output-more config (bodies ++ body ∷ []) later in
-    let came : (frames bytes).bodies ≡ (bodies ++ body ∷ []) ++ later = s.came ∙ ap (λ f. bodies ++ f.bodies) t.others ∙ sym (append_assoc bodies (body ∷ []) later) in
+    let all : (frames bytes).bodies ≡ (bodies ++ body ∷ []) ++ later = came s ∙ ap (λ f. bodies ++ f.bodies) t.others ∙ sym (append_assoc bodies (body ∷ []) later) in
     let after : frames_of (session config (bodies ++ body ∷ [])).replies ≡ frames_of first.replies ++ frames_of new = ap (λ r. frames_of r.replies) (session-snoc config bodies body) ∙ flat_map-append frame_of first.replies new in
-    let whole : output config bytes ≡ frames_of first.replies ++ (frames_of new ++ more.0) = ap (λ bs. frames_of (session config bs).replies) came ∙ more.1 ∙ ap (λ l. l ++ more.0) after ∙ append_assoc (frames_of first.replies) (frames_of new) more.0 in
+    let whole : output config bytes ≡ frames_of first.replies ++ (frames_of new ++ more.0) = ap (λ bs. frames_of (session config bs).replies) all ∙ more.1 ∙ ap (λ l. l ++ more.0) after ∙ append_assoc (frames_of first.replies) (frames_of new) more.0 in
     front-behind v w x (frames_of first.replies) (frames_of new) more.0 (output config bytes) whole s.wrote (sent bodies s.knows)
 
 -- ---- the frames of some replies
@@ -244,97 +237,203 @@ pub frames-more : (replies : List (List ℕ)) (i : ℕ) (reply : List ℕ) → i
 frames-more replies i reply lt is =
     ap frames_of (take_more replies i reply lt ∙ ap (λ r. take i replies ++ r ∷ []) (sym is)) ∙ flat_map-append frame_of (take i replies) (reply ∷ []) ∙ ap (λ l. frames_of (take i replies) ++ l) (append-nil (frame_of reply))
 
--- ---- what the reader answered
+-- ---- where the source failed
 
-pub if_some_map : {A : Type 0} (o : Option A) (P Q : A → Type 0) → ((x : A) → P x → Q x) → IfSome o P → IfSome o Q
+pub answered_so_far : (config : Configuration) (a b c v w : Option (List ℕ)) (core : CoreState) → Serving config a b core v w → IfSome b (λ rest. BreaksOff rest c) → IfSome a (λ bytes. Answered config bytes c v w)
+answered_so_far config None b c v w core s broken = tt
+answered_so_far config (Some bytes) None c v w core s broken = absurd s
+answered_so_far config (Some bytes) (Some rest) c v w core s broken =
+    let all : (frames (s.front ++ broken.taken)).bodies ≡ s.bodies = s.whatever broken.taken ∙ ap (λ f. s.bodies ++ f.bodies) (frames-end broken.taken broken.end broken.first) ∙ append-nil s.bodies in
+    record {
+      taken = s.front ++ broken.taken;
+      rest = broken.rest;
+      joined = s.joined ∙ ap (λ l. s.front ++ l) broken.joined ∙ sym (append_assoc s.front broken.taken broken.rest);
+      is_left = broken.is_left;
+      wrote = rw (ap (λ bs. frames_of (session config bs).replies) all) s.wrote;
+    }
+
+-- ---- a message
+
+message_in : (config : Configuration) (a c v x : Option (List ℕ)) (core : CoreState) (exit : Option Bool) → exit_of core.state.phase ≡ exit → Serving config a c core v x → Comes config a c core v x None (Ok (option_map how.Exit exit))
+message_in config a c v x core None is s = (s, ap is_some is, refl)
+message_in config a c v x core (Some after_shutdown) is s = record { ends = exits_at config a c v x core after_shutdown s (exit_is core.state.phase after_shutdown is); code = tt; leaves = refl }
+
+-- it was answered
+pub message_comes : (config : Configuration) (a c v x : Option (List ℕ)) (core : CoreState) → Serving config a c core v x → Comes config a c core v x None (Ok (exit_in core.state.phase))
+message_comes config a c v x core s = message_in config a c v x core (exit_of core.state.phase) refl s
+
+-- it wasn't
+pub message_fails : (config : Configuration) (a c v x : Option (List ℕ)) (old new : Counts) (fault : ServeFault) → IsWriteOrMemory old new fault → IfSome a (λ bytes. SendsPrefix v x (output config bytes)) → Fails config a c v x fault
+message_fails config a c v x old new served.Read of prefix = absurd of
+message_fails config a c v x old new served.Write of prefix = record { prefix = prefix; answered = λ e. cc; comes = tt }
+message_fails config a c v x old new served.Memory of prefix = record { prefix = prefix; answered = λ e. cc; comes = tt }
+message_fails config a c v x old new served.BadRoot of prefix = absurd of
+message_fails config a c v x old new (served.BadPath index) of prefix = absurd of
+
+message_cause : (a b old new : Counts) (fault : ServeFault) → IsWriteOrMemory old new fault → IsCaused a b old new fault
+message_cause a b old new served.Read of = absurd of
+message_cause a b old new served.Write of = of
+message_cause a b old new served.Memory of = tt
+message_cause a b old new served.BadRoot of = absurd of
+message_cause a b old new (served.BadPath index) of = absurd of
+
+pub message_caused : {A : Type 0} (a b old new : Counts) (result : Result A ServeFault) → IfErr result (IsWriteOrMemory old new) → IfErr result (IsCaused a b old new)
+message_caused a b old new (Ok x) of = tt
+message_caused a b old new (Err fault) of = message_cause a b old new fault of
+
+-- ---- no further message
+
+if_some_map : {A : Type 0} (o : Option A) (P Q : A → Type 0) → ((x : A) → P x → Q x) → IfSome o P → IfSome o Q
 if_some_map None P Q f h = tt
 if_some_map (Some x) P Q f h = f x h
 
-pub end_shown : (b c : Option (List ℕ)) → IfSome b (λ rest. (rest ≡ []) × ShowsEnd rest c InputEnd) → IfSome b (λ rest. frames rest ≡ no_frames InputEnd)
-end_shown None c h = tt
-end_shown (Some rest) c h = h.1.none
-
--- the source failed where that is the fault
 module _ (config : Configuration) (a b c v w : Option (List ℕ)) (core : CoreState) (so_far : Serving config a b core v w) (not_exited : is_exited core.state.phase ≡ false) where
-  bad_frame : (fault : FrameFault) → IfSome b (λ rest. ShowsEnd rest c (BadFrame fault)) → IfSome a (λ bytes. Ends config bytes v w (how.BadFrame (code_of fault)))
-  bad_frame fault shown =
-      ends_with_stream config a b v w core (BadFrame fault) (how.BadFrame (code_of fault)) so_far not_exited (if_some_map b (λ rest. ShowsEnd rest c (BadFrame fault)) (λ rest. frames rest ≡ no_frames (BadFrame fault)) (λ rest s. s.none) shown)
-      (λ phase e. (ended_in-open phase e).1 fault)
+  -- the input ended
+  pub input_ends : IfSome b (λ rest. (rest ≡ []) × ShowsEnd rest c InputEnd) → Comes config a c core v w (Some AtEnd) (Ok (Some how.InputEnd))
+  input_ends shown = record {
+    ends = ends_with_stream config a b c v w core InputEnd how.InputEnd so_far not_exited (if_some_map b _ (λ rest. frames rest ≡ no_frames InputEnd) (λ rest s. s.1.none) shown) ends_with_input (λ no. no);
+    code = tt;
+    leaves = refl;
+  }
 
-  -- nothing is said of a fault that ends no stream
+  bad_frame : (fault : FrameFault) → (101 ≤ code_of fault) × (code_of fault ≤ 106) → IfSome b (λ rest. ShowsEnd rest c (BadFrame fault)) → Finishes config a c v w (Some (Failed fault)) (how.BadFrame (code_of fault))
+  bad_frame fault code shown = record {
+    ends = ends_with_stream config a b c v w core (BadFrame fault) (how.BadFrame (code_of fault)) so_far not_exited (if_some_map b (λ rest. ShowsEnd rest c (BadFrame fault)) (λ rest. frames rest ≡ no_frames (BadFrame fault)) (λ rest s. s.none) shown)
+        (λ phase e. (ended_in-open phase e).1 fault) (λ no. no);
+    code = code;
+    leaves = (fault, refl, refl);
+  }
+
+  -- there is none for this reason
+  pub fault_comes : (fault : FrameFault) → IfSome b (λ rest. Shows rest c fault) → Comes config a c core v w (Some (Failed fault)) (end_by fault)
+  fault_comes BadHeader shown = bad_frame BadHeader (omega arith, omega arith) shown
+  fault_comes NoLength shown = bad_frame NoLength (omega arith, omega arith) shown
+  fault_comes BadLength shown = bad_frame BadLength (omega arith, omega arith) shown
+  fault_comes BodyTooLong shown = bad_frame BodyTooLong (omega arith, omega arith) shown
+  fault_comes HeaderTooLong shown = bad_frame HeaderTooLong (omega arith, omega arith) shown
+  fault_comes Truncated shown = bad_frame Truncated (omega arith, omega arith) shown
+  fault_comes Read shown = record { prefix = stops config a b v w core so_far; answered = λ e. answered_so_far config a b c v w core so_far shown; comes = tt }
+  fault_comes Memory shown = record { prefix = stops config a b v w core so_far; answered = λ e. cc; comes = tt }
+
+-- the counts of the source, where the reader answered a fault
+pub fault_calls : (old new : Counts) (fault : FrameFault) → NoneFell old new → NoErrorUnlessRead old new fault → new.errors ≤ old.errors + 1 → Calls old new (end_by fault)
+fault_calls old new BadHeader counts calm once = record { counts = counts; calm = calm; once = once }
+fault_calls old new NoLength counts calm once = record { counts = counts; calm = calm; once = once }
+fault_calls old new BadLength counts calm once = record { counts = counts; calm = calm; once = once }
+fault_calls old new BodyTooLong counts calm once = record { counts = counts; calm = calm; once = once }
+fault_calls old new HeaderTooLong counts calm once = record { counts = counts; calm = calm; once = once }
+fault_calls old new Truncated counts calm once = record { counts = counts; calm = calm; once = once }
+fault_calls old new Read counts calm once = record { counts = counts; calm = tt; once = once }
+fault_calls old new Memory counts calm once = record { counts = counts; calm = tt; once = once }
+
+pub fault_cause : (old new k l : Counts) (fault : FrameFault) → HasCause old new fault → IfErr (end_by fault) (IsCaused old new k l)
+fault_cause old new k l BadHeader h = tt
+fault_cause old new k l NoLength h = tt
+fault_cause old new k l BadLength h = tt
+fault_cause old new k l BodyTooLong h = tt
+fault_cause old new k l HeaderTooLong h = tt
+fault_cause old new k l Truncated h = tt
+fault_cause old new k l Read h = h
+fault_cause old new k l Memory h = tt
+
+-- ---- calls to a device
+
+pub no_calls : {A E : Type 0} (a : Counts) (result : Result A E) → Calls a a result
+no_calls a (Ok x) = record { counts = NoneFell-refl a; calm = refl; once = omega arith }
+no_calls a (Err e) = record { counts = NoneFell-refl a; calm = tt; once = omega arith }
+
+pub good_calls : {A B E F : Type 0} (a b : Counts) (x : A) (y : B) → Calls {A = A} {E = E} a b (Ok x) → Calls {A = B} {E = F} a b (Ok y)
+good_calls a b x y calls = record { counts = calls.counts; calm = calls.calm; once = calls.once }
+
+pub bad_calls : {A B E F : Type 0} (a b : Counts) (x : E) (y : F) → Calls {A = A} {E = E} a b (Err x) → Calls {A = B} {E = F} a b (Err y)
+bad_calls a b x y calls = record { counts = calls.counts; calm = tt; once = calls.once }
+
+-- calls that met no error, whatever came of them
+pub calm_calls : {A E : Type 0} (a b : Counts) (result : Result A E) → NoneFell a b → NoError a b → b.errors ≤ a.errors + 1 → Calls a b result
+calm_calls a b (Ok x) fell calm once = record { counts = fell; calm = calm; once = once }
+calm_calls a b (Err e) fell calm once = record { counts = fell; calm = tt; once = once }
+
+-- behind calls that met no error
+pub more_calls : {A E : Type 0} (a b c : Counts) (result : Result A E) → NoneFell a b → NoError a b → Calls b c result → Calls a c result
+more_calls a b c (Ok x) fell calm calls = record { counts = NoneFell-trans fell calls.counts; calm = calls.calm ∙ calm; once = omega (arith, calm, calls.once) }
+more_calls a b c (Err e) fell calm calls = record { counts = NoneFell-trans fell calls.counts; calm = tt; once = omega (arith, calm, calls.once) }
+
+-- a fault behind other calls
+pub more_cause : (a b c k l m : Counts) (fault : ServeFault) → NoneFell a b → NoneFell k l → IsCaused b c l m fault → IsCaused a c k m fault
+more_cause a b c k l m served.Read reads writes of = HasFailed-after reads of
+more_cause a b c k l m served.Write reads writes of = HasFailed-after writes of
+more_cause a b c k l m served.Memory reads writes of = tt
+more_cause a b c k l m served.BadRoot reads writes of = tt
+more_cause a b c k l m (served.BadPath index) reads writes of = tt
+
+-- ---- a session to its end
+
+-- it failed before its first message
+pub fails_at_start : (config : Configuration) (a left v : Option (List ℕ)) → Fails config a left v v served.Memory
+fails_at_start config None left v = record { prefix = tt; answered = λ e. tt; comes = tt }
+fails_at_start config (Some bytes) left v = record { prefix = nothing_sent v (output config bytes); answered = λ e. cc; comes = tt }
+
+module _ (config : Configuration) (a left v w : Option (List ℕ)) (last : Option LastAnswer) where
+  all-prefix : (all : List ℕ) → Appends v w all → SendsPrefix v w all
+  all-prefix all sent = (length all, omega arith, rw (take_all (length all) all (omega arith)) sent)
+
+  pub served-prefix : (result : Result Ended ServeFault) → Served config a left v w last result → IfSome a (λ bytes. SendsPrefix v w (output config bytes))
+  served-prefix (Ok end) s = if_some_map a (λ bytes. Ends config bytes left v w end) _ (λ bytes e. all-prefix (output config bytes) e.whole) s.ends
+  served-prefix (Err fault) s = s.prefix
+
   untold : (o : Option (List ℕ)) → IfSome o (λ bytes. ⊤)
   untold None = tt
   untold (Some bytes) = tt
 
-  pub fault-whole : (fault : FrameFault) → IfSome b (λ rest. Shows rest c fault) → IfSome a (λ bytes. OnOk (end_by fault) (Appends v w (output config bytes)))
-  fault-whole Read shown = untold a
-  fault-whole Memory shown = untold a
-  fault-whole BadHeader shown = if_some_map a (λ bytes. Ends config bytes v w (how.BadFrame 101)) _ (λ bytes e. e.whole) (bad_frame BadHeader shown)
-  fault-whole NoLength shown = if_some_map a (λ bytes. Ends config bytes v w (how.BadFrame 102)) _ (λ bytes e. e.whole) (bad_frame NoLength shown)
-  fault-whole BadLength shown = if_some_map a (λ bytes. Ends config bytes v w (how.BadFrame 103)) _ (λ bytes e. e.whole) (bad_frame BadLength shown)
-  fault-whole BodyTooLong shown = if_some_map a (λ bytes. Ends config bytes v w (how.BadFrame 104)) _ (λ bytes e. e.whole) (bad_frame BodyTooLong shown)
-  fault-whole HeaderTooLong shown = if_some_map a (λ bytes. Ends config bytes v w (how.BadFrame 105)) _ (λ bytes e. e.whole) (bad_frame HeaderTooLong shown)
-  fault-whole Truncated shown = if_some_map a (λ bytes. Ends config bytes v w (how.BadFrame 106)) _ (λ bytes e. e.whole) (bad_frame Truncated shown)
+  pub served-whole : (result : Result Ended ServeFault) → Served config a left v w last result → IfSome a (λ bytes. OnOk result (Appends v w (output config bytes)))
+  served-whole (Ok end) s = if_some_map a (λ bytes. Ends config bytes left v w end) _ (λ bytes e. e.whole) s.ends
+  served-whole (Err fault) s = untold a
 
-  pub fault-ended : (fault : FrameFault) → IfSome b (λ rest. Shows rest c fault) → IfSome a (λ bytes. IfOk (end_by fault) (λ end. end ≡ ended config bytes))
-  fault-ended Read shown = untold a
-  fault-ended Memory shown = untold a
-  fault-ended BadHeader shown = if_some_map a (λ bytes. Ends config bytes v w (how.BadFrame 101)) _ (λ bytes e. e.ended) (bad_frame BadHeader shown)
-  fault-ended NoLength shown = if_some_map a (λ bytes. Ends config bytes v w (how.BadFrame 102)) _ (λ bytes e. e.ended) (bad_frame NoLength shown)
-  fault-ended BadLength shown = if_some_map a (λ bytes. Ends config bytes v w (how.BadFrame 103)) _ (λ bytes e. e.ended) (bad_frame BadLength shown)
-  fault-ended BodyTooLong shown = if_some_map a (λ bytes. Ends config bytes v w (how.BadFrame 104)) _ (λ bytes e. e.ended) (bad_frame BodyTooLong shown)
-  fault-ended HeaderTooLong shown = if_some_map a (λ bytes. Ends config bytes v w (how.BadFrame 105)) _ (λ bytes e. e.ended) (bad_frame HeaderTooLong shown)
-  fault-ended Truncated shown = if_some_map a (λ bytes. Ends config bytes v w (how.BadFrame 106)) _ (λ bytes e. e.ended) (bad_frame Truncated shown)
+  pub served-ended : (result : Result Ended ServeFault) → Served config a left v w last result → IfSome a (λ bytes. IfOk result (λ end. end ≡ ended config bytes))
+  served-ended (Ok end) s = if_some_map a (λ bytes. Ends config bytes left v w end) _ (λ bytes e. e.ended) s.ends
+  served-ended (Err fault) s = untold a
 
--- no fault of a frame is an exit
-pub fault-behind : (o : Option (List ℕ)) (P : List ℕ → Type 0) (fault : FrameFault) → IfSome o (λ bytes. IfOk (end_by fault) (λ end. IsExit end → P bytes))
-fault-behind None P fault = tt
-fault-behind (Some bytes) P BadHeader = λ no. absurd no
-fault-behind (Some bytes) P NoLength = λ no. absurd no
-fault-behind (Some bytes) P BadLength = λ no. absurd no
-fault-behind (Some bytes) P BodyTooLong = λ no. absurd no
-fault-behind (Some bytes) P HeaderTooLong = λ no. absurd no
-fault-behind (Some bytes) P Truncated = λ no. absurd no
-fault-behind (Some bytes) P Read = tt
-fault-behind (Some bytes) P Memory = tt
+  pub served-behind : (result : Result Ended ServeFault) → Served config a left v w last result → IfSome a (λ bytes. IfOk result (λ end. IsExit end → left ≡ Some (behind_exit config bytes)))
+  served-behind (Ok end) s = if_some_map a (λ bytes. Ends config bytes left v w end) _ (λ bytes e. e.behind) s.ends
+  served-behind (Err fault) s = untold a
 
-pub fault-read : (old new : Counts) (fault : FrameFault) → HasCause old new fault → IfErr (end_by fault) (λ f. f ≡ served.Read → HasFailed old new)
-fault-read old new BadHeader h = tt
-fault-read old new NoLength h = tt
-fault-read old new BadLength h = tt
-fault-read old new BodyTooLong h = tt
-fault-read old new HeaderTooLong h = tt
-fault-read old new Truncated h = tt
-fault-read old new Read h = λ e. h
-fault-read old new Memory h = λ e. cc
+  pub served-leaves : (result : Result Ended ServeFault) → Served config a left v w last result → IfOk result (LeavesReader last)
+  served-leaves (Ok end) s = s.leaves
+  served-leaves (Err fault) s = tt
 
-pub fault-write : (P : Type 0) (fault : FrameFault) → IfErr (end_by fault) (λ f. f ≡ served.Write → P)
-fault-write P BadHeader = tt
-fault-write P NoLength = tt
-fault-write P BadLength = tt
-fault-write P BodyTooLong = tt
-fault-write P HeaderTooLong = tt
-fault-write P Truncated = tt
-fault-write P Read = λ e. cc
-fault-write P Memory = λ e. cc
+  exit-open : (end : Ended) → LeavesReader last end → IsExit end → last ≡ None
+  exit-open (how.Exit after_shutdown) l exit = l
+  exit-open how.InputEnd l exit = absurd exit
+  exit-open (how.BadFrame code) l exit = absurd exit
 
--- what is said of every answer where there is no further frame
-pub fault-code : (fault : FrameFault) → IfOk (end_by fault) HasFrameCode
-fault-code BadHeader = (omega arith, omega arith)
-fault-code NoLength = (omega arith, omega arith)
-fault-code BadLength = (omega arith, omega arith)
-fault-code BodyTooLong = (omega arith, omega arith)
-fault-code HeaderTooLong = (omega arith, omega arith)
-fault-code Truncated = (omega arith, omega arith)
-fault-code Read = tt
-fault-code Memory = tt
+  pub served-goes_on : (result : Result Ended ServeFault) → Served config a left v w last result → IfOk result (λ end. IsExit end → last ≡ None)
+  served-goes_on (Ok end) s = exit-open end s.leaves
+  served-goes_on (Err fault) s = tt
 
-pub fault-goes_on : (P : Type 0) (fault : FrameFault) → IfOk (end_by fault) (λ end. IsExit end → P)
-fault-goes_on P BadHeader = λ no. absurd no
-fault-goes_on P NoLength = λ no. absurd no
-fault-goes_on P BadLength = λ no. absurd no
-fault-goes_on P BodyTooLong = λ no. absurd no
-fault-goes_on P HeaderTooLong = λ no. absurd no
-fault-goes_on P Truncated = λ no. absurd no
-fault-goes_on P Read = tt
-fault-goes_on P Memory = tt
+  pub served-code : (result : Result Ended ServeFault) → Served config a left v w last result → IfOk result HasFrameCode
+  served-code (Ok end) s = s.code
+  served-code (Err fault) s = tt
+
+  pub served-answered : (result : Result Ended ServeFault) → Served config a left v w last result → IfErr result (λ fault. fault ≡ served.Read → IfSome a (λ bytes. Answered config bytes left v w))
+  served-answered (Ok end) s = tt
+  served-answered (Err fault) s = s.answered
+
+  pub served-fault : (result : Result Ended ServeFault) → Served config a left v w last result → IfErr result ComesWhileServing
+  served-fault (Ok end) s = tt
+  served-fault (Err fault) s = s.comes
+
+pub cause-read : (a b k l : Counts) (result : Result Ended ServeFault) → IfErr result (IsCaused a b k l) → IfErr result (λ fault. fault ≡ served.Read → HasFailed a b)
+cause-read a b k l (Ok end) h = tt
+cause-read a b k l (Err served.Read) h = λ e. h
+cause-read a b k l (Err served.Write) h = λ e. cc
+cause-read a b k l (Err served.Memory) h = λ e. cc
+cause-read a b k l (Err served.BadRoot) h = λ e. cc
+cause-read a b k l (Err (served.BadPath index)) h = λ e. cc
+
+pub cause-write : (a b k l : Counts) (result : Result Ended ServeFault) → IfErr result (IsCaused a b k l) → IfErr result (λ fault. fault ≡ served.Write → HasFailed k l)
+cause-write a b k l (Ok end) h = tt
+cause-write a b k l (Err served.Read) h = λ e. cc
+cause-write a b k l (Err served.Write) h = λ e. h
+cause-write a b k l (Err served.Memory) h = λ e. cc
+cause-write a b k l (Err served.BadRoot) h = λ e. cc
+cause-write a b k l (Err (served.BadPath index)) h = λ e. cc

@@ -1,7 +1,7 @@
 -- A core of the session, which takes messages and answers them in order, in terms of what has happened to it.
 use Rattle.std.specs.Prelude.{◌≡◌, ℕ, ◌+◌, ◌≤◌, List, [], ◌∷◌, ◌++◌, length, take, drop, map, replicate}
 use Rattle.lsp_rpc.specs.Message.{MessageData, message_of}
-use Rattle.lsp_session.specs.Configuration.{Configuration}
+use Rattle.lsp_config.specs.Configuration.{Configuration}
 use Rattle.lsp_session.specs.Session.{State, session}
 
 -- what happens to a core: a message arrives, and the first one that hasn't been is processed

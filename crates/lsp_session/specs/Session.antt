@@ -13,7 +13,7 @@ use Rattle.lsp_rpc.specs.declared.error_code.ErrorCode.TheVariants.{ParseError, 
 use Rattle.lsp_rpc.specs.declared.method.Method.{Method}
 use Rattle.lsp_rpc.specs.declared.method.Method.TheVariants.{Initialize, Shutdown, Exit, DidOpen, DidChange, DidSave, DidClose, DocumentDiagnostic, WorkspaceDiagnostic}
 use Rattle.workspace_uri.specs.Uri.{path_of}
-use Rattle.lsp_session.specs.Configuration.{Configuration, files_of}
+use Rattle.lsp_config.specs.Configuration.{Configuration, files_of}
 use Rattle.lsp_workspace.specs.Reports.{document_diagnostics, workspace_reports, ReportsAreOfDocuments}
 use Rattle.lsp_workspace.specs.Files.{Files, opened_files, changed_files, saved_files, closed_files, text_at, AreInPathOrder, HasTextsOfWorkspace}
 use Rattle.lsp_session.specs.declared.phase.Phase.{Phase}

@@ -1,16 +1,9 @@
 -- What the private steps of a session and its core promise each other.
-use Rattle.std.specs.Prelude.{◌≡◌, ℕ, List, [], ◌∷◌, ◌++◌, length, map, Result, Ok, Err}
-use Rattle.lsp_frame.specs.Fault.{code_of}
-use Rattle.lsp_frame.specs.declared.fault.FrameFault.{FrameFault}
-use Rattle.lsp_frame.specs.declared.fault.FrameFault.TheVariants as frame
-use Rattle.lsp_session.specs.declared.ended.Ended.{Ended}
-use Rattle.lsp_session.specs.declared.ended.Ended.TheVariants as how
-use Rattle.lsp_session.specs.declared.fault.ServeFault.{ServeFault}
-use Rattle.lsp_session.specs.declared.fault.ServeFault.TheVariants as fault
+use Rattle.std.specs.Prelude.{◌≡◌, ℕ, List, [], ◌∷◌, ◌++◌, length, map}
 use Rattle.serde_json.specs.Data.{Data}
 use Rattle.serde_json.specs.Written.{compact_text}
 use Rattle.lsp_rpc.specs.Message.{MessageData, message_of}
-use Rattle.lsp_session.specs.Configuration.{Configuration}
+use Rattle.lsp_config.specs.Configuration.{Configuration}
 use Rattle.lsp_session.specs.Core.{Event, messages, processed, CoreState, IsAfter}
 use Rattle.lsp_session.specs.Session.{State, Turn, turn, silent, session}
 
@@ -35,9 +28,3 @@ pub record Knows (config : Configuration) (core : CoreState) (bodies : List (Lis
 -- the bodies of the replies to one more message
 abbrev pub replies_to : Configuration → List (List ℕ) → List ℕ → List (List ℕ)
 replies_to config bodies body = map compact_text (turn (session config bodies).state (message_of body)).replies
-
--- how a session ends where there is no further frame for this reason
-abbrev pub end_by : FrameFault → Result Ended ServeFault
-end_by frame.Read = Err fault.Read
-end_by frame.Memory = Err fault.Memory
-end_by f = Ok (how.BadFrame (code_of f))

@@ -5,8 +5,11 @@ use Rattle.std.specs.Io.KnownBytes.{Appends}
 use Rattle.lsp_frame.specs.Fault.{code_of}
 use Rattle.lsp_frame.specs.Stream.{StreamEnd, InputEnd, BadFrame, FirstFrame, Whole, NoFrame, first_frame, frames}
 use Rattle.lsp_frame.specs.Writing.{frame_of}
+use Rattle.lsp_frame.specs.declared.fault.FrameFault.{FrameFault}
+use Rattle.lsp_frame.specs.declared.reader.LastAnswer.{LastAnswer}
+use Rattle.lsp_frame.specs.declared.reader.LastAnswer.TheVariants.{AtEnd, Failed}
 use Rattle.lsp_rpc.specs.Message.{message_of}
-use Rattle.lsp_session.specs.Configuration.{Configuration}
+use Rattle.lsp_config.specs.Configuration.{Configuration}
 use Rattle.lsp_session.specs.Session.{State, start, turn, session}
 use Rattle.lsp_session.specs.declared.phase.Phase.{Phase}
 use Rattle.lsp_session.specs.declared.phase.Phase.TheVariants.{Exited}
@@ -63,10 +66,6 @@ NothingFollowsAnExit = (config : Configuration) (bodies later : List (List ℕ))
 
 -- ---- what a caller of the server sees
 
--- a prefix of the bytes went out
-abbrev pub SendsPrefix : Option (List ℕ) → Option (List ℕ) → List ℕ → Type 0
-SendsPrefix old new bytes = (n : ℕ) × (n ≤ length bytes) × Appends old new (take n bytes)
-
 abbrev pub IsExit : Ended → Type 0
 IsExit (how.Exit after_shutdown) = ⊤
 IsExit _ = ⊥
@@ -75,3 +74,17 @@ IsExit _ = ⊥
 abbrev pub HasFrameCode : Ended → Type 0
 HasFrameCode (how.BadFrame code) = (101 ≤ code) × (code ≤ 106)
 HasFrameCode _ = ⊤
+
+-- the reader goes on behind an exit, and else answers from then on what the session ended with
+abbrev pub LeavesReader : Option LastAnswer → Ended → Type 0
+LeavesReader last (how.Exit after_shutdown) = last ≡ None
+LeavesReader last how.InputEnd = last ≡ Some AtEnd
+LeavesReader last (how.BadFrame code) = (fault : FrameFault) × (last ≡ Some (Failed fault)) × (code ≡ code_of fault)
+
+-- some of the bytes were taken and the others are left, and what the session says to those that were taken went out
+pub record Answered (config : Configuration) (bytes : List ℕ) (left old new : Option (List ℕ)) : Type 0 where
+  pub taken : List ℕ
+  pub rest : List ℕ
+  pub joined : bytes ≡ taken ++ rest
+  pub is_left : left ≡ Some rest
+  pub wrote : Appends old new (output config taken)

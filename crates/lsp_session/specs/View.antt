@@ -6,7 +6,7 @@ use Rattle.workspace_uri.specs.View.{root_text}
 use Rattle.lsp_session.specs.Core.{CoreState}
 use Rattle.lsp_workspace.specs.View.{files_view}
 use Rattle.lsp_session.specs.Session.{State}
-use Rattle.lsp_session.specs.declared.fault.CoreFault.{CoreFault}
+use Rattle.lsp_config.specs.declared.fault.CoreFault.{CoreFault}
 use Rattle.lsp_session.specs.declared.session.Session.{Session}
 use Rattle.lsp_session.specs.declared.session_core.Core.{Core}
 

@@ -6,10 +6,7 @@
 //! configuration, without an editor.
 #![tactic(auto)]
 
-mod checking;
-mod config;
 mod ended;
-mod fault;
 mod laws;
 mod phase;
 mod reply;
@@ -17,16 +14,15 @@ mod run;
 mod serving;
 mod session;
 mod session_core;
+mod taking;
 mod verdict;
 
-pub use checking::check;
-pub use config::Config;
 pub use ended::Ended;
-pub use fault::{CoreFault, ServeFault};
 pub use laws::{
     documents_are_of_the_workspace, files_are_in_path_order, nothing_follows_an_exit, reports_agree,
 };
-pub use lsp_workspace::DiskFile;
+pub use lsp_check::check;
+pub use lsp_config::{Config, CoreFault, DiskFile, ServeFault};
 pub use reply::Reply;
 pub use run::{CoreEvent, CoreRun, run_core};
 pub use serving::serve;

@@ -1,16 +1,15 @@
 // A core over a list of events.
 ghost use Rattle.std.specs.Prelude.{◌≡◌, ◌≤◌, ℕ, List, [], ◌∷◌, ◌++◌, length, IfOk, OnOk};
-ghost use Rattle.lsp_session.specs.Configuration.{Configuration};
+ghost use Rattle.lsp_config.specs.Configuration.{Configuration};
 ghost use Rattle.lsp_session.specs.Run.{bodies_of};
 ghost use Rattle.lsp_session.specs.Session.{session};
 ghost use Rattle.lsp_session.specs.Steps.{Knows};
 ghost use Rattle.lsp_session.specs.View.{core_state};
 
-use crate::config::Config;
-use crate::fault::CoreFault;
 use crate::reply::Reply;
 use crate::session_core::{Core, answer};
 use crate::verdict::Verdict;
+use lsp_config::{Config, CoreFault};
 use std::alloc::Global;
 
 /// What happens to a core. An advance follows each event.

@@ -1,64 +1,47 @@
 // A session over streams of frames.
-ghost use Rattle.std.specs.Prelude.{◌≡◌, ℕ, List, [], ◌∷◌, ◌++◌, Some, IfOk, IfErr, IfSome, OnOk, OnErr};
+ghost use Rattle.std.specs.Prelude.{◌≡◌, ◌+◌, ◌≤◌, Some, IfOk, IfErr, IfSome, OnOk};
 ghost use Rattle.std.specs.Io.KnownBytes.{Appends};
-ghost use Rattle.lsp_frame.specs.Counts.{NoneFell, HasFailed};
-ghost use Rattle.lsp_frame.specs.FrameReader.{source_of, IsOpen};
-ghost use Rattle.lsp_session.specs.Configuration.{Configuration};
-ghost use Rattle.lsp_session.specs.Fault.{ComesWhileServing, IsWriteOrMemory};
-ghost use Rattle.lsp_session.specs.Stream.{frames_of, output, ended, behind_exit, SendsPrefix, IsExit, HasFrameCode};
-ghost use Rattle.lsp_session.specs.Steps.{Knows, replies_to, end_by};
-ghost use Rattle.lsp_session.specs.View.{core_state};
+ghost use Rattle.lsp_frame.specs.Counts.{NoError, HasFailed};
+ghost use Rattle.lsp_frame.specs.FrameReader.{source_of, last_answer, IsOpen};
+ghost use Rattle.lsp_config.specs.Fault.{ComesWhileServing};
+ghost use Rattle.lsp_config.specs.Sending.{SendsPrefix};
+ghost use Rattle.lsp_session.specs.Serving.{Calls, IsCaused, Served};
+ghost use Rattle.lsp_session.specs.Stream.{output, ended, behind_exit, IsExit, HasFrameCode, LeavesReader, Answered};
 
-use crate::config::Config;
 use crate::ended::Ended;
-use crate::fault::{CoreFault, ServeFault};
-use crate::reply::Reply;
-use crate::session_core::{Core, answer};
-use lsp_frame::{ByteSink, ByteSource, Frame, FrameFault, FrameReader, write_frame};
+use crate::session_core::Core;
+use crate::taking::take_next;
+use lsp_config::{Config, CoreFault, ServeFault};
+use lsp_frame::{ByteSink, ByteSource, FrameReader};
 use std::alloc::Global;
 use std::sync::Wait;
 
-// Writes a frame for each reply, in order.
-fn write_all<K: ByteSink>(writer: &mut K, replies: &[Reply]) -> Result<(), ServeFault>
-    ensures ok { OnOk result (Appends (K.written writer.old) (K.written writer.new) (frames_of replies.now)) }
-    ensures err { OnErr result (SendsPrefix (K.written writer.old) (K.written writer.new) (frames_of replies.now)) }
-    ensures fault { IfErr result (λ fault. fault ≡ ServeFault.Write) }
-    ensures cause { OnErr result (HasFailed (K.counts writer.old) (K.counts writer.new)) }
-    ensures counts { NoneFell (K.counts writer.old) (K.counts writer.new) }
+// Serves a session to its end.
+fn run<R: Wait, S: ByteSource, K: ByteSink>(
+    rt: &R,
+    alloc: Global,
+    reader: &mut FrameReader<S>,
+    writer: &mut K,
+    config: Config,
+) -> Result<Ended, ServeFault>
+    requires { IsOpen reader.old }
+    ensures served { Served config (S.left (source_of reader.old)) (S.left (source_of reader.new)) (K.written writer.old) (K.written writer.new) (last_answer reader.new) result }
+    ensures reads { Calls (S.counts (source_of reader.old)) (S.counts (source_of reader.new)) result }
+    ensures writes { Calls (K.counts writer.old) (K.counts writer.new) result }
+    ensures cause { IfErr result (IsCaused (S.counts (source_of reader.old)) (S.counts (source_of reader.new)) (K.counts writer.old) (K.counts writer.new)) }
 {
-    for reply in replies {
-        match write_frame(writer, reply.as_bytes()) {
-            Ok(()) => {}
-            Err(_) => return Err(ServeFault::Write),
-        }
-    }
-    Ok(())
-}
-
-// Takes a message, and writes the replies to it.
-fn reply_to<K: ByteSink>(writer: &mut K, core: &mut Core, body: &[u8]) -> Result<(), ServeFault>
-    ensures knows { OnOk result ((config : Configuration) (bodies : List (List ℕ)) → Knows config (core_state core.old) bodies → Knows config (core_state core.new) (bodies ++ body.now ∷ [])) }
-    ensures ok { OnOk result ((config : Configuration) (bodies : List (List ℕ)) → Knows config (core_state core.old) bodies → Appends (K.written writer.old) (K.written writer.new) (frames_of (replies_to config bodies body.now))) }
-    ensures err { OnErr result ((config : Configuration) (bodies : List (List ℕ)) → Knows config (core_state core.old) bodies → SendsPrefix (K.written writer.old) (K.written writer.new) (frames_of (replies_to config bodies body.now))) }
-    ensures fault { IfErr result (IsWriteOrMemory (K.counts writer.old) (K.counts writer.new)) }
-    ensures counts { NoneFell (K.counts writer.old) (K.counts writer.new) }
-{
-    let replies = match answer(core, body) {
-        Ok(replies) => replies,
+    let mut core = match Core::new(alloc, config) {
+        Ok(core) => core,
         Err(CoreFault::Memory) => return Err(ServeFault::Memory),
     };
-    write_all(writer, replies.as_slice())
-}
-
-// How a session ends where there is no further frame for this reason.
-fn end_by(fault: FrameFault) -> Result<Ended, ServeFault>
-    ensures { result ≡ end_by fault }
-{
-    match fault {
-        FrameFault::Read => Err(ServeFault::Read),
-        FrameFault::Memory => Err(ServeFault::Memory),
-        _ => Ok(Ended::BadFrame(fault.code())),
+    for _turn in rt.forever() {
+        match take_next(reader, writer, &mut core) {
+            Ok(None) => {}
+            Ok(Some(ended)) => return Ok(ended),
+            Err(fault) => return Err(fault),
+        }
     }
+    unreachable!()
 }
 
 /// Serves a session: reads the messages of an editor from the frames of `reader`, and writes a frame to `writer` for
@@ -89,6 +72,12 @@ pub fn serve<R: Wait, S: ByteSource, K: ByteSink>(
 
     ensures goes_on { IfOk result (λ end. IsExit end → IsOpen reader.new) }
 
+    // Else the reader answers from then on what the session ended with: the end, or the fault of the bad frame.
+    ensures leaves { IfOk result (LeavesReader (last_answer reader.new)) }
+
+    // Where the source failed, all that the session says to the bytes that were taken went out, and no more.
+    ensures answered { IfErr result (λ fault. fault ≡ ServeFault.Read → IfSome (S.left (source_of reader.old)) (λ bytes. Answered config bytes (S.left (source_of reader.new)) (K.written writer.old) (K.written writer.new))) }
+
     // The number of a bad frame is one of 101 to 106.
     ensures code { IfOk result HasFrameCode }
 
@@ -98,22 +87,14 @@ pub fn serve<R: Wait, S: ByteSource, K: ByteSink>(
 
     // What is wrong with a configuration was said when it was made.
     ensures fault { IfErr result ComesWhileServing }
+
+    // It ends well only where no error of a device came.
+    ensures reads_calm { OnOk result (NoError (S.counts (source_of reader.old)) (S.counts (source_of reader.new))) }
+    ensures writes_calm { OnOk result (NoError (K.counts writer.old) (K.counts writer.new)) }
+
+    // After an error a device is not called again.
+    ensures reads_once { (S.counts (source_of reader.new)).errors ≤ (S.counts (source_of reader.old)).errors + 1 }
+    ensures writes_once { (K.counts writer.new).errors ≤ (K.counts writer.old).errors + 1 }
 {
-    let mut core = match Core::new(alloc, config) {
-        Ok(core) => core,
-        Err(CoreFault::Memory) => return Err(ServeFault::Memory),
-    };
-    for _turn in rt.forever() {
-        match reader.read_frame() {
-            Ok(Frame::Body(body)) => {
-                reply_to(writer, &mut core, body.as_slice())?;
-                if let Some(after_shutdown) = core.exited() {
-                    return Ok(Ended::Exit { after_shutdown });
-                }
-            }
-            Ok(Frame::End) => return Ok(Ended::InputEnd),
-            Err(fault) => return end_by(fault),
-        }
-    }
-    unreachable!()
+    run(rt, alloc, reader, writer, config)
 }

@@ -11,10 +11,10 @@ ghost use Rattle.lsp_workspace.specs.Reports.{document_diagnostics};
 ghost use Rattle.lsp_rpc.specs.Reply as reply;
 ghost use Rattle.lsp_session.specs.Session as spec;
 
-use crate::config::Config;
 use crate::phase::Phase;
 use crate::reply::Reply;
 use doc_text::Text;
+use lsp_config::Config;
 use lsp_rpc::{
     Diagnostic, DidChangeParams, DidOpenParams, ErrorCode, Id, Message, Method, document_uri,
     error_reply, initialize_reply, null_reply, report_reply, workspace_reply,

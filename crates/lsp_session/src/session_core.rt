@@ -1,17 +1,16 @@
 // The core: messages in, replies out, and nothing of streams.
 ghost use Rattle.std.specs.Prelude.{◌≡◌, ◌↔◌, ◌<◌, ℕ, List, ◌∷◌, [], ◌++◌, length, map, Some, None, IfOk, IfErr, IfSome, OnOk, IsTrue};
 ghost use Rattle.serde_json.specs.Written.{compact_text};
-ghost use Rattle.lsp_session.specs.Configuration.{Configuration};
+ghost use Rattle.lsp_config.specs.Configuration.{Configuration};
 ghost use Rattle.lsp_session.specs.Core.{Event, Arrive, messages, processed, IsAfter, Advances};
 ghost use Rattle.lsp_session.specs.Steps.{turns, Knows, replies_to};
 ghost use Rattle.lsp_session.specs.Stream.{exit_of};
 ghost use Rattle.lsp_session.specs.View.{core_state};
 
-use crate::config::Config;
-use crate::fault::CoreFault;
 use crate::phase::Phase;
 use crate::reply::Reply;
 use crate::session::Session;
+use lsp_config::{Config, CoreFault};
 use lsp_rpc::Message;
 use std::alloc::{AllocError, Global};
 use std::collections::VecDeque;

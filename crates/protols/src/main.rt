@@ -2,16 +2,16 @@
 //! `protols check` lists what is wrong in a folder of files.
 #![tactic(auto)]
 
-mod folder;
-mod options;
-mod root;
-mod words;
+mod failure;
+mod folders;
+mod status;
 
-use crate::folder::{FolderFault, read_folder};
-use crate::root::root_url;
+use crate::failure::Failure;
+use crate::folders::{configuration, files_of};
+use crate::status::{fail, status_of, status_of_check};
 use lsp_frame::{FrameReader, FromRead, ToWrite};
 use lsp_session::{Config, Ended, ServeFault, check, serve};
-use std::alloc::{AllocError, AllocFailed};
+use program_options::options;
 use std::env::{self, Env};
 use std::io::{self, BufReader, ErrorKind};
 use std::process::ExitCode;
@@ -25,130 +25,38 @@ Usage: protols serve [--root DIR] [--stdio] [--clientProcessId ID]
 
 For more information, try '--help'.";
 
-// Why the program ended before its session did.
-#[derive(Clone, Copy, Debug, PartialEq, Eq)]
-enum Failure {
-    // The folder can't be read.
-    Folder,
-    // The fault with this number.
-    Fault(u32),
-}
-
-impl From<ServeFault> for Failure {
-    fn from(fault: ServeFault) -> Failure {
-        Failure::Fault(fault.code())
-    }
-}
-
-impl From<FolderFault> for Failure {
-    fn from(fault: FolderFault) -> Failure {
-        match fault {
-            FolderFault::Unlisted | FolderFault::LimitPassed => Failure::Folder,
-            FolderFault::Memory => Failure::from(ServeFault::Memory),
-        }
-    }
-}
-
-impl From<AllocError> for Failure {
-    fn from(_error: AllocError) -> Failure {
-        Failure::from(ServeFault::Memory)
-    }
-}
-
-impl<T: Drop> From<AllocFailed<T>> for Failure {
-    fn from(_error: AllocFailed<T>) -> Failure {
-        Failure::from(ServeFault::Memory)
-    }
-}
-
-// What the session is started with: the roots, and the files below them. With no folder the root is that of all paths,
-// and no file is read.
-fn configuration<R: Files + Eprint + AllocGlobal>(
+// Serves an editor on standard input and output. The input is buffered, the output is written through.
+fn serve_with<R: Wait + Input + Print + AllocGlobal>(
     rt: &R,
-    dirs: &[&str],
-) -> Result<Config, Failure> {
+    config: Config,
+) -> Result<Ended, ServeFault> {
     let alloc = rt.alloc();
-    let mut roots = Vec::new(alloc);
-    let mut files = Vec::new(alloc);
-    for (number, dir) in dirs.iter().enumerate() {
-        roots.push(root_url(alloc, dir)?)?;
-        for file in read_folder(rt, number, dir)? {
-            files.push(file)?;
-        }
-    }
-    if dirs.is_empty() {
-        roots.push(root_url(alloc, "/")?)?;
-    }
-    Ok(Config::make(alloc, roots, files)?)
-}
-
-// Serves an editor on standard input and output, with the files of these folders. The input is buffered, the output is
-// written through.
-fn serve_editor<R: Wait + Files + Input + Print + Eprint + AllocGlobal>(
-    rt: &R,
-    dirs: &[&str],
-) -> Result<Ended, Failure> {
-    let alloc = rt.alloc();
-    let config = configuration(rt, dirs)?;
     let Ok(input) = BufReader::new(alloc, rt.reader()) else {
-        return Err(Failure::from(ServeFault::Memory));
+        return Err(ServeFault::Memory);
     };
     let mut reader = FrameReader::new(alloc, FromRead::new(input));
     let mut writer = ToWrite::new(io::writer(rt));
-    Ok(serve(rt, alloc, &mut reader, &mut writer, config)?)
+    serve(rt, alloc, &mut reader, &mut writer, config)
+}
+
+// Serves an editor, with the files of these folders.
+fn serve_editor<'d, R: Wait + Files + Input + Print + Eprint + AllocGlobal>(
+    rt: &R,
+    dirs: &[&'d str],
+) -> Result<Ended, Failure<'d>> {
+    let config = configuration(rt, dirs)?;
+    Ok(serve_with(rt, config)?)
 }
 
 // Writes a line for each fault in the files of the folder to standard output, and answers whether one is an error. With
-// no folder it is the current one. The root of the files is that of all paths.
-fn check_files<R: Files + Print + Eprint + AllocGlobal>(
+// no folder it is the current one.
+fn check_files<'d, R: Files + Print + Eprint + AllocGlobal>(
     rt: &R,
-    dirs: &[&str],
-) -> Result<bool, Failure> {
-    let alloc = rt.alloc();
-    let mut roots = Vec::new(alloc);
-    roots.push(root_url(alloc, "/")?)?;
-    let files = read_folder(rt, 0, dirs.first().copied().unwrap_or("."))?;
-    let config = Config::make(alloc, roots, files)?;
+    dirs: &[&'d str],
+) -> Result<bool, Failure<'d>> {
+    let config = files_of(rt, dirs.first().copied().unwrap_or("."))?;
     let mut writer = ToWrite::new(io::writer(rt));
-    Ok(check(alloc, &mut writer, config)?)
-}
-
-// Says on standard error which fault it was. A closed standard error changes nothing of the status.
-fn fail(rt: &impl Eprint, fault: u32) -> ExitCode {
-    let _told = eprintln!(rt; "protols: fault {fault}");
-    ExitCode::from(3)
-}
-
-// Says on standard error that the folder can't be read.
-fn fail_folder(rt: &impl Eprint) -> ExitCode {
-    let _told = eprintln!(rt; "protols: folder");
-    ExitCode::from(3)
-}
-
-// The status that says why nothing else came of it.
-fn failed(rt: &impl Eprint, failure: Failure) -> ExitCode {
-    match failure {
-        Failure::Folder => fail_folder(rt),
-        Failure::Fault(code) => fail(rt, code),
-    }
-}
-
-// The status that says whether an error was found.
-fn status_of_check(rt: &impl Eprint, checked: Result<bool, Failure>) -> ExitCode {
-    match checked {
-        Ok(found) => ExitCode::from(if found { 1 } else { 0 }),
-        Err(failure) => failed(rt, failure),
-    }
-}
-
-// The status that says how the session ended.
-fn status_of_session(rt: &impl Eprint, ended: Result<Ended, Failure>) -> ExitCode {
-    match ended {
-        Ok(Ended::Exit { after_shutdown }) => ExitCode::from(if after_shutdown { 0 } else { 1 }),
-        Ok(Ended::InputEnd) => ExitCode::from(1),
-        Ok(Ended::BadFrame(code)) => fail(rt, code),
-        Err(failure) => failed(rt, failure),
-    }
+    Ok(check(rt.alloc(), &mut writer, config)?)
 }
 
 // Writes what is to be said of the command line: the help, or what is wrong with it.
@@ -185,12 +93,9 @@ fn main(rt: HostRuntime) -> ExitCode {
         Ok(words) => words,
         Err(status) => return status,
     };
-    match options::options(rt.alloc(), words.as_slice()) {
+    match options(rt.alloc(), words.as_slice()) {
         Ok(asked) if asked.check => status_of_check(&rt, check_files(&rt, asked.dirs.as_slice())),
-        Ok(asked) => status_of_session(&rt, serve_editor(&rt, asked.dirs.as_slice())),
+        Ok(asked) => status_of(&rt, serve_editor(&rt, asked.dirs.as_slice())),
         Err(error) => explain(&rt, &error),
     }
 }
-
-#[cfg(test)]
-mod tests;

@@ -1,10 +1,19 @@
 use Rattle.std.proofs.Common.{◌+◌, ◌∷◌, [], length, arith, ap, sym, ◌∙◌, length-append}
 use Rattle.std.proofs.lemmas.Bool.{eqb-true, eqb-false}
 use Rattle.std.proofs.KnownBytes.{Consumes-trans}
+use Rattle.std.proofs.lemmas.Result.{err_from_is_err_and}
 use Rattle.lsp_frame.specs.Header.{is_whole_header}
 use Rattle.lsp_frame.proofs.CountsLemmas.{NoneFell-trans}
-use Rattle.lsp_frame.proofs.Headers.{ended_empty, ended_within, too_long, closed, NoneWhole-push}
+use Rattle.lsp_frame.proofs.Headers.{stopped_in_header, ended_empty, ended_within, too_long, closed, NoneWhole-push}
 use Rattle.lsp_frame.proofs.reading.read_header.Goals as goal
+
+pub returns-in_err-byte-clause-bytes : goal.returns-in_err-byte-clause-bytes
+returns-in_err-byte-clause-bytes g c =
+    let left = g.S.ByteSource.left in
+    let at = c.loop-taken in
+    let p = err_from_is_err_and c.from_residual.result c.from_residual.ensures.1 in
+    let none = rw (← at.invariant.len) at at.invariant.none_whole in
+    rw (p.1, p.2, c.in_err-byte.ensures.fault) (stopped_in_header (left c.args.source.now) (left at.source) (left c.read_byte.new.source) at.header.items at.invariant.consumed c.in_err-byte.ensures.bytes none)
 
 pub returns-then-not-is_empty-clause-bytes : goal.returns-then-not-is_empty-clause-bytes
 returns-then-not-is_empty-clause-bytes g c =

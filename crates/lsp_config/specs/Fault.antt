@@ -1,0 +1,32 @@
+-- The numbers of the faults, and which faults can come where.
+use Rattle.std.specs.Prelude.{ℕ, ⊤}
+use Rattle.lsp_frame.specs.Counts.{HasFailed}
+use Rattle.lsp_frame.specs.declared.counts.Counts.{Counts}
+use Rattle.lsp_config.specs.declared.fault.CoreFault.{CoreFault}
+use Rattle.lsp_config.specs.declared.fault.CoreFault.TheVariants as core
+use Rattle.lsp_config.specs.declared.fault.ServeFault.{ServeFault}
+use Rattle.lsp_config.specs.declared.fault.ServeFault.TheVariants as serve
+
+abbrev pub core_code : CoreFault → ℕ
+core_code core.Memory = 803
+
+abbrev pub serve_code : ServeFault → ℕ
+serve_code serve.Read = 801
+serve_code serve.Write = 802
+serve_code serve.Memory = 803
+serve_code serve.BadRoot = 806
+serve_code (serve.BadPath index) = 807
+
+-- a fault that can come while a server runs: its configuration was good
+abbrev pub ComesWhileServing : ServeFault → Type 0
+ComesWhileServing serve.BadRoot = ⊥
+ComesWhileServing (serve.BadPath index) = ⊥
+ComesWhileServing _ = ⊤
+
+-- a fault where only a writer and memory can fail: the writer's only where it failed between these counts
+abbrev pub IsWriteOrMemory : Counts → Counts → ServeFault → Type 0
+IsWriteOrMemory old new serve.Read = ⊥
+IsWriteOrMemory old new serve.Write = HasFailed old new
+IsWriteOrMemory old new serve.Memory = ⊤
+IsWriteOrMemory old new serve.BadRoot = ⊥
+IsWriteOrMemory old new (serve.BadPath index) = ⊥

@@ -1,0 +1,150 @@
+// Reads the words of the command line.
+ghost use Rattle.std.specs.Prelude.{◌≡◌, ◌≤◌, IfOk, IfSome, IsTrue, All, true, false};
+ghost use Rattle.program_options.specs.Path as spec;
+
+use crate::commands::program;
+use crate::words::Options;
+use clap::error::ErrorKind;
+use clap::{ArgMatches, Command, Error};
+use std::alloc::{AllocError, Global};
+
+// How many workers there are where the command line gives no number.
+const DEFAULT_WORKERS: u8 = 4;
+
+// Why words are refused that the commands and their options allow.
+#[derive(Clone, Copy, Debug, PartialEq, Eq)]
+enum Refusal {
+    // There is no command.
+    NoCommand,
+    // A folder of `serve` has a path that doesn't begin with `/`.
+    RelativeFolder,
+    // Memory was refused.
+    Memory,
+}
+
+impl From<AllocError> for Refusal {
+    fn from(_error: AllocError) -> Refusal {
+        Refusal::Memory
+    }
+}
+
+// The path begins at the top of the file system.
+fn is_absolute(path: &str) -> bool
+    ensures { result ≡ spec.is_absolute path.now }
+{
+    path.as_bytes().starts_with(b"/")
+}
+
+// So do all of these.
+fn are_absolute(paths: &[&str]) -> bool
+    ensures { IsTrue result → All (λ path. spec.is_absolute path.now ≡ true) paths.now }
+{
+    paths.iter().all(|path| is_absolute(path))
+}
+
+// The folders that are given.
+fn given_dirs<'a>(alloc: Global, given: &ArgMatches<'a>) -> Result<Vec<&'a str>, AllocError> {
+    let mut dirs = Vec::new(alloc);
+    for dir in given.get_strs("root").unwrap_or(&[]) {
+        dirs.push(*dir)?;
+    }
+    Ok(dirs)
+}
+
+// What `check` is asked for.
+fn check_options<'a>(alloc: Global, given: &ArgMatches<'a>) -> Result<Options<'a>, AllocError>
+    ensures checks { IfOk result (λ options. options.check ≡ true) }
+    ensures workers { IfOk result (λ options. (1 ≤ options.workers) × (options.workers ≤ 64)) }
+{
+    let dirs = given_dirs(alloc, given)?;
+    Ok(Options {
+        check: true,
+        dirs,
+        workers: DEFAULT_WORKERS,
+    })
+}
+
+// What `serve` is asked for.
+fn serve_options<'a>(alloc: Global, given: &ArgMatches<'a>) -> Result<Options<'a>, Refusal>
+    ensures serves { IfOk result (λ options. options.check ≡ false) }
+    ensures workers { IfOk result (λ options. (1 ≤ options.workers) × (options.workers ≤ 64)) }
+    ensures absolute { IfOk result (λ options. All (λ dir. spec.is_absolute dir.now ≡ true) options.dirs.items) }
+{
+    let dirs = given_dirs(alloc, given)?;
+    if !are_absolute(&dirs) {
+        return Err(Refusal::RelativeFolder);
+    }
+    Ok(Options {
+        check: false,
+        dirs,
+        workers: DEFAULT_WORKERS,
+    })
+}
+
+// What a command with these options is asked for.
+fn options_of<'a>(
+    alloc: Global,
+    command: &str,
+    given: &ArgMatches<'a>,
+) -> Result<Options<'a>, Refusal>
+    ensures workers { IfOk result (λ options. (1 ≤ options.workers) × (options.workers ≤ 64)) }
+    ensures absolute { IfOk result (λ options. options.check ≡ false → All (λ dir. spec.is_absolute dir.now ≡ true) options.dirs.items) }
+{
+    if command == "check" {
+        Ok(check_options(alloc, given)?)
+    } else {
+        serve_options(alloc, given)
+    }
+}
+
+// What the matches of the whole command line ask for.
+fn asked<'a>(alloc: Global, matches: &ArgMatches<'a>) -> Result<Options<'a>, Refusal>
+    ensures workers { IfOk result (λ options. (1 ≤ options.workers) × (options.workers ≤ 64)) }
+    ensures absolute { IfOk result (λ options. options.check ≡ false → All (λ dir. spec.is_absolute dir.now ≡ true) options.dirs.items) }
+{
+    match matches.subcommand() {
+        Some((command, given)) => options_of(alloc, command, given),
+        None => Err(Refusal::NoCommand),
+    }
+}
+
+// What the words ask for.
+fn read_words<'a>(
+    alloc: Global,
+    program: &mut Command<'a>,
+    words: &'a [String],
+) -> Result<Result<Options<'a>, Refusal>, Error>
+    ensures workers { IfOk result (λ found. IfOk found (λ options. (1 ≤ options.workers) × (options.workers ≤ 64))) }
+    ensures absolute { IfOk result (λ found. IfOk found (λ options. options.check ≡ false → All (λ dir. spec.is_absolute dir.now ≡ true) options.dirs.items)) }
+{
+    let matches = program.try_get_matches_from_mut(words)?;
+    Ok(asked(alloc, &matches))
+}
+
+// A refusal as an error of the program.
+fn error_of(program: &mut Command<'_>, refusal: Refusal) -> Result<Error, AllocError> {
+    match refusal {
+        Refusal::Memory => Err(AllocError),
+        Refusal::NoCommand => program.error(ErrorKind::MissingSubcommand, "a command is missing"),
+        Refusal::RelativeFolder => program.error(
+            ErrorKind::ValueValidation,
+            "the folder of '--root <DIR>' has to begin with '/'",
+        ),
+    }
+}
+
+/// What the words ask for, the program's name first. The commands are `serve` and `check`.
+///
+/// A wrong command line is an error whose text says what to do, and so is a call for help, whose text is the help:
+/// `exit_code` and `use_stderr` of the error tell them apart. Each option may be given once.
+pub fn options<'a>(alloc: Global, words: &'a [String]) -> Result<Options<'a>, Error>
+    ensures workers { IfOk result (λ options. (1 ≤ options.workers) × (options.workers ≤ 64)) }
+    // The folders of `serve` are told by their whole paths.
+    ensures absolute { IfOk result (λ options. options.check ≡ false → All (λ dir. spec.is_absolute dir.now ≡ true) options.dirs.items) }
+{
+    let mut program = program(alloc)?;
+    match read_words(alloc, &mut program, words)? {
+        Ok(options) => Ok(options),
+        Err(refusal) => Err(error_of(&mut program, refusal)?),
+    }
+}

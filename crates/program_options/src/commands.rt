@@ -1,0 +1,148 @@
+// The commands of the program, with their options and what is said of them.
+
+use clap::{Arg, ArgAction, Command};
+use std::alloc::{AllocError, Global};
+
+// What `protols --version` writes behind the program's name: its version, as `initialize` tells it, and the kit that it is
+// proved with, by the line of `rt version`.
+const VERSION: &str = "1 (rattle-kit-13b logic dac8208d650f15bf)";
+
+// How the program is called. Each message on a wrong command line shows it.
+const USAGE: &str = "protols serve [--root DIR] [--stdio] [--clientProcessId ID]
+       protols check [--root DIR]";
+
+const SERVE_USAGE: &str = "protols serve [--root DIR] [--stdio] [--clientProcessId ID]";
+
+const CHECK_USAGE: &str = "protols check [--root DIR]";
+
+const PROGRAM_HELP: &str = "\
+Example, for an editor whose .proto files lie in /home/ann/protos:
+  protols serve --stdio --root /home/ann/protos
+
+Example, for a build that checks its .proto files:
+  protols check --root protos
+
+`protols serve --help` and `protols check --help` say what each option means.
+
+Exit status:
+  0  the editor sent `shutdown` and then `exit`, no error was found in the
+     files, or this help was asked for
+  1  the editor sent `exit` without `shutdown`, the input ended, or an error
+     was found in the files
+  2  the command line is wrong
+  3  the folder can't be read (`protols: folder` on standard error), or the
+     input shows a bad frame or something failed (`protols: fault` and its number)";
+
+const SERVE_HELP: &str = "\
+An editor starts this command and talks to it by the Language Server Protocol,
+over standard input and output.
+
+Example, for an editor whose .proto files lie in /home/ann/protos:
+  protols serve --stdio --root /home/ann/protos";
+
+const ROOT_HELP: &str = "\
+The folder of the .proto files: they are read at the start, those of{n}\
+its subfolders too, and imports name them by their paths below it.{n}\
+DIR begins with `/`. Names that begin with `.` and symbolic links are{n}\
+skipped [default: none; no file is read, and paths begin at `/`]";
+
+const CHECK_HELP: &str = "\
+Each fault is a line on standard output, as
+  shop/order.proto:7:3: 401 unresolved name
+with the path below the folder, the line and the column from 1 (columns in
+UTF-16 units), the number of the fault and what it says. The lines come by
+path. The exit status is 1 where a fault is an error: all are but 317, a file
+that isn't proto3.
+
+Example, for a build whose .proto files lie in protos:
+  protols check --root protos";
+
+const CHECK_ROOT_HELP: &str = "\
+The folder of the .proto files: they are read with those of its{n}\
+subfolders, and imports name them by their paths below it. Names{n}\
+that begin with `.` and symbolic links are skipped [default: .]";
+
+const STDIO_HELP: &str = "\
+Talk over standard input and output, which is the only way and the{n}\
+default. Editors pass it; it changes nothing";
+
+const CLIENT_HELP: &str = "\
+The number of the editor's process; any text is taken. Editors pass{n}\
+it; it changes nothing [default: none]";
+
+// The option that names a folder.
+fn root_option<'a>(alloc: Global, help: &'a str) -> Arg<'a> {
+    Arg::new(alloc, "root")
+        .long("root")
+        .value_name("DIR")
+        .action(ArgAction::Set)
+        .help(help)
+}
+
+// The option that editors pass to say how they talk to the server.
+fn stdio_option<'a>(alloc: Global) -> Arg<'a> {
+    Arg::new(alloc, "stdio")
+        .long("stdio")
+        .action(ArgAction::SetTrue)
+        .help(STDIO_HELP)
+}
+
+// The option by which editors name their process.
+fn client_option<'a>(alloc: Global) -> Arg<'a> {
+    Arg::new(alloc, "clientProcessId")
+        .long("clientProcessId")
+        .value_name("ID")
+        .allow_hyphen_values(true)
+        .action(ArgAction::Set)
+        .help(CLIENT_HELP)
+}
+
+// `protols serve`, without its options.
+fn plain_serve<'a>(alloc: Global) -> Command<'a> {
+    Command::new(alloc, "serve")
+        .about("Serve an editor over standard input and output")
+        .override_usage(SERVE_USAGE)
+        .after_help(SERVE_HELP)
+}
+
+// `protols serve`, with its options.
+fn serve_command<'a>(alloc: Global) -> Result<Command<'a>, AllocError> {
+    let serve = plain_serve(alloc).arg(root_option(alloc, ROOT_HELP))?;
+    let serve = serve.arg(stdio_option(alloc))?;
+    serve.arg(client_option(alloc))
+}
+
+// `protols check`, with its option.
+fn check_command<'a>(alloc: Global) -> Result<Command<'a>, AllocError> {
+    Command::new(alloc, "check")
+        .about("Check a folder of .proto files and list what is wrong in them")
+        .override_usage(CHECK_USAGE)
+        .after_help(CHECK_HELP)
+        .arg(root_option(alloc, CHECK_ROOT_HELP))
+}
+
+// The program, without its commands.
+fn plain_program<'a>(alloc: Global) -> Command<'a> {
+    Command::new(alloc, "protols")
+        .about("A language server and checker for Protocol Buffers, version 3 (proto3)")
+        .version(VERSION)
+        .override_usage(USAGE)
+        .after_help(PROGRAM_HELP)
+        .subcommand_required(true)
+}
+
+// The program, with the command `serve` too.
+fn with_serve<'a>(alloc: Global, program: Command<'a>) -> Result<Command<'a>, AllocError> {
+    program.subcommand(serve_command(alloc)?)
+}
+
+// The program, with the command `check` too.
+fn with_check<'a>(alloc: Global, program: Command<'a>) -> Result<Command<'a>, AllocError> {
+    program.subcommand(check_command(alloc)?)
+}
+
+// The program with its commands.
+pub(crate) fn program<'a>(alloc: Global) -> Result<Command<'a>, AllocError> {
+    let program = with_serve(alloc, plain_program(alloc))?;
+    with_check(alloc, program)
+}

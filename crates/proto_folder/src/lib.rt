@@ -1,0 +1,11 @@
+//! The `.proto` files of a folder and of the folders below it, as the file system has them.
+#![tactic(auto)]
+
+mod fault;
+mod found;
+mod skipping;
+mod walk;
+
+pub use fault::FolderFault;
+pub use found::FoundFile;
+pub use walk::read_folder;
