@@ -1,13 +1,12 @@
 -- A change of the text of one file.
 use Rattle.std.specs.Prelude.{◌≡◌, ◌≢◌, ◌<◌, ℕ, List, [], false, length, map, slice_index_or, slice_set, MatchOption}
 use Rattle.std.specs.List.{enumerate_from}
-use Rattle.file_facts.specs.declared.diagnostic.Diag.{Diag}
 use Rattle.import_graph.specs.declared.paths.NamedFacts.{NamedFacts}
 use Rattle.import_graph.specs.Imports.{graph_of}
-use Rattle.proto_resolve.specs.declared.resolve.Links.{Links}
 use Rattle.proto_resolve.specs.Files.{facts_at}
 use Rattle.proto_resolve.specs.Seen.{exports}
 use Rattle.work_index.specs.declared.again.FileChange.{FileChange}
+use Rattle.work_index.specs.declared.analysis.Resolutions.{Resolutions}
 use Rattle.work_index.specs.Workspace.{Workspace, AnalysisData, all_facts, analysis, diagnostics_of, resolution_of}
 
 -- the workspace with another text of a file
@@ -36,9 +35,9 @@ pub record DifferAt (old new : List NamedFacts) (change : FileChange) : Type 0 w
   pub quiet : change.tells ≡ false → exports (facts_at old change.file) ≡ exports (facts_at new change.file)
 
 -- the links and the diagnostics are those before the change
-pub record AreLinkedBefore (links : List Links) (diagnostics : List (List Diag)) (w : Workspace) (change : FileChange) : Type 0 where
+pub record AreLinkedBefore (resolutions : Resolutions) (w : Workspace) (change : FileChange) : Type 0 where
   pub within : change.file < length w
   pub text : List ℕ
-  pub links_are : links ≡ map (resolution_of (with_text w change.file text)) (enumerate_from 0 (with_text w change.file text))
-  pub diagnostics_are : diagnostics ≡ map (diagnostics_of (with_text w change.file text)) (enumerate_from 0 (with_text w change.file text))
+  pub links_are : resolutions.links ≡ map (resolution_of (with_text w change.file text)) (enumerate_from 0 (with_text w change.file text))
+  pub diagnostics_are : resolutions.diagnostics ≡ map (diagnostics_of (with_text w change.file text)) (enumerate_from 0 (with_text w change.file text))
   pub differ : DifferAt (all_facts (with_text w change.file text)) (all_facts w) change

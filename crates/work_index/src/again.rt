@@ -12,13 +12,12 @@ ghost use Rattle.work_index.specs.Pieces.{workspace_of};
 ghost use Rattle.work_index.specs.Workspace.{Workspace, all_facts, analysis, diagnostics_of, resolution_of};
 
 use crate::analyse::{diagnostics_of, resolution_of};
-use crate::analysis::Analysis;
+use crate::analysis::{Analysis, Resolutions};
 use crate::file_work::{FileWork, facts_in};
-use file_facts::{Diag, FileFacts};
+use file_facts::FileFacts;
 use import_graph::{Graph, same_outlook};
 use piece_collector::Piece;
-use proto_resolve::{Index, Links, Table, same_exports, same_imports, seen_law};
-use sqlite_items::Items;
+use proto_resolve::{Index, Table, same_exports, same_imports, seen_law};
 use std::alloc::{AllocError, Global};
 
 // What a change of one file's text may change for the other files.
@@ -30,6 +29,15 @@ struct FileChange {
     tells: bool,
     // The graph of imports before the change, where that may be another one than after it.
     before: Option<Graph>,
+}
+
+// Of what a changed file may say another thing than before.
+#[derive(Clone, Copy)]
+struct Differences {
+    // Of imports.
+    imports: bool,
+    // Of what other files see of it.
+    exports: bool,
 }
 
 // Whether the imports say of a file what they said before the change.
@@ -67,18 +75,18 @@ fn set_linked(
     table: &Table,
     file: usize,
     piece: &Piece<FileWork>,
-    links: &mut Items<Links>,
-    diagnostics: &mut Items<Items<Diag>>,
+    resolutions: &mut Resolutions,
 ) -> Result<(), AllocError>
     requires file { file < length table.now }
-    requires links { file < length links.old }
-    requires diagnostics { file < length diagnostics.old }
-    ensures links { (w : Workspace) → table.now ≡ all_facts w → OnOk result (links.new ≡ slice_set links.old file (resolution_of w (file, (piece.now.path, piece.now.text)))) }
-    ensures diagnostics { (w : Workspace) → table.now ≡ all_facts w → OnOk result (diagnostics.new ≡ slice_set diagnostics.old file (diagnostics_of w (file, (piece.now.path, piece.now.text)))) }
+    requires links { file < length resolutions.old.links }
+    requires diagnostics { file < length resolutions.old.diagnostics }
+    ensures links { (w : Workspace) → table.now ≡ all_facts w → OnOk result (resolutions.new.links ≡ slice_set resolutions.old.links file (resolution_of w (file, (piece.now.path, piece.now.text)))) }
+    ensures diagnostics { (w : Workspace) → table.now ≡ all_facts w → OnOk result (resolutions.new.diagnostics ≡ slice_set resolutions.old.diagnostics file (diagnostics_of w (file, (piece.now.path, piece.now.text)))) }
 {
     let found = resolution_of(alloc, table, file, piece)?;
-    diagnostics.set(file, diagnostics_of(alloc, piece, &found)?);
-    links.set(file, found);
+    let diagnostics = diagnostics_of(alloc, piece, &found)?;
+    resolutions.diagnostics.set(file, diagnostics);
+    resolutions.links.set(file, found);
     Ok(())
 }
 
@@ -88,44 +96,48 @@ fn relink(
     table: &Table,
     change: &FileChange,
     pieces: &[Piece<FileWork>],
-    links: &mut Items<Links>,
-    diagnostics: &mut Items<Items<Diag>>,
+    resolutions: &mut Resolutions,
 ) -> Result<(), AllocError>
     requires table { table.now ≡ all_facts (workspace_of pieces.now) }
-    requires before { AreLinkedBefore links.old diagnostics.old (workspace_of pieces.now) change.now }
+    requires before { AreLinkedBefore resolutions.old (workspace_of pieces.now) change.now }
     requires law { SeenLaw }
-    ensures links { OnOk result (links.new ≡ map (resolution_of (workspace_of pieces.now)) (enumerate_from 0 (workspace_of pieces.now))) }
-    ensures diagnostics { OnOk result (diagnostics.new ≡ map (diagnostics_of (workspace_of pieces.now)) (enumerate_from 0 (workspace_of pieces.now))) }
+    ensures links { OnOk result (resolutions.new.links ≡ map (resolution_of (workspace_of pieces.now)) (enumerate_from 0 (workspace_of pieces.now))) }
+    ensures diagnostics { OnOk result (resolutions.new.diagnostics ≡ map (diagnostics_of (workspace_of pieces.now)) (enumerate_from 0 (workspace_of pieces.now))) }
 {
     for (file, piece) in pieces.iter().enumerate() {
         if is_affected(table, change, file)? {
-            set_linked(alloc, table, file, piece, links, diagnostics)?;
+            set_linked(alloc, table, file, piece, resolutions)?;
         }
     }
     Ok(())
 }
 
-// The table after the change, from the one before; and the graph before, where the imports may say another thing now. It is
-// told whether they may, and whether the changed file says another thing to the files that see it; the table is made anew where
-// one of the two is so.
+// The table after the change, from the one before; and the graph before, where the imports may say another thing now. The table
+// is made anew where the changed file may say another thing of imports or to the files that see it.
 fn table_after(
     alloc: Global,
     table: Table,
     changed: usize,
-    imports_differ: bool,
-    tells: bool,
+    differences: Differences,
     pieces: &[Piece<FileWork>],
 ) -> Result<(Table, Option<Graph>), AllocError>
     requires before { AreBefore table (workspace_of pieces.now) changed }
-    requires imports { imports_differ ≡ false → import_outline (facts_at (all_facts (workspace_of pieces.now)) changed) ≡ import_outline (facts_at table changed) }
-    requires quiet { tells ≡ false → exports (facts_at (all_facts (workspace_of pieces.now)) changed) ≡ exports (facts_at table changed) }
+    requires imports { differences.imports ≡ false → import_outline (facts_at (all_facts (workspace_of pieces.now)) changed) ≡ import_outline (facts_at table changed) }
+    requires quiet { differences.exports ≡ false → exports (facts_at (all_facts (workspace_of pieces.now)) changed) ≡ exports (facts_at table changed) }
     ensures table { IfOk result (λ after. after.0 ≡ all_facts (workspace_of pieces.now)) }
-    ensures graph { IfOk result (λ after. MatchOption after.1 (imports_differ ≡ false) (λ graph. graph ≡ graph_of table)) }
+    ensures graph { IfOk result (λ after. MatchOption after.1 (differences.imports ≡ false) (λ graph. graph ≡ graph_of table)) }
 {
     let facts = facts_at(pieces, changed).copy()?;
-    if imports_differ || tells {
+    if differences.imports || differences.exports {
         let (table, before) = table.replace_facts(alloc, changed, facts)?;
-        return Ok((table, if imports_differ { Some(before) } else { None }));
+        return Ok((
+            table,
+            if differences.imports {
+                Some(before)
+            } else {
+                None
+            },
+        ));
     }
     let mut table = table;
     table.set_facts(changed, facts);
@@ -157,23 +169,22 @@ pub fn analyse_again(
     let Analysis {
         table,
         paths,
-        mut links,
-        mut diagnostics,
+        mut resolutions,
     } = earlier;
     let facts = facts_at(pieces, changed);
-    let imports_differ = !same_imports(facts, table.facts(changed));
-    let tells = !same_exports(facts, table.facts(changed));
-    let (table, before) = table_after(alloc, table, changed, imports_differ, tells, pieces)?;
+    let imports = !same_imports(facts, table.facts(changed));
+    let exports = !same_exports(facts, table.facts(changed));
+    let differences = Differences { imports, exports };
+    let (table, before) = table_after(alloc, table, changed, differences, pieces)?;
     let change = FileChange {
         file: changed,
-        tells,
+        tells: exports,
         before,
     };
-    relink(alloc, &table, &change, pieces, &mut links, &mut diagnostics)?;
+    relink(alloc, &table, &change, pieces, &mut resolutions)?;
     Ok(Analysis {
         table,
         paths,
-        links,
-        diagnostics,
+        resolutions,
     })
 }

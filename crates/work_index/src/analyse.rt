@@ -6,7 +6,7 @@ ghost use Rattle.piece_collector.specs.Board.{Ascends};
 ghost use Rattle.work_index.specs.Pieces.{workspace_of};
 ghost use Rattle.work_index.specs.Workspace.{Workspace, all_facts, analysis, resolution_of, merged, diagnostics_of};
 
-use crate::analysis::Analysis;
+use crate::analysis::{Analysis, Resolutions};
 use crate::file_work::{FileWork, facts_in, tree_in};
 use crate::table_of::table_of;
 use file_facts::{Diag, Name, in_order};
@@ -60,16 +60,16 @@ fn push_linked(
     table: &Table,
     file: usize,
     piece: &Piece<FileWork>,
-    links: &mut Items<Links>,
-    diagnostics: &mut Items<Items<Diag>>,
+    resolutions: &mut Resolutions,
 ) -> Result<(), AllocError>
     requires { file < length table.now }
-    ensures links { (w : Workspace) → table.now ≡ all_facts w → OnOk result (links.new ≡ links.old ++ resolution_of w (file, (piece.now.path, piece.now.text)) ∷ []) }
-    ensures diagnostics { (w : Workspace) → table.now ≡ all_facts w → OnOk result (diagnostics.new ≡ diagnostics.old ++ diagnostics_of w (file, (piece.now.path, piece.now.text)) ∷ []) }
+    ensures links { (w : Workspace) → table.now ≡ all_facts w → OnOk result (resolutions.new.links ≡ resolutions.old.links ++ resolution_of w (file, (piece.now.path, piece.now.text)) ∷ []) }
+    ensures diagnostics { (w : Workspace) → table.now ≡ all_facts w → OnOk result (resolutions.new.diagnostics ≡ resolutions.old.diagnostics ++ diagnostics_of w (file, (piece.now.path, piece.now.text)) ∷ []) }
 {
     let found = resolution_of(alloc, table, file, piece)?;
-    diagnostics.push(diagnostics_of(alloc, piece, &found)?)?;
-    links.push(found)
+    let diagnostics = diagnostics_of(alloc, piece, &found)?;
+    resolutions.diagnostics.push(diagnostics)?;
+    resolutions.links.push(found)
 }
 
 // Adds the same of all files.
@@ -77,15 +77,14 @@ fn push_all_linked(
     alloc: Global,
     table: &Table,
     pieces: &[Piece<FileWork>],
-    links: &mut Items<Links>,
-    diagnostics: &mut Items<Items<Diag>>,
+    resolutions: &mut Resolutions,
 ) -> Result<(), AllocError>
     requires { table.now ≡ all_facts (workspace_of pieces.now) }
-    ensures links { OnOk result (links.new ≡ links.old ++ map (resolution_of (workspace_of pieces.now)) (enumerate_from 0 (workspace_of pieces.now))) }
-    ensures diagnostics { OnOk result (diagnostics.new ≡ diagnostics.old ++ map (diagnostics_of (workspace_of pieces.now)) (enumerate_from 0 (workspace_of pieces.now))) }
+    ensures links { OnOk result (resolutions.new.links ≡ resolutions.old.links ++ map (resolution_of (workspace_of pieces.now)) (enumerate_from 0 (workspace_of pieces.now))) }
+    ensures diagnostics { OnOk result (resolutions.new.diagnostics ≡ resolutions.old.diagnostics ++ map (diagnostics_of (workspace_of pieces.now)) (enumerate_from 0 (workspace_of pieces.now))) }
 {
     for (file, piece) in pieces.iter().enumerate() {
-        push_linked(alloc, table, file, piece, links, diagnostics)?;
+        push_linked(alloc, table, file, piece, resolutions)?;
     }
     Ok(())
 }
@@ -98,13 +97,13 @@ pub fn analyse_here(alloc: Global, pieces: &[Piece<FileWork>]) -> Result<Analysi
 {
     let table = table_of(alloc, pieces)?;
     let paths = paths_of(alloc, pieces)?;
-    let mut links = Items::new(alloc);
-    let mut diagnostics = Items::new(alloc);
-    push_all_linked(alloc, &table, pieces, &mut links, &mut diagnostics)?;
+    let links = Items::new(alloc);
+    let diagnostics = Items::new(alloc);
+    let mut resolutions = Resolutions { links, diagnostics };
+    push_all_linked(alloc, &table, pieces, &mut resolutions)?;
     Ok(Analysis {
         table,
         paths,
-        links,
-        diagnostics,
+        resolutions,
     })
 }

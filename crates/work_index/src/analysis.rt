@@ -15,8 +15,14 @@ use std::marker::Model;
 pub struct Analysis {
     pub(crate) table: Table,
     pub(crate) paths: Items<Name>,
-    pub(crate) links: Items<Links>,
-    pub(crate) diagnostics: Items<Items<Diag>>,
+    pub(crate) resolutions: Resolutions,
+}
+
+// What the names of each file mean, and what is wrong in each file.
+#[derive(Drop)]
+pub struct Resolutions {
+    pub links: Items<Links>,
+    pub diagnostics: Items<Items<Diag>>,
 }
 
 impl Model for Analysis {
@@ -30,11 +36,11 @@ impl Model for Analysis {
       paths = a.paths;
       facts = map (λ file. file.facts) a.table;
       decls = all_decls a.table;
-      links = a.links;
-      diagnostics = a.diagnostics;
+      links = a.resolutions.links;
+      diagnostics = a.resolutions.diagnostics;
     } };
 
-    ghost invariant = { λ a. (length a.paths ≡ length a.table) × (length a.links ≡ length a.table) × (length a.diagnostics ≡ length a.table) × (a.paths ≡ map (λ file. file.path) a.table) };
+    ghost invariant = { λ a. (length a.paths ≡ length a.table) × (length a.resolutions.links ≡ length a.table) × (length a.resolutions.diagnostics ≡ length a.table) × (a.paths ≡ map (λ file. file.path) a.table) };
 }
 
 impl Analysis {
@@ -68,7 +74,7 @@ impl Analysis {
         requires { file < length self.now.paths }
         ensures { slice_get self.now.links file ≡ Some result.now }
     {
-        &self.links.as_slice()[file]
+        &self.resolutions.links.as_slice()[file]
     }
 
     /// The diagnostics 201 to 406 of a file, each once, by start, end, number and words.
@@ -76,14 +82,14 @@ impl Analysis {
         requires { file < length self.now.paths }
         ensures { slice_get self.now.diagnostics file ≡ Some result.now }
     {
-        self.diagnostics.as_slice()[file].as_slice()
+        self.resolutions.diagnostics.as_slice()[file].as_slice()
     }
 
     /// The diagnostics of all files, by path.
     pub fn all_diagnostics(&self) -> &[Items<Diag>]
         ensures { result.now ≡ self.now.diagnostics }
     {
-        self.diagnostics.as_slice()
+        self.resolutions.diagnostics.as_slice()
     }
 
     /// The diagnostics of the file with a path; none where there is no such file.
@@ -107,7 +113,7 @@ impl Analysis {
     fn diagnostics_or_none(&self, file: FileNo) -> &[Diag]
         ensures { result.now ≡ slice_index_or self.now.diagnostics file [] }
     {
-        match self.diagnostics.as_slice().get(file) {
+        match self.resolutions.diagnostics.as_slice().get(file) {
             Some(diagnostics) => diagnostics.as_slice(),
             None => &[],
         }

@@ -1,5 +1,6 @@
 use Rattle.std.proofs.Common.{◌≡◌, ◌≢◌, ◌<◌, ◌≤◌, length, get_or, sym, ap, ◌∙◌, arith}
 use Rattle.proto_resolve.specs.Seen.{SeesTheSame}
+use Rattle.work_index.specs.declared.analysis.Resolutions.{Resolutions}
 use Rattle.work_index.specs.Changes.{DifferAt, with_text}
 use Rattle.work_index.specs.Pieces.{workspace_of}
 use Rattle.work_index.specs.Workspace.{all_facts, resolution_of, diagnostics_of}
@@ -19,7 +20,7 @@ set_linked-requires-clause-links c =
     let b = with_text w c.args.change.now.file c.requires.before.text in
     let n = c.loop-file.file in
     let there : n < length w = omega (arith, pieces_length c.args.pieces.now, c.loop-file-test.true) in
-    is_there (resolution_of b) (resolution_of w) b w n (before_length w c.args.change.now.file c.requires.before.text) c.args.links.now c.loop-file.links c.requires.before.links_are c.loop-file.invariant.links there
+    is_there (resolution_of b) (resolution_of w) b w n (before_length w c.args.change.now.file c.requires.before.text) c.args.resolutions.now.links c.loop-file.resolutions.links c.requires.before.links_are c.loop-file.invariant.links there
 
 pub set_linked-requires-clause-diagnostics : goal.set_linked-requires-clause-diagnostics
 set_linked-requires-clause-diagnostics c =
@@ -27,7 +28,7 @@ set_linked-requires-clause-diagnostics c =
     let b = with_text w c.args.change.now.file c.requires.before.text in
     let n = c.loop-file.file in
     let there : n < length w = omega (arith, pieces_length c.args.pieces.now, c.loop-file-test.true) in
-    is_there (diagnostics_of b) (diagnostics_of w) b w n (before_length w c.args.change.now.file c.requires.before.text) c.args.diagnostics.now c.loop-file.diagnostics c.requires.before.diagnostics_are c.loop-file.invariant.diagnostics there
+    is_there (diagnostics_of b) (diagnostics_of w) b w n (before_length w c.args.change.now.file c.requires.before.text) c.args.resolutions.now.diagnostics c.loop-file.resolutions.diagnostics c.requires.before.diagnostics_are c.loop-file.invariant.diagnostics there
 
 pub loop-file-preserved : goal.loop-file-preserved
 loop-file-preserved c =
@@ -45,17 +46,17 @@ loop-file-preserved c =
     let old = c.loop-file in
     elim c.if-branch.branch [
       | then-branch+in_ok-set_linked s ↦ record {
-        links = then_anew (resolution_of b) (resolution_of w) b w n long c.args.links.now old.links was.links_are old.invariant.links there c.if-branch.links (resolution_of w (n, (piece.path, piece.text)))
-            (s.links-is ∙ s.in_ok-set_linked.ensures.links w c.requires.table) (ap (λ u. resolution_of w (n, u)) (sym at));
-        diagnostics = then_anew (diagnostics_of b) (diagnostics_of w) b w n long c.args.diagnostics.now old.diagnostics was.diagnostics_are old.invariant.diagnostics there c.if-branch.diagnostics (diagnostics_of w (n, (piece.path, piece.text)))
-            (s.diagnostics-is ∙ s.in_ok-set_linked.ensures.diagnostics w c.requires.table) (ap (λ u. diagnostics_of w (n, u)) (sym at));
+        links = then_anew (resolution_of b) (resolution_of w) b w n long c.args.resolutions.now.links old.resolutions.links was.links_are old.invariant.links there c.if-branch.resolutions.links (resolution_of w (n, (piece.path, piece.text)))
+            (ap (λ (r : Resolutions). r.links) s.resolutions-is ∙ s.in_ok-set_linked.ensures.links w c.requires.table) (ap (λ u. resolution_of w (n, u)) (sym at));
+        diagnostics = then_anew (diagnostics_of b) (diagnostics_of w) b w n long c.args.resolutions.now.diagnostics old.resolutions.diagnostics was.diagnostics_are old.invariant.diagnostics there c.if-branch.resolutions.diagnostics (diagnostics_of w (n, (piece.path, piece.text)))
+            (ap (λ (r : Resolutions). r.diagnostics) s.resolutions-is ∙ s.in_ok-set_linked.ensures.diagnostics w c.requires.table) (ap (λ u. diagnostics_of w (n, u)) (sym at));
       }
       | else-branch s ↦
           let apart : n ≢ file = c.in_ok-is_affected.ensures.other s.if-branch.false in
           let differ : DifferAt (all_facts b) c.args.table.now c.args.change.now = rw c.requires.table was.differ in
           let sees : SeesTheSame (all_facts b) (all_facts w) n = rw c.requires.table at (c.in_ok-is_affected.ensures.same (all_facts b) differ s.if-branch.false) in record {
-            links = then_kept (resolution_of b) (resolution_of w) b w n long c.args.links.now old.links was.links_are old.invariant.links there c.if-branch.links s.links-is (links_stay w file was.text c.requires.law n there apart sees);
-            diagnostics = then_kept (diagnostics_of b) (diagnostics_of w) b w n long c.args.diagnostics.now old.diagnostics was.diagnostics_are old.invariant.diagnostics there c.if-branch.diagnostics s.diagnostics-is (diagnostics_stay w file was.text c.requires.law n there apart sees);
+            links = then_kept (resolution_of b) (resolution_of w) b w n long c.args.resolutions.now.links old.resolutions.links was.links_are old.invariant.links there c.if-branch.resolutions.links (ap (λ (r : Resolutions). r.links) s.resolutions-is) (links_stay w file was.text c.requires.law n there apart sees);
+            diagnostics = then_kept (diagnostics_of b) (diagnostics_of w) b w n long c.args.resolutions.now.diagnostics old.resolutions.diagnostics was.diagnostics_are old.invariant.diagnostics there c.if-branch.resolutions.diagnostics (ap (λ (r : Resolutions). r.diagnostics) s.resolutions-is) (diagnostics_stay w file was.text c.requires.law n there apart sees);
           }
     ]
 
@@ -65,7 +66,7 @@ returns-clause-links c =
     let b = with_text w c.args.change.now.file c.requires.before.text in
     let n = c.loop-file.file in
     let end' : length w ≤ n = omega (arith, pieces_length c.args.pieces.now) in
-    all_made (resolution_of b) (resolution_of w) b w n (before_length w c.args.change.now.file c.requires.before.text) c.args.links.now c.loop-file.links c.requires.before.links_are c.loop-file.invariant.links end'
+    all_made (resolution_of b) (resolution_of w) b w n (before_length w c.args.change.now.file c.requires.before.text) c.args.resolutions.now.links c.loop-file.resolutions.links c.requires.before.links_are c.loop-file.invariant.links end'
 
 pub returns-clause-diagnostics : goal.returns-clause-diagnostics
 returns-clause-diagnostics c =
@@ -73,4 +74,4 @@ returns-clause-diagnostics c =
     let b = with_text w c.args.change.now.file c.requires.before.text in
     let n = c.loop-file.file in
     let end' : length w ≤ n = omega (arith, pieces_length c.args.pieces.now) in
-    all_made (diagnostics_of b) (diagnostics_of w) b w n (before_length w c.args.change.now.file c.requires.before.text) c.args.diagnostics.now c.loop-file.diagnostics c.requires.before.diagnostics_are c.loop-file.invariant.diagnostics end'
+    all_made (diagnostics_of b) (diagnostics_of w) b w n (before_length w c.args.change.now.file c.requires.before.text) c.args.resolutions.now.diagnostics c.loop-file.resolutions.diagnostics c.requires.before.diagnostics_are c.loop-file.invariant.diagnostics end'

@@ -3,8 +3,8 @@ use Rattle.work_index.specs.Pieces.{workspace_of}
 use Rattle.work_index.proofs.Changed.{replaced}
 use Rattle.work_index.proofs.again.table_after.Goals as goal
 
-pub returns-then-imports_differ-clause-table : goal.returns-then-imports_differ-clause-table
-returns-then-imports_differ-clause-table c =
+pub returns-then-differences-clause-table : goal.returns-then-differences-clause-table
+returns-then-differences-clause-table c =
     c.in_ok-table.ensures.table
     ∙ replaced (workspace_of c.args.pieces.now) c.args.changed c.requires.before.text c.args.table c.in_ok-facts.facts c.requires.before.within c.requires.before.are (c.in_ok-facts.ensures ∙ c.facts_at.ensures)
 
