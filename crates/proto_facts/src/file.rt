@@ -19,7 +19,7 @@ use crate::text::{dotted, literal_text};
 use proto_lex::Reason;
 use proto_syntax::{Fault, Items, Literal, Node, Problem, Span};
 use std::alloc::{AllocError, Global};
-use std::collections::HashSet;
+use std::collections::BTreeSet;
 
 // The longest text that is analysed.
 const MAX_TEXT: usize = 16_777_216;
@@ -347,7 +347,7 @@ pub fn add_imported_twice(
 ) -> Result<(), AllocError>
     ensures { OnOk result (diags.new ≡ diags.old ++ checks.judged spec.imported_twice imports.now) }
 {
-    let mut seen = HashSet::with_capacity(alloc, imports.len())?;
+    let mut seen = BTreeSet::new(alloc);
     'names: for name in imports {
         let again = note_name(&mut seen, name.path.as_str())?;
         add(diag_if(again, Message::ImportedTwice, name.span), diags)?;
@@ -365,7 +365,7 @@ pub fn add_declared_twice(
 ) -> Result<(), AllocError>
     ensures { OnOk result (diags.new ≡ diags.old ++ checks.judged spec.declared_twice decls.now) }
 {
-    let mut seen = HashSet::with_capacity(alloc, decls.len())?;
+    let mut seen = BTreeSet::new(alloc);
     'names: for name in decls {
         let again = note_name(&mut seen, name.full_name.as_str())?;
         add(
