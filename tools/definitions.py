@@ -32,7 +32,8 @@ ORDER = {
     "piece_collector": "Events History Views Board Runs Fault Laws".split(),
     "work_index": "Workspace Pieces Changes Laws".split(),
     "lsp_workspace": "Files Diagnostics Reports Listing Disk View".split(),
-    "lsp_session": "Configuration Session Stream Core Run Fault View".split(),
+    "lsp_config": "Configuration Fault Sending".split(),
+    "lsp_session": "Session Stream Core Run Serving View".split(),
 }
 
 # Files of words that private steps promise each other. They are no part of what a crate promises.

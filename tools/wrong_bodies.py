@@ -12,7 +12,7 @@ file. Its verdict is
   UNPROVED     the crate itself isn't proved, so nothing was tried
 
 What is refused is kept in crates/NAME/wrong-bodies/verdicts.json, under a sum of the edit, the crate's sources, what it can see of the crates below it
-(the definitions that it cites, the sources without bodies and private functions) and the kit. Comments and layout don't count. What is current isn't
+(the definitions that it cites, the sources without bodies and private functions) and the kit. Comments, layout and an edit's description don't count. What is current isn't
 tried again; --anew tries all. --must-fail takes the edits of must-fail/ in the same way, and keeps their verdicts in the crate's out/. --gate also fails where verdicts.json names an edit that isn't there. --alone tries each edit in a check of its own.
 
 The status is 0 if each edit is refused, else 1. The last line is `N refused, M not; ..`.
@@ -60,6 +60,11 @@ NAMES_ONLY = re.compile(r"has no field|is not in scope|has no `|was not admitted
 ONLY_CALLEES = re.compile(r"(not proved|no proof)[:;] it calls .*")
 EDIT_NAME = re.compile(r"[A-Za-z0-9_-][A-Za-z0-9_.-]*\.edit")
 CITED = re.compile(r"Rattle\.(\w+)\.(specs|proofs)\.([\w.]+)")
+
+
+def edit_text(file):
+    """What an edit does: its lines but for those that describe it."""
+    return [line for line in pathlib.Path(file).read_text(encoding="utf-8", errors="replace").split("\n") if line.startswith(("file:", "old:", "new:"))]
 
 
 def sum_of(*parts):
@@ -293,7 +298,7 @@ class Trial:
         self.crate, self.given, self.slots, self.surfaces = crate, given, slots, surfaces
         self.folder, self.room = f"{crate.folder}/{given.folder}", f"{crate.folder}/out/{given.folder}"
         self.recorded = pathlib.Path(self.folder if given.folder == FOLDER else f"{crate.folder}/out", RECORD)
-        self.checks, self.log, self.verdicts = 0, [], {}
+        self.checks, self.log, self.verdicts, self.keys, self.writing = 0, [], {}, {}, threading.Lock()
         self.sources = {path: Source(path, text) for path, text in sources_of(crate).items()}
 
     def record(self):
@@ -302,11 +307,13 @@ class Trial:
         except FileNotFoundError:
             return {}
 
-    def write_record(self, keys):
-        rows = {it.name: {"sum": keys[it], "said": said} for it, (verdict, said) in self.verdicts.items() if verdict == REFUSED}
-        text = json.dumps(rows, indent=1, sort_keys=True, ensure_ascii=False) + "\n"
-        if rows or self.recorded.exists():
-            self.recorded.write_text(text)
+    def write_record(self):
+        """Keeps what is refused so far, so that a run that is cut off isn't lost."""
+        with self.writing:
+            rows = {it.name: {"sum": self.keys[it], "said": said} for it, (verdict, said) in [*self.verdicts.items()] if verdict == REFUSED}
+            text = json.dumps(rows, indent=1, sort_keys=True, ensure_ascii=False) + "\n"
+            if rows or self.recorded.exists():
+                self.recorded.write_text(text)
 
     def key(self):
         below = [(it.name, self.surfaces.of(it)) for it in self.crate.below()]
@@ -366,7 +373,10 @@ class Trial:
         if refused is None:
             self.log.append(f"a check of {len(group)} has an error that is none of its functions'")
             refused = {}
-        return {it: (REFUSED, f"with {len(group) - 1} others: {why}") for it, why in refused.items()}
+        found = {it: (REFUSED, f"with {len(group) - 1} others: {why}") for it, why in refused.items()}
+        self.verdicts.update(found)
+        self.write_record()
+        return found
 
     def without_blamed(self, group, placed, said, kept):
         """Tries the edits again without those at whose lines something couldn't be read."""
@@ -400,7 +410,6 @@ class Trial:
                 found = {}
                 for refused in pool.map(lambda it: self.together(it, kept) if len(it) > 1 else {}, neighbours.groups(left)):
                     found.update(refused)
-                self.verdicts.update(found)
                 left = [it for it in left if it not in found]
                 if not found:
                     break
@@ -410,11 +419,11 @@ class Trial:
         shutil.rmtree(self.room, ignore_errors=True)
 
     def sort_out(self):
-        """Settles the edits that need no check, and gives each one's key, and those that are left with their texts."""
+        """Settles the edits that need no check, and gives those that are left with their texts, and the recorded ones that aren't there."""
         good, bad = edits_in(self.folder)
         self.verdicts = {it: (BAD, "an edit stands right in its folder, with a plain name that ends in .edit") for it in bad}
         record, key = self.record(), self.key()
-        keys = {it: sum_of(key, kit.rtlib.text_of(it.file)) for it in good}
+        self.keys = keys = {it: sum_of(key, edit_text(it.file)) for it in good}
         texts = {}
         for edit in good:
             row = record.get(edit.name)
@@ -426,14 +435,14 @@ class Trial:
                 self.verdicts[edit] = BAD, why
                 del texts[edit]
         missing = sorted({*record} - {it.name for it in good}) if self.given.gate else []
-        return keys, texts, missing
+        return texts, missing
 
     def run(self):
         """Tries what isn't current, keeps what is refused, and gives the names of recorded edits that aren't there."""
-        keys, texts, missing = self.sort_out()
+        texts, missing = self.sort_out()
         if texts:
             self.try_all([*texts], texts)
-        self.write_record(keys)
+        self.write_record()
         return len(texts), missing
 
 
@@ -472,7 +481,7 @@ def main(words):
     crates = [it for it in crates if os.path.isdir(f"{it.folder}/{given.folder}") and (not given.crates or it.name in given.crates)]
     slots, surfaces, printing = threading.Semaphore(given.jobs), Surfaces(), threading.Lock()
     trials = {it: Trial(it, given, slots, surfaces) for it in crates}
-    stale = [it for it in crates if trials[it].sort_out()[1]]
+    stale = [it for it in crates if trials[it].sort_out()[0]]
     ready = build_below(stale, given.jobs)
     # (from here on the repository is only read, as `rt must-fail` does, which holds no lock either)
     for it in held:
