@@ -1,12 +1,8 @@
 -- Intervals by their lower bounds.
-use Rattle.std.specs.Prelude.{◌≡◌, ℕ, ◌+◌, ◌<◌, ◌≤◌, ◌==◌, Bool, true, false, ◌&&◌, ◌||◌, List, [], ◌∷◌, ◌++◌, Option, Some, None, length, map, take, slice_index, slice_index_or, nat_le, nat_lt}
-use Rattle.std.specs.List.{AllWithin, enumerate_from, list_any}
-use Rattle.std.specs.List.Sorted.{IsNonDecreasingBy, IsPermutation}
+use Rattle.std.specs.Prelude.{◌≡◌, ℕ, ◌+◌, ◌<◌, Bool, false, ◌&&◌, ◌||◌, List, [], ◌∷◌, ◌++◌, Option, Some, None, length, take, slice_index, nat_le, nat_lt}
+use Rattle.std.specs.List.{list_any}
 use Rattle.file_facts.specs.declared.part.Interval.{Interval}
 use Rattle.proto_facts.specs.declared.reach.Reach.{Reach}
-use Rattle.proto_facts.specs.declared.overlaps.Answered.{Answered}
-use Rattle.proto_facts.specs.declared.overlaps.Asked.{Asked}
-use Rattle.proto_facts.specs.declared.overlaps.Passed.{Passed}
 use Rattle.file_facts.specs.Checks.{overlap}
 
 abbrev pub reach_of : Interval → Reach
@@ -29,43 +25,13 @@ abbrev pub is_held : Option ℕ → List Reach → Bool
 is_held None sorted = false
 is_held (Some v) sorted = list_any (holds v) sorted
 
--- ---- which intervals share a number with one of those before them
-
--- an interval at its place
-abbrev pub asked_at : ℕ × Interval → Asked
-asked_at (i, r) = record { reach = reach_of r; place = i; met = false }
-
-abbrev pub asked_in : List Interval → List Asked
-asked_in good = map asked_at (enumerate_from 0 good)
-
-abbrev pub mark : Bool → Asked → Asked
-mark met a = record { reach = a.reach; place = a.place; met = a.met || met }
-
--- met also where it shares a number with one of these
-abbrev pub met_by : List Reach → Asked → Asked
-met_by before a = mark (list_any (between a.reach.high a.reach.low) before) a
-
--- each of them, met by these and by those before it
-abbrev pub met_after : List Reach → List Asked → List Asked
+-- for each interval, whether it shares a number with one of those before it
+abbrev pub met_after : List Interval → List Interval → List Bool
 met_after before [] = []
-met_after before (a ∷ more) = met_by before a ∷ met_after (before ++ a.reach ∷ []) more
+met_after before (r ∷ more) = list_any (overlap r) before ∷ met_after (before ++ r ∷ []) more
 
--- what those reach, and they themselves, each met by those before it
-pub record AreAnswered (asked : List Asked) (found : Answered) : Type 0 where
-  pub low_order : IsNonDecreasingBy (λ r. r.low) found.by_low.items
-  pub high_order : IsNonDecreasingBy (λ a. a.reach.high) found.by_high.items
-  pub reaches : IsPermutation (map (λ a. a.reach) asked) found.by_low.items
-  pub answers : IsPermutation (met_after [] asked) found.by_high.items
-
--- so many begin at or below the number, and a number below the end is not above one of them
-pub record ArePassed (front : List Reach) (high : ℕ) (p : Passed) : Type 0 where
-  pub within : p.count ≤ length front
-  pub low : AllWithin (λ r. nat_le r.low high ≡ true) front 0 p.count
-  pub reach : (v : ℕ) → nat_lt v p.end ≡ list_any (λ r. nat_le v r.high) (take p.count front)
-
-abbrev pub is_met_at : ℕ → Asked → Bool
-is_met_at k a = a.met && (a.place == k)
-
--- at each place, whether the interval there shares a number with one of those before it
-abbrev pub AreMet : List Interval → List Bool → Type 0
-AreMet good met = (k : ℕ) (d : Interval) → k < length good → slice_index_or met k false ≡ list_any (overlap (slice_index_or good k d)) (take k good)
+-- the same of what was found of each, where further intervals stand before all of them
+abbrev pub met_also : List Interval → List Interval → List Bool → List Bool
+met_also before [] found = []
+met_also before (r ∷ more) [] = []
+met_also before (r ∷ more) (f ∷ found) = (list_any (overlap r) before || f) ∷ met_also before more found

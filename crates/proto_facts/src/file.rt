@@ -16,7 +16,7 @@ use file_facts::{Decl, Diag, ImportFact, PackageFact, Problem, StatedPackage, St
 use proto_lex::Reason;
 use sqlite_items::Items;
 use std::alloc::{AllocError, Global};
-use std::collections::BTreeSet;
+use std::collections::HashSet;
 use syntax_tree::{Fault, Literal, Node, Span, SyntaxProblem};
 
 // The longest text that is analysed.
@@ -345,7 +345,7 @@ pub fn add_imported_twice(
 ) -> Result<(), AllocError>
     ensures { OnOk result (diags.new ≡ diags.old ++ checks.judged spec.imported_twice imports.now) }
 {
-    let mut seen = BTreeSet::new(alloc);
+    let mut seen = HashSet::with_capacity(alloc, imports.len())?;
     'names: for name in imports {
         let again = note_name(&mut seen, name.path.as_str())?;
         add(diag_if(again, Problem::ImportedTwice, name.span), diags)?;
@@ -363,7 +363,7 @@ pub fn add_declared_twice(
 ) -> Result<(), AllocError>
     ensures { OnOk result (diags.new ≡ diags.old ++ checks.judged spec.declared_twice decls.now) }
 {
-    let mut seen = BTreeSet::new(alloc);
+    let mut seen = HashSet::with_capacity(alloc, decls.len())?;
     'names: for name in decls {
         let again = note_name(&mut seen, name.full_name.as_str())?;
         add(

@@ -1,177 +1,70 @@
 // Reserved ranges that share a number with an earlier one.
-ghost use Rattle.std.specs.Prelude.{◌≡◌, ◌++◌, ◌<◌, ◌||◌, ℕ, List, IfOk, OnOk, false, length, map, nat_le, slice_index_or, vec_len};
-ghost use Rattle.std.specs.List.{AllWithin, list_any};
-ghost use Rattle.std.specs.List.Sorted.{IsNonDecreasingBy, IsPermutation};
-ghost use Rattle.proto_facts.specs.declared.overlaps.Asked.{Asked};
+ghost use Rattle.std.specs.Prelude.{◌≡◌, ◌++◌, ◌||◌, [], IfOk, OnOk, length};
+ghost use Rattle.std.specs.List.{list_any};
+ghost use Rattle.std.specs.List.Sorted.{IsNonDecreasingBy};
 ghost use Rattle.proto_facts.specs.Reach as spec;
 ghost use Rattle.file_facts.specs.Checks as checks;
 
 use crate::checks::{add, diag_if};
-use crate::reach::{FEW, Reach};
+use crate::reach::{FEW, Reach, ends, is_between, sorted_reaches};
 use file_facts::{Diag, Interval, Problem};
 use sqlite_items::Items;
 use std::alloc::{AllocError, Global};
 
-// An interval that is asked for: its place, and whether an earlier one is known that it shares a number with.
-#[derive(Clone, Copy, Debug, PartialEq, Eq)]
-struct Asked {
-    reach: Reach,
-    place: usize,
-    met: bool,
-}
-
-// Intervals that were asked for: what they reach by their lower bounds, and they themselves by their upper bounds.
-#[derive(Drop)]
-struct Answered {
-    by_low: Vec<Reach>,
-    by_high: Vec<Asked>,
-}
-
-// How many reaches, by their lower bounds, begin at or below a number, and the end of what they reach.
-#[derive(Clone, Copy, Debug, PartialEq, Eq)]
-struct Passed {
-    count: usize,
-    end: u64,
-}
-
-// Passes the further reaches that begin at or below a number.
-fn pass(front: &[Reach], before: Passed, high: u32) -> Passed
-    requires order { IsNonDecreasingBy (λ r. r.low) front.now }
-    requires before { spec.ArePassed front.now high before }
-    ensures passed { spec.ArePassed front.now high result }
-    ensures rest { AllWithin (λ r. nat_le r.low high ≡ false) front.now result.count (length front.now) }
+// Whether an interval shares a number with one of the sorted ones, or is met already.
+fn meets(sorted: &[Reach], ends: &[u64], interval: Interval, met: bool) -> bool
+    requires order { IsNonDecreasingBy (λ r. r.low) sorted.now }
+    requires ends { spec.AreEnds sorted.now ends.now }
+    ensures { result ≡ (list_any (spec.between interval.high interval.low) sorted.now || met) }
 {
-    let mut count = before.count;
-    let mut end = before.end;
-    'pass: while count < front.len() && front[count].low <= high {
-        end = end.max(u64::from(front[count].high) + 1);
-        count += 1;
+    is_between(sorted, ends, interval.high, interval.low) || met
+}
+
+// Adds for each interval whether it shares a number with one before all of them, or is met already.
+fn add_met_also(
+    alloc: Global,
+    before: &[Interval],
+    good: &[Interval],
+    met: &[bool],
+    found: &mut Vec<bool>,
+) -> Result<(), AllocError>
+    requires { length met.now ≡ length good.now }
+    ensures { OnOk result (found.new.items ≡ found.old.items ++ spec.met_also before.now good.now met.now) }
+{
+    let sorted = sorted_reaches(alloc, before)?;
+    let ends = ends(alloc, sorted.as_slice())?;
+    'good: for (i, interval) in good.iter().enumerate() {
+        let late = met[i];
+        found.push(meets(sorted.as_slice(), ends.as_slice(), *interval, late))?;
     }
-    Passed { count, end }
+    Ok(())
 }
 
-fn mark(asked: Asked, met: bool) -> Asked
-    ensures { result ≡ spec.mark met asked }
+// For each interval, whether it shares a number with one of those before it. Each half is looked at by itself, and then
+// the second half against the first.
+fn met_before(alloc: Global, good: &[Interval]) -> Result<Vec<bool>, AllocError>
+    ensures { IfOk result (λ v. v.items ≡ spec.met_after [] good.now) }
 {
-    Asked {
-        met: asked.met || met,
-        ..asked
+    let mut found = Vec::new(alloc);
+    match good {
+        [] => Ok(found),
+        [_] => {
+            found.push(false)?;
+            Ok(found)
+        }
+        _ => {
+            let (front, back) = good.split_at(good.len() / 2);
+            let mut found = met_before(alloc, front)?;
+            let later = met_before(alloc, back)?;
+            add_met_also(alloc, front, back, later.as_slice(), &mut found)?;
+            Ok(found)
+        }
     }
-}
-
-// Each interval of the second half, met also where it shares a number with one of the first half. Both are gone
-// through once, since the one half is in order of the lower bounds and the other of the upper.
-fn met_by(alloc: Global, front: &[Reach], back: &[Asked]) -> Result<Vec<Asked>, AllocError>
-    requires front { IsNonDecreasingBy (λ r. r.low) front.now }
-    requires back { IsNonDecreasingBy (λ a. a.reach.high) back.now }
-    ensures { IfOk result (λ v. v.items ≡ map (spec.met_by front.now) back.now) }
-{
-    let mut found = Vec::with_capacity(alloc, back.len())?;
-    let mut passed = Passed { count: 0, end: 0 };
-    'back: for asked in back {
-        passed = pass(front, passed, asked.reach.high);
-        found.push(mark(*asked, u64::from(asked.reach.low) < passed.end))?;
-    }
-    Ok(found)
-}
-
-// Two lists in one, by the lower bounds. A stable sort merges two lists that are in order.
-fn join_by_low(front: Vec<Reach>, back: &[Reach]) -> Result<Vec<Reach>, AllocError>
-    ensures order { IfOk result (λ v. IsNonDecreasingBy (λ r. r.low) v.items) }
-    ensures same { IfOk result (λ v. IsPermutation (front.items ++ back.now) v.items) }
-{
-    let mut found = front;
-    found.extend_from_slice(back)?;
-    found.sort_by_key(|reach| reach.low)?;
-    Ok(found)
-}
-
-// The same by the upper bounds.
-fn join_by_high(front: Vec<Asked>, back: &[Asked]) -> Result<Vec<Asked>, AllocError>
-    ensures order { IfOk result (λ v. IsNonDecreasingBy (λ a. a.reach.high) v.items) }
-    ensures same { IfOk result (λ v. IsPermutation (front.items ++ back.now) v.items) }
-{
-    let mut found = front;
-    found.extend_from_slice(back)?;
-    found.sort_by_key(|asked| asked.reach.high)?;
-    Ok(found)
-}
-
-fn join(alloc: Global, front: Answered, back: Answered) -> Result<Answered, AllocError>
-    requires front { IsNonDecreasingBy (λ r. r.low) front.by_low.items }
-    requires back { IsNonDecreasingBy (λ a. a.reach.high) back.by_high.items }
-    ensures { IfOk result (λ h. (xs ys : List Asked) → spec.AreAnswered xs front → spec.AreAnswered ys back → spec.AreAnswered (xs ++ ys) h) }
-{
-    let later = met_by(alloc, front.by_low.as_slice(), back.by_high.as_slice())?;
-    let by_low = join_by_low(front.by_low, back.by_low.as_slice())?;
-    let by_high = join_by_high(front.by_high, later.as_slice())?;
-    Ok(Answered { by_low, by_high })
-}
-
-fn reaches_of(alloc: Global, asked: &[Asked]) -> Result<Vec<Reach>, AllocError>
-    ensures { IfOk result (λ v. v.items ≡ map (λ a. a.reach) asked.now) }
-{
-    asked.iter().map(|asked| asked.reach).collect(alloc)
-}
-
-// Which of these meet one of those before them. Each half is looked at by itself, and then the second against the first.
-fn answer(alloc: Global, asked: &[Asked]) -> Result<Answered, AllocError>
-    ensures { IfOk result (λ h. spec.AreAnswered asked.now h) }
-{
-    if asked.len() < 2 {
-        let by_low = reaches_of(alloc, asked)?;
-        let by_high = Vec::from_slice(alloc, asked)?;
-        Ok(Answered { by_low, by_high })
-    } else {
-        let (front, back) = asked.split_at(asked.len() / 2);
-        let front = answer(alloc, front)?;
-        let back = answer(alloc, back)?;
-        join(alloc, front, back)
-    }
-}
-
-// The intervals at their places, as nobody has met them.
-fn asked_in(alloc: Global, good: &[Interval]) -> Result<Vec<Asked>, AllocError>
-    ensures { IfOk result (λ v. v.items ≡ spec.asked_in good.now) }
-{
-    good.iter()
-        .enumerate()
-        .map(|(place, interval)| Asked {
-            reach: Reach {
-                low: interval.low,
-                high: interval.high,
-            },
-            place,
-            met: false,
-        })
-        .collect(alloc)
-}
-
-fn note_met(found: &mut Vec<bool>, asked: Asked)
-    ensures long { vec_len found.new ≡ vec_len found.old }
-    ensures noted { (k : ℕ) → k < vec_len found.old → slice_index_or found.new.items k false ≡ (spec.is_met_at k asked || slice_index_or found.old.items k false) }
-{
-    if asked.met && asked.place < found.len() {
-        found[asked.place] = true;
-    }
-}
-
-// For each of so many places, whether the interval there is met.
-fn met_places(alloc: Global, count: usize, asked: &[Asked]) -> Result<Vec<bool>, AllocError>
-    ensures long { IfOk result (λ v. vec_len v ≡ count) }
-    ensures met { IfOk result (λ v. (k : ℕ) → k < count → slice_index_or v.items k false ≡ list_any (spec.is_met_at k) asked.now) }
-{
-    let mut found = vec![in alloc; false; count]?;
-    'places: for one in asked {
-        note_met(&mut found, *one);
-    }
-    Ok(found)
 }
 
 // Adds the ranges that are met by an earlier one.
 fn add_met(good: &[Interval], met: &[bool], diags: &mut Items<Diag>) -> Result<(), AllocError>
-    requires long { length met.now ≡ length good.now }
-    requires met { spec.AreMet good.now met.now }
+    requires { met.now ≡ spec.met_after [] good.now }
     ensures { OnOk result (diags.new ≡ diags.old ++ checks.judged checks.range_twice good.now) }
 {
     'good: for (i, interval) in good.iter().enumerate() {
@@ -189,9 +82,7 @@ fn add_by_halves(
 ) -> Result<(), AllocError>
     ensures { OnOk result (diags.new ≡ diags.old ++ checks.judged checks.range_twice good.now) }
 {
-    let asked = asked_in(alloc, good)?;
-    let found = answer(alloc, asked.as_slice())?;
-    let met = met_places(alloc, good.len(), found.by_high.as_slice())?;
+    let met = met_before(alloc, good)?;
     add_met(good, met.as_slice(), diags)
 }
 
