@@ -33,7 +33,7 @@ ORDER = {
     "work_index": "Workspace Pieces Changes Laws".split(),
     "lsp_workspace": "Files Diagnostics Reports Listing Disk View".split(),
     "lsp_config": "Configuration Fault Sending".split(),
-    "lsp_session": "Session Stream Core Run Serving View".split(),
+    "lsp_session": "Session Stream Core Run View".split(),
 }
 
 # Files of words that private steps promise each other. They are no part of what a crate promises.
@@ -50,7 +50,7 @@ PRIVATE = {
     "lsp_rpc": {"Writing"},
     "piece_collector": {"Lending"},
     "lsp_workspace": {"Steps"},
-    "lsp_session": {"Steps"},
+    "lsp_session": {"Serving", "Steps"},
 }
 
 LAW = re.compile(r"((?:^///.*\n)+)pub fn (\w+)\(", re.MULTILINE)
