@@ -4,8 +4,10 @@
 
 mod marks;
 mod names;
+mod trouble;
 mod words;
 
-pub use marks::{plain, shown};
+pub use marks::{plain, push_shown, shown};
 pub use names::Names;
+pub use trouble::{Answer, Trouble};
 pub use words::{behind, field, fields_of, file_of, first_word, number};

@@ -21,10 +21,16 @@ pub fn plain(alloc: Global, field: &str) -> Result<String, AllocError> {
 /// The text with the characters that stand for others, and no `S|`.
 pub fn shown(alloc: Global, text: &str) -> Result<String, AllocError> {
     let mut field = String::new(alloc);
-    for character in text.chars() {
-        field.push(marked(character))?;
-    }
+    push_shown(&mut field, text)?;
     Ok(field)
+}
+
+/// Writes a text with the characters that stand for others, and no `S|`.
+pub fn push_shown(line: &mut String, text: &str) -> Result<(), AllocError> {
+    for character in text.chars() {
+        line.push(marked(character))?;
+    }
+    Ok(())
 }
 
 fn unmarked(mark: char) -> char {

@@ -1,5 +1,6 @@
 // The fields of a line, and the words of a field.
 use crate::marks::plain;
+use crate::trouble::Answer;
 use std::alloc::{AllocError, Global};
 
 /// The fields of a line.
@@ -36,7 +37,7 @@ pub fn first_word(field: &str) -> (&str, &str) {
 }
 
 /// A number, of which `max` is the largest.
-pub fn number(word: &str) -> anyhow::Result<u64> {
+pub fn number(word: &str) -> Answer<u64> {
     if word == "max" {
         return Ok(u64::MAX);
     }

@@ -1,41 +1,71 @@
 // Frames that are read from sources and written to sinks.
-use crate::settings::{Settings, bytes_of, bytes_shown, note};
-use anyhow::bail;
-use case_notation::{Names, field};
-use lsp_frame::{ByteSink, ByteSource, Frame, FrameReader, MemSink, ToWrite, write_frame};
-use std::alloc::Global;
+use crate::settings::{Settings, bytes_of, bytes_shown, note, push_bytes};
+use case_notation::{Answer, Names, Trouble, field};
+use lsp_frame::{ByteSink, Frame, FrameReader, MemSink, MemSource, ToWrite, write_frame};
+use std::alloc::{AllocError, Global};
 
-/// The answer to a call on frames.
-pub fn answer(alloc: Global, names: &Names, call: &str, fields: &[&str]) -> anyhow::Result<String> {
+/// Writes the answer to a call on frames. The first field is the settings.
+pub fn answer(
+    alloc: Global,
+    names: &Names,
+    line: &mut String,
+    call: &str,
+    fields: &[&str],
+) -> Answer<()> {
     match call {
-        "frames" => frames(alloc, names, fields),
-        "cut frames" => cut_frames(alloc, names, fields),
-        "write" => write(alloc, fields),
-        "std write" => std_write(alloc, fields),
-        _ => bail!("no such call"),
+        "frames" | "cut frames" => {
+            let settings = Settings::of(field(fields, 0))?;
+            let bytes = bytes_of(alloc, field(fields, 1))?;
+            answer_stream(alloc, names, line, call, settings, bytes.as_slice())
+        }
+        "long frame" => long_frame(alloc, names, line, fields),
+        "write" => write_frames(alloc, line, fields),
+        "std write" => write_to_std(alloc, line, fields),
+        _ => Err(Trouble::Unknown("no such call")),
     }
 }
 
-/// A body by its name, if it has one, else itself.
-pub fn body_shown(alloc: Global, names: &Names, body: &[u8]) -> anyhow::Result<String> {
+fn answer_stream(
+    alloc: Global,
+    names: &Names,
+    line: &mut String,
+    call: &str,
+    settings: Settings<'_>,
+    bytes: &[u8],
+) -> Answer<()> {
+    match call {
+        "frames" => frames(alloc, names, line, settings, bytes),
+        _ => cut_frames(alloc, names, line, settings, bytes),
+    }
+}
+
+/// Writes a body by its name, if it has one, else itself.
+pub fn push_body(alloc: Global, names: &Names, line: &mut String, body: &[u8]) -> Answer<()> {
     let text = bytes_shown(alloc, body)?;
-    Ok(match names.name_of(text.as_str()) {
-        None => text,
-        Some(name) => format!(in alloc; "⟦{name}⟧")?,
-    })
+    match names.name_of(text.as_str()) {
+        None => line.push_str(text.as_str())?,
+        Some(name) => write!(line, "⟦{name}⟧")?,
+    }
+    Ok(())
+}
+
+// Writes a body of a frame.
+fn write_body(alloc: Global, names: &Names, line: &mut String, body: &[u8]) -> Answer<()> {
+    line.push('<')?;
+    push_body(alloc, names, line, body)?;
+    Ok(line.push_str("> ")?)
 }
 
 // Writes the next answer of a reader, and says whether it was a frame.
-fn read_one<S: ByteSource>(
+fn write_next(
     alloc: Global,
     names: &Names,
-    reader: &mut FrameReader<S>,
     line: &mut String,
-) -> anyhow::Result<bool> {
+    reader: &mut FrameReader<MemSource>,
+) -> Answer<bool> {
     match reader.read_frame() {
         Ok(Frame::Body(body)) => {
-            let body = body_shown(alloc, names, body.as_slice())?;
-            write!(line, "<{body}> ")?;
+            write_body(alloc, names, line, body.as_slice())?;
             Ok(true)
         }
         Ok(Frame::End) => {
@@ -51,85 +81,181 @@ fn read_one<S: ByteSource>(
 }
 
 // The bodies of a stream, and the end or the fault behind them twice.
-fn read_all<S: ByteSource>(
+fn write_all(
     alloc: Global,
     names: &Names,
-    reader: &mut FrameReader<S>,
-) -> anyhow::Result<String> {
-    let mut line = String::new(alloc);
+    line: &mut String,
+    reader: &mut FrameReader<MemSource>,
+) -> Answer<()> {
     for _ in 0..1000 {
-        if !read_one(alloc, names, reader, &mut line)? {
+        if !write_next(alloc, names, line, reader)? {
             break;
         }
     }
-    read_one(alloc, names, reader, &mut line)?;
+    write_next(alloc, names, line, reader)?;
+    Ok(())
+}
+
+// What a stream in pieces of one size has.
+fn stream(
+    alloc: Global,
+    names: &Names,
+    settings: Settings<'_>,
+    size: &str,
+    bytes: &[u8],
+) -> Answer<String> {
+    let mut reader = FrameReader::new(alloc, settings.source(alloc, size, bytes)?);
+    let mut line = String::new(alloc);
+    write_all(alloc, names, &mut line, &mut reader)?;
     Ok(line)
 }
 
-// The settings, and the bytes of a stream.
-fn frames(alloc: Global, names: &Names, fields: &[&str]) -> anyhow::Result<String> {
-    let settings = Settings::of(field(fields, 0))?;
-    let bytes = bytes_of(alloc, field(fields, 1))?;
-    let mut line = String::new(alloc);
+// The bytes of a stream.
+fn frames(
+    alloc: Global,
+    names: &Names,
+    line: &mut String,
+    settings: Settings<'_>,
+    bytes: &[u8],
+) -> Answer<()> {
     for size in settings.sizes.split(' ') {
-        let source = settings.source(alloc, size, bytes.as_slice())?;
-        let answer = read_all(alloc, names, &mut FrameReader::new(alloc, source))?;
-        note(&mut line, size, answer)?;
+        let answer = stream(alloc, names, settings, size, bytes)?;
+        note(line, size, answer.as_str())?;
     }
-    Ok(line)
+    Ok(())
 }
 
 // The settings with one size, and the bytes of a stream: all parts of the stream from its start to before its end.
-fn cut_frames(alloc: Global, names: &Names, fields: &[&str]) -> anyhow::Result<String> {
-    let settings = Settings::of(field(fields, 0))?;
-    let bytes = bytes_of(alloc, field(fields, 1))?;
-    let mut line = String::new(alloc);
+fn cut_frames(
+    alloc: Global,
+    names: &Names,
+    line: &mut String,
+    settings: Settings<'_>,
+    bytes: &[u8],
+) -> Answer<()> {
+    let size = settings.sizes;
     for count in 0..bytes.len() {
         let part = bytes.get(..count).unwrap_or(&[]);
-        let source = settings.source(alloc, settings.sizes, part)?;
-        let answer = read_all(alloc, names, &mut FrameReader::new(alloc, source))?;
-        note(&mut line, settings.sizes, answer)?;
+        let answer = stream(alloc, names, settings, size, part)?;
+        note(line, size, answer.as_str())?;
     }
     let count = bytes.len();
-    write!(line, "{count} times")?;
+    Ok(write!(line, "{count} times")?)
+}
+
+// A body of this length: the bytes from 0 to 250, over and over.
+fn long_body(alloc: Global, length: usize) -> Result<Vec<u8>, AllocError> {
+    let mut body = Vec::new(alloc);
+    let mut byte = 0u8;
+    for _ in 0..length {
+        body.push(byte)?;
+        byte = if byte < 250 { byte.wrapping_add(1) } else { 0 };
+    }
+    Ok(body)
+}
+
+// A frame with this body, and bytes behind it.
+fn framed(alloc: Global, body: &[u8], behind: &[u8]) -> Result<Vec<u8>, AllocError> {
+    let length = body.len();
+    let header = format!(in alloc; "Content-Length: {length}\r\n\r\n")?;
+    let mut stream = Vec::from_slice(alloc, header.as_bytes())?;
+    stream.extend_from_slice(body)?;
+    stream.extend_from_slice(behind)?;
+    Ok(stream)
+}
+
+fn has_body(reader: &mut FrameReader<MemSource>, body: &[u8]) -> bool {
+    match reader.read_frame() {
+        Ok(Frame::Body(read)) => read.as_slice() == body,
+        _ => false,
+    }
+}
+
+// Whether the first frame of a stream in pieces of one size has this body, and what is behind it.
+fn first_frame(
+    alloc: Global,
+    names: &Names,
+    settings: Settings<'_>,
+    size: &str,
+    stream: &[u8],
+    body: &[u8],
+) -> Answer<String> {
+    let mut reader = FrameReader::new(alloc, settings.source(alloc, size, stream)?);
+    let is_same = has_body(&mut reader, body);
+    let mut line = format!(in alloc; "{is_same} ")?;
+    write_all(alloc, names, &mut line, &mut reader)?;
     Ok(line)
+}
+
+// The settings, the length of a body with many values, which is in the first frame of a stream, and the bytes behind it.
+fn long_frame(alloc: Global, names: &Names, line: &mut String, fields: &[&str]) -> Answer<()> {
+    let settings = Settings::of(field(fields, 0))?;
+    let body = long_body(alloc, field(fields, 1).parse::<usize>()?)?;
+    let behind = bytes_of(alloc, field(fields, 2))?;
+    let stream = framed(alloc, body.as_slice(), behind.as_slice())?;
+    for size in settings.sizes.split(' ') {
+        let answer = first_frame(
+            alloc,
+            names,
+            settings,
+            size,
+            stream.as_slice(),
+            body.as_slice(),
+        )?;
+        note(line, size, answer.as_str())?;
+    }
+    Ok(())
 }
 
 // What a frame's write answers: that it is whole, or the number of the fault and how many bytes went out.
-fn write_one<K: ByteSink>(alloc: Global, sink: &mut K, body: &[u8]) -> anyhow::Result<String> {
-    Ok(match write_frame(sink, body) {
-        Ok(()) => String::from_str(alloc, "whole:")?,
+fn write_one<K: ByteSink>(line: &mut String, sink: &mut K, body: &[u8]) -> Result<(), AllocError> {
+    match write_frame(sink, body) {
+        Ok(()) => line.push_str("whole:"),
         Err(fault) => {
             let code = fault.code();
             let written = fault.written;
-            format!(in alloc; "{code} {written}:")?
+            write!(line, "{code} {written}:")
         }
-    })
+    }
+}
+
+// What a body is written as, in pieces of one size.
+fn written(
+    alloc: Global,
+    settings: Settings<'_>,
+    size: &str,
+    room: &str,
+    body: &[u8],
+) -> Answer<String> {
+    let mut sink: MemSink = settings.sink(alloc, size, room)?;
+    let mut line = String::new(alloc);
+    write_one(&mut line, &mut sink, body)?;
+    push_bytes(&mut line, sink.written())?;
+    Ok(line)
 }
 
 // The settings, the sink's room and a body.
-fn write(alloc: Global, fields: &[&str]) -> anyhow::Result<String> {
+fn write_frames(alloc: Global, line: &mut String, fields: &[&str]) -> Answer<()> {
     let settings = Settings::of(field(fields, 0))?;
     let body = bytes_of(alloc, field(fields, 2))?;
-    let mut line = String::new(alloc);
     for size in settings.sizes.split(' ') {
-        let mut sink: MemSink = settings.sink(alloc, size, field(fields, 1))?;
-        let mut answer = write_one(alloc, &mut sink, body.as_slice())?;
-        answer.push_str(bytes_shown(alloc, sink.written())?.as_str())?;
-        note(&mut line, size, answer)?;
+        let answer = written(alloc, settings, size, field(fields, 1), body.as_slice())?;
+        note(line, size, answer.as_str())?;
     }
-    Ok(line)
+    Ok(())
 }
 
 // Bodies that are written to a writer of std one behind the other: all bytes after each.
-fn std_write(alloc: Global, fields: &[&str]) -> anyhow::Result<String> {
-    let mut line = String::new(alloc);
+fn write_to_std(alloc: Global, line: &mut String, fields: &[&str]) -> Answer<()> {
     let mut sent = Vec::new(alloc);
     for body in fields {
-        let body = bytes_of(alloc, body)?;
-        let answer = write_one(alloc, &mut ToWrite::new(&mut sent), body.as_slice())?;
-        let bytes = bytes_shown(alloc, sent.as_slice())?;
-        write!(line, "{answer}{bytes} ")?;
+        write_body_to(line, &mut sent, bytes_of(alloc, body)?.as_slice())?;
     }
-    Ok(line)
+    Ok(())
+}
+
+fn write_body_to(line: &mut String, sent: &mut Vec<u8>, body: &[u8]) -> Answer<()> {
+    write_one(line, &mut ToWrite::new(&mut *sent), body)?;
+    push_bytes(line, sent.as_slice())?;
+    Ok(line.push(' ')?)
 }

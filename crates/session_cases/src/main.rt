@@ -9,62 +9,97 @@ mod sessions;
 mod settings;
 mod streams;
 
-use case_notation::{Names, behind, fields_of};
+use case_notation::{Answer, Names, behind, fields_of};
 use std::alloc::Global;
 use std::io::{self, BufRead, BufReader};
 use std::sync::Wait;
 
-// The answer to a call on some fields.
+// Writes the answer to a call on some fields.
 fn answer<R: Wait>(
     rt: &R,
     alloc: Global,
     names: &Names,
+    line: &mut String,
     call: &str,
     fields: &[&str],
-) -> anyhow::Result<String> {
+) -> Answer<()> {
     match call {
-        "source" | "sink" | "fails once" => devices::answer(alloc, call, fields),
-        "serve" => streams::serve_stream(rt, alloc, fields),
-        "check" => streams::check_files(alloc, fields),
-        "config" => configs::answer(alloc, fields),
-        "session" | "core" | "codes" => sessions::answer(alloc, names, call, fields),
-        _ => frames::answer(alloc, names, call, fields),
+        "source" | "sink" | "fails once" => devices::answer(alloc, line, call, fields),
+        "serve" => streams::serve_stream(rt, alloc, line, fields),
+        "check" => streams::check_files(alloc, line, fields),
+        "config" => configs::answer(alloc, line, fields),
+        "session" | "core" | "codes" => sessions::answer(alloc, names, line, call, fields),
+        _ => frames::answer(alloc, names, line, call, fields),
     }
 }
 
-// The answer to a line. A remark and an empty line are answered by themselves.
+// Writes the answer to a line that is written out, or gives a piece a name.
+fn answer_fields<R: Wait>(
+    rt: &R,
+    alloc: Global,
+    names: &mut Names,
+    line: &mut String,
+    given: &str,
+    fields: &[&str],
+) -> Answer<()> {
+    let Some((call, rest)) = fields.split_first() else {
+        return Ok(());
+    };
+    let Some(name) = call.strip_prefix("let ") else {
+        return answer(rt, alloc, names, line, call, rest);
+    };
+    names.add(name, behind(given))?;
+    Ok(write!(line, "let {name}")?)
+}
+
+fn answer_whole<R: Wait>(
+    rt: &R,
+    alloc: Global,
+    names: &mut Names,
+    line: &mut String,
+    given: &str,
+) -> Answer<()> {
+    let fields = fields_of(alloc, given)?;
+    answer_fields(rt, alloc, names, line, given, fields.as_slice())
+}
+
+// Writes the answer to a line. A remark and an empty line are answered by themselves.
 fn answer_line<R: Wait>(
     rt: &R,
     alloc: Global,
     names: &mut Names,
-    line: &str,
-) -> anyhow::Result<String> {
-    if line.is_empty() || line.starts_with('#') {
-        return Ok(String::from_str(alloc, line)?);
+    line: &mut String,
+    given: &str,
+) -> Answer<()> {
+    if given.is_empty() || given.starts_with('#') {
+        return Ok(line.push_str(given)?);
     }
-    let line = names.expanded(line)?;
-    let fields = fields_of(alloc, line.as_str())?;
-    let Some((call, fields)) = fields.as_slice().split_first() else {
-        return Ok(String::new(alloc));
-    };
-    if let Some(name) = call.strip_prefix("let ") {
-        names.add(name, behind(line.as_str()))?;
-        return Ok(format!(in alloc; "let {name}")?);
+    let whole = names.expanded(given)?;
+    answer_whole(rt, alloc, names, line, whole.as_str())
+}
+
+// The answer to a line, and to one that can't be read what is wrong.
+fn print_answer<R: Wait + Print>(
+    rt: &R,
+    alloc: Global,
+    names: &mut Names,
+    given: &str,
+) -> io::Result<()> {
+    let mut line = String::new(alloc);
+    match answer_line(rt, alloc, names, &mut line, given) {
+        Ok(()) => {
+            let answer = line.as_str().trim_end();
+            println!(rt; "{answer}")
+        }
+        Err(trouble) => println!(rt; "error: {trouble}"),
     }
-    answer(rt, alloc, names, call, fields)
 }
 
 fn main(rt: HostRuntime) -> io::Result<()> {
     let alloc = rt.alloc();
     let mut names = Names::new(alloc);
     for line in BufReader::new(alloc, rt.reader())?.lines(alloc) {
-        match answer_line(&rt, alloc, &mut names, line?.as_str()) {
-            Ok(answer) => {
-                let answer = answer.as_str().trim_end();
-                println!(rt; "{answer}")?;
-            }
-            Err(error) => println!(rt; "error: {error}")?,
-        }
+        print_answer(&rt, alloc, &mut names, line?.as_str())?;
     }
     Ok(())
 }

@@ -1,40 +1,40 @@
 // Sessions over lists of messages.
 use crate::configs::config_of;
-use crate::frames::body_shown;
+use crate::frames::push_body;
 use crate::settings::bytes_of;
-use case_notation::Names;
-use lsp_session::{Core, CoreEvent, CoreFault, Reply, ServeFault, run_core};
-use std::alloc::Global;
+use case_notation::{Answer, Names, Trouble};
+use lsp_session::{Config, Core, CoreEvent, CoreFault, CoreRun, Reply, ServeFault, run_core};
+use std::alloc::{AllocError, Global};
 
-/// The answer to a call on a session. The fields are the files on disk, and what comes, which has `> ` at the front.
-pub fn answer(alloc: Global, names: &Names, call: &str, fields: &[&str]) -> anyhow::Result<String> {
+/// Writes the answer to a call on a session. The fields are the files on disk, and what comes, which has `> ` at the front.
+pub fn answer(
+    alloc: Global,
+    names: &Names,
+    line: &mut String,
+    call: &str,
+    fields: &[&str],
+) -> Answer<()> {
     match call {
-        "session" => session(alloc, names, fields),
-        "core" => core(alloc, names, fields),
+        "session" => session(alloc, names, line, fields),
+        "core" => core(alloc, names, line, fields),
         _ => {
             let core = CoreFault::Memory.code();
             let serve = ServeFault::Memory.code();
-            Ok(format!(in alloc; "{core} {serve}")?)
+            Ok(write!(line, "{core} {serve}")?)
         }
     }
 }
 
-fn write_replies(
-    alloc: Global,
-    names: &Names,
-    line: &mut String,
-    replies: &[Reply],
-) -> anyhow::Result<()> {
+fn write_replies(alloc: Global, names: &Names, line: &mut String, replies: &[Reply]) -> Answer<()> {
     for reply in replies {
-        let body = body_shown(alloc, names, reply.as_bytes())?;
-        write!(line, " {body}")?;
+        line.push(' ')?;
+        push_body(alloc, names, line, reply.as_bytes())?;
     }
     Ok(())
 }
 
-// How many messages were processed, how many verdicts there were, and the replies.
-fn session(alloc: Global, names: &Names, fields: &[&str]) -> anyhow::Result<String> {
-    let config = config_of(alloc, fields)?;
+// Each message, and work behind it.
+fn events(alloc: Global, fields: &[&str]) -> Result<Vec<CoreEvent>, AllocError> {
     let mut events = Vec::new(alloc);
     for field in fields {
         if let Some(body) = field.strip_prefix("> ") {
@@ -42,30 +42,68 @@ fn session(alloc: Global, names: &Names, fields: &[&str]) -> anyhow::Result<Stri
             events.push(CoreEvent::Work)?;
         }
     }
-    let run = run_core(alloc, config, events)?;
+    Ok(events)
+}
+
+fn run(alloc: Global, config: Config, events: Vec<CoreEvent>) -> Answer<CoreRun> {
+    match run_core(alloc, config, events) {
+        Ok(run) => Ok(run),
+        Err(fault) => Err(Trouble::Fault(fault.code())),
+    }
+}
+
+// How many messages were processed, how many verdicts there were, and the replies.
+fn session(alloc: Global, names: &Names, line: &mut String, fields: &[&str]) -> Answer<()> {
+    let events = events(alloc, fields)?;
+    let run = run(alloc, config_of(alloc, fields)?, events)?;
     let processed = run.processed;
     let verdicts = run.verdicts.len();
-    let mut line = format!(in alloc; "{processed} processed, {verdicts} verdicts:")?;
-    write_replies(alloc, names, &mut line, run.replies.as_slice())?;
-    Ok(line)
+    write!(line, "{processed} processed, {verdicts} verdicts:")?;
+    write_replies(alloc, names, line, run.replies.as_slice())
+}
+
+fn core_of(alloc: Global, config: Config) -> Answer<Core> {
+    match Core::new(alloc, config) {
+        Ok(core) => Ok(core),
+        Err(fault) => Err(Trouble::Fault(fault.code())),
+    }
 }
 
 // Messages, and advances: the replies to each advance, and whether a message waits after each step.
-fn core(alloc: Global, names: &Names, fields: &[&str]) -> anyhow::Result<String> {
-    let mut core = Core::new(alloc, config_of(alloc, fields)?)?;
+fn core(alloc: Global, names: &Names, line: &mut String, fields: &[&str]) -> Answer<()> {
+    let mut core = core_of(alloc, config_of(alloc, fields)?)?;
     let waits = core.waits();
-    let mut line = format!(in alloc; "{waits}")?;
+    write!(line, "{waits}")?;
     for field in fields {
-        match field.strip_prefix("> ") {
-            None => {}
-            Some("advance") => {
-                let replies = core.advance()?;
-                write_replies(alloc, names, &mut line, replies.as_slice())?;
-            }
-            Some(body) => core.message(bytes_of(alloc, body)?.as_slice())?,
+        if let Some(body) = field.strip_prefix("> ") {
+            step(alloc, names, line, &mut core, body)?;
         }
         let waits = core.waits();
         write!(line, " {waits}")?;
     }
-    Ok(line)
+    Ok(())
+}
+
+fn step(
+    alloc: Global,
+    names: &Names,
+    line: &mut String,
+    core: &mut Core,
+    body: &str,
+) -> Answer<()> {
+    if body == "advance" {
+        return advance(alloc, names, line, core);
+    }
+    let body = bytes_of(alloc, body)?;
+    match core.message(body.as_slice()) {
+        Ok(()) => Ok(()),
+        Err(fault) => Err(Trouble::Fault(fault.code())),
+    }
+}
+
+fn advance(alloc: Global, names: &Names, line: &mut String, core: &mut Core) -> Answer<()> {
+    match core.advance() {
+        Ok(replies) => write_replies(alloc, names, line, replies.as_slice()),
+        Err(fault) => Err(Trouble::Fault(fault.code())),
+    }
 }

@@ -1,10 +1,9 @@
 // How a device does, and what it moved.
 ghost use Rattle.std.specs.Prelude.{◌<◌, IfOk};
 
-use anyhow::bail;
-use case_notation::{first_word, plain, shown};
+use case_notation::{Answer, Trouble, first_word, plain, push_shown};
 use lsp_frame::{MemSink, MemSource};
-use std::alloc::Global;
+use std::alloc::{AllocError, Global};
 
 /// How often a device is interrupted first, whether it fails behind its bytes or answers 0, and the sizes of pieces that it is
 /// tried with.
@@ -17,7 +16,7 @@ pub struct Settings<'a> {
 
 impl<'a> Settings<'a> {
     /// The settings by their words: the interruptions, `fails` or `ends`, and the sizes.
-    pub fn of(words: &'a str) -> anyhow::Result<Settings<'a>> {
+    pub fn of(words: &'a str) -> Answer<Settings<'a>> {
         let (interruptions, rest) = first_word(words);
         let (behind, sizes) = first_word(rest);
         Ok(Settings {
@@ -28,14 +27,14 @@ impl<'a> Settings<'a> {
     }
 
     /// A source of these bytes.
-    pub fn source(&self, alloc: Global, size: &str, bytes: &[u8]) -> anyhow::Result<MemSource> {
+    pub fn source(&self, alloc: Global, size: &str, bytes: &[u8]) -> Answer<MemSource> {
         let piece = piece(size)?;
         let bytes = Vec::from_slice(alloc, bytes)?;
         Ok(MemSource::new(bytes, piece, self.interruptions, self.fails))
     }
 
     /// A sink with so much room.
-    pub fn sink(&self, alloc: Global, size: &str, room: &str) -> anyhow::Result<MemSink> {
+    pub fn sink(&self, alloc: Global, size: &str, room: &str) -> Answer<MemSink> {
         let piece = piece(size)?;
         let room = room.parse::<usize>()?;
         Ok(MemSink::new(alloc, room, piece, self.interruptions, !self.fails)?)
@@ -43,35 +42,44 @@ impl<'a> Settings<'a> {
 }
 
 // The size of a piece.
-fn piece(size: &str) -> anyhow::Result<usize>
+fn piece(size: &str) -> Answer<usize>
     ensures { IfOk result (λ piece. 0 < piece) }
 {
     let piece = size.parse::<usize>()?;
     if piece == 0 {
-        bail!("a piece has no bytes");
+        return Err(Trouble::Unknown("a piece has no bytes"));
     }
     Ok(piece)
 }
 
 /// Bytes as a field.
-pub fn bytes_shown(alloc: Global, bytes: &[u8]) -> anyhow::Result<String> {
-    let Ok(text) = str::from_utf8(bytes) else {
-        bail!("no UTF-8");
-    };
-    Ok(shown(alloc, text)?)
+pub fn bytes_shown(alloc: Global, bytes: &[u8]) -> Answer<String> {
+    let mut line = String::new(alloc);
+    push_bytes(&mut line, bytes)?;
+    Ok(line)
+}
+
+/// Writes bytes as a field.
+pub fn push_bytes(line: &mut String, bytes: &[u8]) -> Answer<()> {
+    match str::from_utf8(bytes) {
+        Ok(text) => Ok(push_shown(line, text)?),
+        Err(_) => Err(Trouble::Unknown("no UTF-8")),
+    }
 }
 
 /// The bytes of a field.
-pub fn bytes_of(alloc: Global, field: &str) -> anyhow::Result<Vec<u8>> {
-    Ok(Vec::from_slice(alloc, plain(alloc, field)?.as_bytes())?)
+pub fn bytes_of(alloc: Global, field: &str) -> Result<Vec<u8>, AllocError> {
+    let text = plain(alloc, field)?;
+    Vec::from_slice(alloc, text.as_bytes())
 }
 
 /// Writes an answer behind the others, unless it is that of the first size.
-pub fn note(line: &mut String, size: &str, answer: String) -> anyhow::Result<()> {
+pub fn note(line: &mut String, size: &str, answer: &str) -> Result<(), AllocError> {
     if line.is_empty() {
-        line.push_str(answer.as_str())?;
-    } else if line.as_str() != answer.as_str() {
-        write!(line, "; but with pieces of {size}: {answer}")?;
+        return line.push_str(answer);
     }
-    Ok(())
+    if line.as_str() == answer {
+        return Ok(());
+    }
+    write!(line, "; but with pieces of {size}: {answer}")
 }
