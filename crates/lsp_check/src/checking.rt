@@ -10,7 +10,7 @@ ghost use Rattle.lsp_config.specs.Sending.{SendsPrefix};
 
 use lsp_config::{Config, ServeFault};
 use lsp_frame::{ByteSink, write_bytes};
-use lsp_workspace::{Snapshot, from_disk, has_errors, snapshot_of, listing};
+use lsp_workspace::{Snapshot, from_disk, has_errors, listing, snapshot_of};
 use std::alloc::{AllocError, Global};
 
 // The analysis of the files of a configuration.
