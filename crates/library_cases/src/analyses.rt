@@ -3,29 +3,45 @@ ghost use Rattle.std.specs.Prelude.{◌≡◌, ◌<◌, length, false, IfOk};
 ghost use Rattle.piece_collector.specs.Board.{Ascends};
 
 use crate::places::write_diagnostics;
-use anyhow::bail;
-use case_notation::file_of;
+use case_notation::{Answer, Trouble, file_of};
 use piece_collector::{Board, Job, Lent, Piece};
 use proto_resolve::DeclRef;
 use std::alloc::{AllocError, Global};
 use work_index::{Analysis, FileWork, analyse_here};
 
+// The piece that is made of a text at a path.
+fn made(alloc: Global, path: String, stamp: u64, text: String) -> Answer<Piece<FileWork>> {
+    match Piece::make(&FileWork::new(alloc), Job::new(path, stamp, text)) {
+        Ok(piece) => Ok(piece),
+        Err(_) => Err(Trouble::Memory),
+    }
+}
+
+// Sets a text, and answers its stamp.
+fn set(board: &mut Board<FileWork>, path: &str, text: &str, alloc: Global) -> Answer<u64>
+    requires { board.old.is_lent ≡ false }
+    ensures { board.new.is_lent ≡ false }
+{
+    let path = String::from_str(alloc, path)?;
+    match board.set_text(path, String::from_str(alloc, text)?) {
+        Ok(stamp) => Ok(stamp),
+        Err(fault) => Err(Trouble::Fault(fault.code())),
+    }
+}
+
 /// Sets a text, and brings the piece that is made of it.
-pub fn put(alloc: Global, board: &mut Board<FileWork>, file: &str) -> anyhow::Result<()>
+pub fn put(alloc: Global, board: &mut Board<FileWork>, file: &str) -> Answer<()>
     requires { board.old.is_lent ≡ false }
     ensures { board.new.is_lent ≡ false }
 {
     let (path, text) = file_of(alloc, file)?;
-    let stamp = board.set_text(path.clone()?, text.clone()?)?;
-    match Piece::make(&FileWork::new(alloc), Job::new(path, stamp, text)) {
-        Ok(piece) => board.offer(piece),
-        Err(_) => bail!("out of memory"),
-    };
+    let stamp = set(board, path.as_str(), text.as_str(), alloc)?;
+    board.offer(made(alloc, path, stamp, text)?);
     Ok(())
 }
 
 /// A board of files.
-pub fn board_of(alloc: Global, files: &[&str]) -> anyhow::Result<Board<FileWork>>
+pub fn board_of(alloc: Global, files: &[&str]) -> Answer<Board<FileWork>>
     ensures { IfOk result (λ board. board.is_lent ≡ false) }
 {
     let mut board = Board::new(alloc, FileWork::new(alloc));
@@ -36,12 +52,12 @@ pub fn board_of(alloc: Global, files: &[&str]) -> anyhow::Result<Board<FileWork>
 }
 
 /// The pieces of a board, in the order of their paths.
-pub fn pieces_of(board: &mut Board<FileWork>) -> anyhow::Result<Lent<FileWork>>
+pub fn pieces_of(board: &mut Board<FileWork>) -> Answer<Lent<FileWork>>
     requires { board.old.is_lent ≡ false }
     ensures { IfOk result (λ lent. Ascends lent) }
 {
     if !board.is_complete() {
-        bail!("not complete");
+        return Err(Trouble::Unknown("not complete"));
     }
     Ok(board.lend_all()?)
 }
@@ -51,7 +67,7 @@ fn write_by_path(
     line: &mut String,
     found: &Analysis,
     pieces: &[Piece<FileWork>],
-) -> anyhow::Result<()> {
+) -> Result<(), AllocError> {
     for (path, piece) in found.files().iter().zip(pieces.iter()) {
         line.push_str(path.as_str())?;
         write_diagnostics(line, piece.text(), found.diagnostics_at(path.as_str()))?;
@@ -65,7 +81,7 @@ pub fn write_by_number(
     line: &mut String,
     found: &Analysis,
     pieces: &[Piece<FileWork>],
-) -> anyhow::Result<()> {
+) -> Result<(), AllocError> {
     for (diagnostics, piece) in found.all_diagnostics().iter().zip(pieces.iter()) {
         line.push_str(piece.path())?;
         write_diagnostics(line, piece.text(), diagnostics.as_slice())?;
@@ -74,7 +90,7 @@ pub fn write_by_number(
     Ok(())
 }
 
-fn write_decls(line: &mut String, decls: &[DeclRef]) -> anyhow::Result<()> {
+fn write_decls(line: &mut String, decls: &[DeclRef]) -> Result<(), AllocError> {
     for decl in decls {
         let file = decl.file;
         let number = decl.number;
@@ -84,37 +100,39 @@ fn write_decls(line: &mut String, decls: &[DeclRef]) -> anyhow::Result<()> {
 }
 
 // How many declarations, uses and diagnostics a file has.
-fn write_counts(line: &mut String, found: &Analysis, file: usize) -> anyhow::Result<()> {
-    if file < found.files().len() {
-        let decls = found.facts(file).decls.as_slice().len();
-        let uses = found.links(file).uses.as_slice().len();
-        let diagnostics = found.diagnostics(file).len();
-        write!(line, " {decls} {uses} {diagnostics}")?;
+fn write_counts(line: &mut String, found: &Analysis, file: usize) -> Result<(), AllocError> {
+    if file >= found.files().len() {
+        return Ok(());
+    }
+    let decls = found.facts(file).decls.as_slice().len();
+    let uses = found.links(file).uses.as_slice().len();
+    let diagnostics = found.diagnostics(file).len();
+    write!(line, " {decls} {uses} {diagnostics}")
+}
+
+fn write_files(line: &mut String, found: &Analysis) -> Result<(), AllocError> {
+    for path in found.files() {
+        let path = path.as_str();
+        write!(line, " {path}")?;
     }
     Ok(())
 }
 
-// A question of an analysis, and its answer.
-fn write_asked(line: &mut String, found: &Analysis, question: &str) -> anyhow::Result<()> {
+// The answer to a question of an analysis.
+fn write_asked(line: &mut String, found: &Analysis, question: &str) -> Answer<()> {
     write!(line, " {question}:")?;
     if let Some(name) = question.strip_prefix("named ") {
-        return write_decls(line, found.decls_named(name));
+        return Ok(write_decls(line, found.decls_named(name))?);
     }
     if let Some(path) = question.strip_prefix("at ") {
         let count = found.diagnostics_at(path).len();
         return Ok(write!(line, " {count}")?);
     }
-    match question {
-        "files" => {
-            for path in found.files() {
-                let path = path.as_str();
-                write!(line, " {path}")?;
-            }
-            Ok(())
-        }
-        "declarations" => write_decls(line, found.decls()),
-        _ => write_counts(line, found, question.parse::<usize>()?),
-    }
+    Ok(match question {
+        "files" => write_files(line, found)?,
+        "declarations" => write_decls(line, found.decls())?,
+        _ => write_counts(line, found, question.parse::<usize>()?)?,
+    })
 }
 
 // The fields that are no questions.
@@ -129,27 +147,51 @@ fn files_in<'a>(alloc: Global, fields: &[&'a str]) -> Result<Vec<&'a str>, Alloc
 }
 
 // All that is wrong in some files, by path, and by number where that differs.
-fn said(alloc: Global, found: &Analysis, pieces: &[Piece<FileWork>]) -> anyhow::Result<String> {
-    let mut line = String::new(alloc);
-    write_by_path(&mut line, found, pieces)?;
+fn write_said(
+    alloc: Global,
+    line: &mut String,
+    found: &Analysis,
+    pieces: &[Piece<FileWork>],
+) -> Result<(), AllocError> {
+    write_by_path(line, found, pieces)?;
     let mut by_number = String::new(alloc);
     write_by_number(&mut by_number, found, pieces)?;
     if line.as_str() != by_number.as_str() {
         write!(line, " but by number {by_number}")?;
     }
-    Ok(line)
+    Ok(())
 }
 
-/// All that is wrong in some files, and the answers to questions, which are fields with `? ` at the front.
-pub fn answer(alloc: Global, fields: &[&str]) -> anyhow::Result<String> {
-    let files = files_in(alloc, fields)?;
-    let pieces = pieces_of(&mut board_of(alloc, files.as_slice())?)?;
-    let found = analyse_here(alloc, pieces.pieces())?;
-    let mut line = said(alloc, &found, pieces.pieces())?;
+// The answers to the questions.
+fn write_answers(line: &mut String, found: &Analysis, fields: &[&str]) -> Answer<()> {
     for field in fields {
         if let Some(question) = field.strip_prefix("? ") {
-            write_asked(&mut line, &found, question)?;
+            write_asked(line, found, question)?;
         }
     }
-    Ok(line)
+    Ok(())
+}
+
+fn pieces_in(alloc: Global, fields: &[&str]) -> Answer<Lent<FileWork>>
+    ensures { IfOk result (λ lent. Ascends lent) }
+{
+    let files = files_in(alloc, fields)?;
+    pieces_at(alloc, files.as_slice())
+}
+
+/// The pieces of files.
+pub fn pieces_at(alloc: Global, files: &[&str]) -> Answer<Lent<FileWork>>
+    ensures { IfOk result (λ lent. Ascends lent) }
+{
+    let mut board = board_of(alloc, files)?;
+    pieces_of(&mut board)
+}
+
+/// Writes all that is wrong in some files, and the answers to questions, which are fields with `? ` at the front.
+pub fn answer(alloc: Global, line: &mut String, fields: &[&str]) -> Answer<()> {
+    let pieces = pieces_in(alloc, fields)?;
+    let found = analyse_here(alloc, pieces.pieces())?;
+    write_said(alloc, line, &found, pieces.pieces())?;
+    write_answers(line, &found, fields)?;
+    Ok(())
 }

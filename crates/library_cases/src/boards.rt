@@ -1,8 +1,7 @@
 // Boards of texts and pieces: events in, verdicts out.
 ghost use Rattle.std.specs.Prelude.{◌≡◌, false};
 
-use anyhow::bail;
-use case_notation::{field, file_of, first_word, number, plain, shown};
+use case_notation::{Answer, Trouble, field, file_of, first_word, number, plain, push_shown};
 use piece_collector::{Board, BoardEvent, Job, Lent, Piece, Verdict, Work, run_events};
 use std::alloc::{AllocError, Global};
 
@@ -38,86 +37,94 @@ impl Work for Refused {
     }
 }
 
-/// The answer to a call on boards and pieces.
-pub fn answer(alloc: Global, call: &str, fields: &[&str]) -> anyhow::Result<String> {
-    let mut line = String::new(alloc);
+/// Writes the answer to a call on boards and pieces.
+pub fn answer(alloc: Global, line: &mut String, call: &str, fields: &[&str]) -> Answer<()> {
     match call {
-        "board" => run(alloc, &mut line, fields)?,
-        "piece" => write_piece(alloc, &mut line, &piece(alloc, field(fields, 0))?)?,
-        _ => refuse(alloc, &mut line, field(fields, 0))?,
+        "board" => run(alloc, line, fields),
+        "piece" => Ok(write_piece(line, &piece(alloc, field(fields, 0))?)?),
+        _ => Ok(refuse(line, job(alloc, field(fields, 0))?)?),
     }
-    Ok(line)
 }
 
 // The job that comes back where its work finds no memory.
-fn refuse(alloc: Global, line: &mut String, words: &str) -> anyhow::Result<()> {
-    match Piece::make(&Refused, job(alloc, words)?) {
-        Ok(_) => Ok(line.push_str("made")?),
-        Err(job) => write_job(alloc, line, &job),
+fn refuse(line: &mut String, job: Job) -> Result<(), AllocError> {
+    match Piece::make(&Refused, job) {
+        Ok(_) => line.push_str("made"),
+        Err(job) => write_job(line, &job),
     }
 }
 
 // A job: the path, the stamp and the text.
-fn job(alloc: Global, words: &str) -> anyhow::Result<Job> {
+fn job(alloc: Global, words: &str) -> Answer<Job> {
     let (path, rest) = first_word(words);
     let (stamp, text) = first_word(rest);
+    let stamp = number(stamp)?;
     let path = String::from_str(alloc, path)?;
-    Ok(Job::new(path, number(stamp)?, plain(alloc, text)?))
+    Ok(Job::new(path, stamp, plain(alloc, text)?))
 }
 
-fn piece(alloc: Global, words: &str) -> anyhow::Result<Piece<Length>> {
+fn piece(alloc: Global, words: &str) -> Answer<Piece<Length>> {
     made(job(alloc, words)?)
 }
 
-fn made(job: Job) -> anyhow::Result<Piece<Length>> {
+fn made(job: Job) -> Answer<Piece<Length>> {
     match Piece::make(&Length, job) {
         Ok(piece) => Ok(piece),
-        Err(_) => bail!("out of memory"),
+        Err(_) => Err(Trouble::Memory),
     }
 }
 
-fn write_job(alloc: Global, line: &mut String, job: &Job) -> anyhow::Result<()> {
+fn write_job(line: &mut String, job: &Job) -> Result<(), AllocError> {
     let path = job.path();
     let stamp = job.stamp();
-    let text = shown(alloc, job.text())?;
-    Ok(write!(line, "{path} {stamp} {text}")?)
+    write!(line, "{path} {stamp} ")?;
+    push_shown(line, job.text())
 }
 
-fn write_piece(alloc: Global, line: &mut String, piece: &Piece<Length>) -> anyhow::Result<()> {
+fn write_piece(line: &mut String, piece: &Piece<Length>) -> Result<(), AllocError> {
     let path = piece.path();
     let stamp = piece.stamp();
-    let text = shown(alloc, piece.text())?;
+    write!(line, "{path} {stamp} ")?;
+    push_shown(line, piece.text())?;
     let out = *piece.out();
-    Ok(write!(line, "{path} {stamp} {text} {out}")?)
+    write!(line, " {out}")
 }
 
-fn event(alloc: Global, field: &str) -> anyhow::Result<BoardEvent<Length>> {
-    let (word, rest) = first_word(field);
-    Ok(match word {
-        "set" => {
-            let (path, text) = file_of(alloc, rest)?;
-            BoardEvent::SetText { path, text }
-        }
-        "remove" => BoardEvent::Remove {
-            path: plain(alloc, rest)?,
-        },
-        "next" => BoardEvent::NextJob,
-        "offer" => BoardEvent::Offer(piece(alloc, rest)?),
-        "fail" => {
-            let (path, stamp) = first_word(rest);
-            BoardEvent::Fail {
-                path: plain(alloc, path)?,
-                stamp: number(stamp)?,
-            }
-        }
-        _ => bail!("no such event"),
+fn set_event(alloc: Global, file: &str) -> Result<BoardEvent<Length>, AllocError> {
+    let (path, text) = file_of(alloc, file)?;
+    Ok(BoardEvent::SetText { path, text })
+}
+
+fn fail_event(alloc: Global, words: &str) -> Answer<BoardEvent<Length>> {
+    let (path, stamp) = first_word(words);
+    let stamp = number(stamp)?;
+    Ok(BoardEvent::Fail {
+        path: plain(alloc, path)?,
+        stamp,
     })
 }
 
+fn event(alloc: Global, field: &str) -> Answer<BoardEvent<Length>> {
+    let (word, rest) = first_word(field);
+    match word {
+        "set" => Ok(set_event(alloc, rest)?),
+        "remove" => Ok(BoardEvent::Remove {
+            path: plain(alloc, rest)?,
+        }),
+        "next" => Ok(BoardEvent::NextJob),
+        "offer" => Ok(BoardEvent::Offer(piece(alloc, rest)?)),
+        "fail" => fail_event(alloc, rest),
+        _ => Err(Trouble::Unknown("no such event")),
+    }
+}
+
 // The events up to the field `then`.
-fn events(alloc: Global, fields: &[&str]) -> anyhow::Result<Vec<BoardEvent<Length>>> {
+fn events(alloc: Global, fields: &[&str]) -> Answer<Vec<BoardEvent<Length>>> {
     let mut events = Vec::new(alloc);
-    for field in fields.iter().take_while(|field| **field != "then") {
+    for field in fields {
+        if *field == "then" {
+            break;
+        }
         events.push(event(alloc, field)?)?;
     }
     Ok(events)
@@ -125,25 +132,20 @@ fn events(alloc: Global, fields: &[&str]) -> anyhow::Result<Vec<BoardEvent<Lengt
 
 // A board whose last stamp is given first: the verdicts of a run of events or the fault that ends it, whether the board is
 // complete then, and the answers to the calls behind the field `then`.
-fn run(alloc: Global, line: &mut String, fields: &[&str]) -> anyhow::Result<()> {
+fn run(alloc: Global, line: &mut String, fields: &[&str]) -> Answer<()> {
     let Some((stamp, fields)) = fields.split_first() else {
-        bail!("no stamp");
+        return Err(Trouble::Unknown("no stamp"));
     };
     let mut board = Board::counting_from(alloc, Length, number(stamp)?);
-    let events = events(alloc, fields)?;
-    write_run(line, &mut board, events)?;
-    for call in fields.iter().skip_while(|field| **field != "then").skip(1) {
-        line.push_str("; ")?;
-        step(alloc, line, &mut board, call)?;
-    }
-    Ok(())
+    write_run(line, &mut board, events(alloc, fields)?)?;
+    write_steps(alloc, line, &mut board, fields)
 }
 
 fn write_run(
     line: &mut String,
     board: &mut Board<Length>,
     events: Vec<BoardEvent<Length>>,
-) -> anyhow::Result<()>
+) -> Result<(), AllocError>
     requires { board.old.is_lent ≡ false }
     ensures { board.new.is_lent ≡ false }
 {
@@ -155,46 +157,72 @@ fn write_run(
         }
     }
     let complete = board.is_complete();
-    Ok(write!(line, "complete {complete}")?)
+    write!(line, "complete {complete}")
 }
 
-fn write_verdicts(line: &mut String, verdicts: &[Verdict]) -> anyhow::Result<()> {
+fn write_verdicts(line: &mut String, verdicts: &[Verdict]) -> Result<(), AllocError> {
     for verdict in verdicts {
         write!(line, "{verdict:?} ")?;
     }
     Ok(())
 }
 
-// A call on a board, and its answer.
-fn step(
+// The answers to the calls behind the field `then`.
+fn write_steps(
     alloc: Global,
     line: &mut String,
     board: &mut Board<Length>,
-    call: &str,
-) -> anyhow::Result<()>
+    fields: &[&str],
+) -> Answer<()>
+    requires { board.old.is_lent ≡ false }
+{
+    let mut is_behind = false;
+    for call in fields {
+        if is_behind {
+            line.push_str("; ")?;
+            step(alloc, line, board, call)?;
+        } else {
+            is_behind = *call == "then";
+        }
+    }
+    Ok(())
+}
+
+// A call on a board, and its answer.
+fn step(alloc: Global, line: &mut String, board: &mut Board<Length>, call: &str) -> Answer<()>
     requires { board.old.is_lent ≡ false }
     ensures { board.new.is_lent ≡ false }
 {
     let (word, rest) = first_word(call);
     match word {
-        "set" => set(alloc, line, board, rest),
+        "set" => Ok(set(alloc, line, board, rest)?),
         "remove" => {
             let known = board.remove(rest);
             Ok(write!(line, "{known}")?)
         }
-        "next" => next(alloc, line, board),
+        "next" => Ok(next(line, board)?),
         "work" => work(line, board),
-        "offer" => {
-            let verdict = board.offer(piece(alloc, rest)?);
-            Ok(write!(line, "{verdict:?}")?)
-        }
-        "fail" => {
-            let (path, stamp) = first_word(rest);
-            let verdict = board.fail(path, number(stamp)?);
-            Ok(write!(line, "{verdict:?}")?)
-        }
-        _ => lend(alloc, line, board),
+        "offer" => offer(line, board, piece(alloc, rest)?),
+        "fail" => fail(line, board, rest),
+        _ => lend(line, board),
     }
+}
+
+fn offer(line: &mut String, board: &mut Board<Length>, piece: Piece<Length>) -> Answer<()>
+    requires { board.old.is_lent ≡ false }
+    ensures { board.new.is_lent ≡ false }
+{
+    let verdict = board.offer(piece);
+    Ok(write!(line, "{verdict:?}")?)
+}
+
+fn fail(line: &mut String, board: &mut Board<Length>, words: &str) -> Answer<()>
+    requires { board.old.is_lent ≡ false }
+    ensures { board.new.is_lent ≡ false }
+{
+    let (path, stamp) = first_word(words);
+    let verdict = board.fail(path, number(stamp)?);
+    Ok(write!(line, "{verdict:?}")?)
 }
 
 fn set(
@@ -202,69 +230,66 @@ fn set(
     line: &mut String,
     board: &mut Board<Length>,
     file: &str,
-) -> anyhow::Result<()>
+) -> Result<(), AllocError>
     requires { board.old.is_lent ≡ false }
     ensures { board.new.is_lent ≡ false }
 {
     let (path, text) = file_of(alloc, file)?;
     match board.set_text(path, text) {
-        Ok(stamp) => Ok(write!(line, "{stamp}")?),
+        Ok(stamp) => write!(line, "{stamp}"),
         Err(fault) => {
             let code = fault.code();
-            Ok(write!(line, "fault {code}")?)
+            write!(line, "fault {code}")
         }
     }
 }
 
-fn next(alloc: Global, line: &mut String, board: &mut Board<Length>) -> anyhow::Result<()>
+fn next(line: &mut String, board: &mut Board<Length>) -> Result<(), AllocError>
     requires { board.old.is_lent ≡ false }
     ensures { board.new.is_lent ≡ false }
 {
     match board.next_job()? {
-        Some(job) => write_job(alloc, line, &job),
-        None => Ok(line.push_str("none")?),
+        Some(job) => write_job(line, &job),
+        None => line.push_str("none"),
     }
 }
 
 // Offers the piece that is made of the next job.
-fn work(line: &mut String, board: &mut Board<Length>) -> anyhow::Result<()>
+fn work(line: &mut String, board: &mut Board<Length>) -> Answer<()>
     requires { board.old.is_lent ≡ false }
     ensures { board.new.is_lent ≡ false }
 {
-    let Some(job) = board.next_job()? else {
-        bail!("no job");
-    };
-    let verdict = board.offer(made(job)?);
-    Ok(write!(line, "{verdict:?}")?)
+    match board.next_job()? {
+        Some(job) => offer(line, board, made(job)?),
+        None => Err(Trouble::Unknown("no job")),
+    }
 }
 
 // Lends all pieces where the board is complete, and takes them back.
-fn lend(alloc: Global, line: &mut String, board: &mut Board<Length>) -> anyhow::Result<()>
+fn lend(line: &mut String, board: &mut Board<Length>) -> Answer<()>
     requires { board.old.is_lent ≡ false }
     ensures { board.new.is_lent ≡ false }
 {
     if !board.is_complete() {
-        bail!("not complete");
+        return Err(Trouble::Unknown("not complete"));
     }
     let lent = board.lend_all()?;
-    let listed = pieces_shown(alloc, lent.pieces());
+    let written = write_pieces(line, lent.pieces());
     let while_lent = board.is_lent();
     board.take_back(Lent::of(lent.into_pieces()));
+    written?;
     let behind = board.is_lent();
     let complete = board.is_complete();
-    let listed = listed?;
-    write!(
+    Ok(write!(
         line,
-        "{listed}lent {while_lent}, then {behind}, complete {complete}"
-    )?;
-    Ok(())
+        "lent {while_lent}, then {behind}, complete {complete}"
+    )?)
 }
 
-fn pieces_shown(alloc: Global, pieces: &[Piece<Length>]) -> anyhow::Result<String> {
-    let mut line = String::new(alloc);
+fn write_pieces(line: &mut String, pieces: &[Piece<Length>]) -> Result<(), AllocError> {
     for piece in pieces {
-        write_piece(alloc, &mut line, piece)?;
+        write_piece(line, piece)?;
         line.push_str(", ")?;
     }
-    Ok(line)
+    Ok(())
 }

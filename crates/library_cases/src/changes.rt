@@ -1,13 +1,12 @@
 // The analysis after a change of one file's text: that of the changed workspace, whatever the change tells the other files.
-ghost use Rattle.std.specs.Prelude.{◌≡◌, ◌<◌, [], false, length, map, slice_index_or, IsTrue};
+ghost use Rattle.std.specs.Prelude.{◌≡◌, ◌<◌, [], false, length, map, slice_index_or, IfOk, IsTrue};
 ghost use Rattle.piece_collector.specs.Board.{Ascends};
 ghost use Rattle.work_index.specs.Changes.{with_text};
 ghost use Rattle.work_index.specs.Pieces.{workspace_of};
 
-use crate::analyses::{board_of, pieces_of, put, write_by_number};
-use anyhow::bail;
-use case_notation::first_word;
-use piece_collector::Piece;
+use crate::analyses::{board_of, pieces_at, pieces_of, put, write_by_number};
+use case_notation::{Answer, Trouble, first_word};
+use piece_collector::{Lent, Piece};
 use std::alloc::{AllocError, Global};
 use work_index::{Analysis, FileWork, analyse_again, analyse_here};
 
@@ -52,32 +51,56 @@ fn analysed_again(
 }
 
 // The number of the file at a path.
-fn number_of(pieces: &[Piece<FileWork>], path: &str) -> anyhow::Result<usize> {
+fn number_of(pieces: &[Piece<FileWork>], path: &str) -> Answer<usize> {
     for (number, piece) in pieces.iter().enumerate() {
         if piece.path() == path {
             return Ok(number);
         }
     }
-    bail!("no such file")
+    Err(Trouble::Unknown("no such file"))
 }
 
-/// The answer to a call on files, the last of which changes one of the others and has `> ` at the front.
-pub fn answer(alloc: Global, fields: &[&str]) -> anyhow::Result<String> {
-    let Some((last, files)) = fields.split_last() else {
-        bail!("no files");
-    };
-    let Some(change) = last.strip_prefix("> ") else {
-        bail!("no change");
-    };
-    let before = pieces_of(&mut board_of(alloc, files)?)?;
+// The pieces of files after a change of one of them.
+fn pieces_after(alloc: Global, files: &[&str], change: &str) -> Answer<Lent<FileWork>>
+    ensures { IfOk result (λ lent. Ascends lent) }
+{
     let mut board = board_of(alloc, files)?;
     put(alloc, &mut board, change)?;
-    let after = pieces_of(&mut board)?;
+    pieces_of(&mut board)
+}
+
+// Writes what is wrong in files after a change.
+fn write_after(
+    alloc: Global,
+    line: &mut String,
+    before: &[Piece<FileWork>],
+    after: &[Piece<FileWork>],
+    number: usize,
+) -> Result<(), AllocError>
+    requires { Ascends before.now }
+{
+    match analysed_again(alloc, before, after, number)? {
+        Some(found) => write_by_number(line, &found, after),
+        None => Ok(()),
+    }
+}
+
+fn write_changed(alloc: Global, line: &mut String, files: &[&str], change: &str) -> Answer<()> {
+    let before = pieces_at(alloc, files)?;
+    let after = pieces_after(alloc, files, change)?;
     let (path, _) = first_word(change);
     let number = number_of(before.pieces(), path)?;
-    let mut line = String::new(alloc);
-    if let Some(found) = analysed_again(alloc, before.pieces(), after.pieces(), number)? {
-        write_by_number(&mut line, &found, after.pieces())?;
+    write_after(alloc, line, before.pieces(), after.pieces(), number)?;
+    Ok(())
+}
+
+/// Writes the answer to a call on files, the last of which changes one of the others and has `> ` at the front.
+pub fn answer(alloc: Global, line: &mut String, fields: &[&str]) -> Answer<()> {
+    let Some((last, files)) = fields.split_last() else {
+        return Err(Trouble::Unknown("no files"));
+    };
+    match last.strip_prefix("> ") {
+        Some(change) => write_changed(alloc, line, files, change),
+        None => Err(Trouble::Unknown("no change")),
     }
-    Ok(line)
 }

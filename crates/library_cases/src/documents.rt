@@ -1,34 +1,31 @@
 // Positions, offsets and edits of a text.
-use anyhow::bail;
-use case_notation::{field, first_word, number, plain, shown};
+use case_notation::{Answer, Trouble, field, first_word, number, plain, push_shown};
 use doc_text::{Change, Encoding, Position, Range, Text, positions_of};
-use std::alloc::Global;
+use std::alloc::{AllocError, Global};
 
-/// The answer to a call on a text: the fields are the encoding, the text, and then what is asked.
-pub fn answer(alloc: Global, call: &str, fields: &[&str]) -> anyhow::Result<String> {
+/// Writes the answer to a call on a text: the fields are the encoding, the text, and then what is asked.
+pub fn answer(alloc: Global, line: &mut String, call: &str, fields: &[&str]) -> Answer<()> {
     let encoding = encoding(field(fields, 0))?;
     let text = Text::new(plain(alloc, field(fields, 1))?);
-    let Some(asked) = fields.get(2..) else {
-        return Ok(String::new(alloc));
-    };
+    let asked = fields.get(2..).unwrap_or(&[]);
     match call {
-        "offsets" => offsets(alloc, &text, encoding, asked),
-        "positions" => positions(alloc, &text, encoding, asked),
-        _ => edits(alloc, text, encoding, asked),
+        "offsets" => write_offsets(line, &text, encoding, asked),
+        "positions" => write_positions(alloc, line, &text, encoding, asked),
+        _ => write_edits(alloc, line, text, encoding, asked),
     }
 }
 
-fn encoding(word: &str) -> anyhow::Result<Encoding> {
+fn encoding(word: &str) -> Answer<Encoding> {
     Ok(match word {
         "utf-8" => Encoding::Utf8,
         "utf-16" => Encoding::Utf16,
         "utf-32" => Encoding::Utf32,
-        _ => bail!("no such encoding"),
+        _ => return Err(Trouble::Unknown("no such encoding")),
     })
 }
 
 // A position by the words of its line and its character, and what stands behind them.
-fn position(words: &str) -> anyhow::Result<(Position, &str)> {
+fn position(words: &str) -> Answer<(Position, &str)> {
     let (line, rest) = first_word(words);
     let (character, rest) = first_word(rest);
     let position = Position {
@@ -38,22 +35,16 @@ fn position(words: &str) -> anyhow::Result<(Position, &str)> {
     Ok((position, rest))
 }
 
-fn offsets(
-    alloc: Global,
-    text: &Text,
-    encoding: Encoding,
-    asked: &[&str],
-) -> anyhow::Result<String> {
-    let mut line = String::new(alloc);
+fn write_offsets(line: &mut String, text: &Text, encoding: Encoding, asked: &[&str]) -> Answer<()> {
     for words in asked {
         let (position, _) = position(words)?;
         let offset = text.offset_of(position, encoding);
         write!(line, "{offset} ")?;
     }
-    Ok(line)
+    Ok(())
 }
 
-fn write_positions(line: &mut String, positions: &[Position]) -> anyhow::Result<()> {
+fn write_all(line: &mut String, positions: &[Position]) -> Result<(), AllocError> {
     for position in positions {
         let row = position.line;
         let character = position.character;
@@ -62,39 +53,78 @@ fn write_positions(line: &mut String, positions: &[Position]) -> anyhow::Result<
     Ok(())
 }
 
-// The positions one by one, then all at once of the text and of its bytes, and all at once of the offsets the other way
-// round, turned back.
-fn positions(
+fn offsets_of(alloc: Global, asked: &[&str]) -> Answer<Vec<usize>> {
+    let mut offsets = Vec::new(alloc);
+    for word in asked {
+        offsets.push(number(word)? as usize)?;
+    }
+    Ok(offsets)
+}
+
+fn one_by_one(
     alloc: Global,
     text: &Text,
     encoding: Encoding,
-    asked: &[&str],
-) -> anyhow::Result<String> {
-    let mut offsets = Vec::new(alloc);
-    let mut singly = Vec::new(alloc);
-    for word in asked {
-        let offset = number(word)? as usize;
-        offsets.push(offset)?;
-        singly.push(text.position_of(offset, encoding))?;
+    offsets: &[usize],
+) -> Result<Vec<Position>, AllocError> {
+    let mut positions = Vec::new(alloc);
+    for offset in offsets {
+        positions.push(text.position_of(*offset, encoding))?;
     }
-    let at_once = text.positions_of(alloc, offsets.as_slice(), encoding)?;
-    let of_bytes = positions_of(alloc, text.as_str(), offsets.as_slice(), encoding)?;
+    Ok(positions)
+}
+
+// The positions of the offsets the other way round, turned back.
+fn reversed(
+    alloc: Global,
+    text: &Text,
+    encoding: Encoding,
+    offsets: Vec<usize>,
+) -> Result<Vec<Position>, AllocError> {
+    let mut offsets = offsets;
     offsets.reverse();
-    let mut reversed = text.positions_of(alloc, offsets.as_slice(), encoding)?;
-    reversed.reverse();
-    let mut line = String::new(alloc);
-    write_positions(&mut line, singly.as_slice())?;
-    for others in [at_once, of_bytes, reversed] {
-        if others.as_slice() != singly.as_slice() {
-            line.push_str("; ")?;
-            write_positions(&mut line, others.as_slice())?;
-        }
+    let mut positions = text.positions_of(alloc, offsets.as_slice(), encoding)?;
+    positions.reverse();
+    Ok(positions)
+}
+
+// Writes other positions, where they differ.
+fn write_others(
+    line: &mut String,
+    positions: &[Position],
+    others: &[Position],
+) -> Result<(), AllocError> {
+    if others == positions {
+        return Ok(());
     }
-    Ok(line)
+    line.push_str("; ")?;
+    write_all(line, others)
+}
+
+// The positions one by one, then all at once of the text and of its bytes, and all at once of the offsets the other way
+// round, turned back.
+fn write_positions(
+    alloc: Global,
+    line: &mut String,
+    text: &Text,
+    encoding: Encoding,
+    asked: &[&str],
+) -> Answer<()> {
+    let offsets = offsets_of(alloc, asked)?;
+    let positions = one_by_one(alloc, text, encoding, offsets.as_slice())?;
+    let positions = positions.as_slice();
+    write_all(line, positions)?;
+    let at_once = text.positions_of(alloc, offsets.as_slice(), encoding)?;
+    write_others(line, positions, at_once.as_slice())?;
+    let of_bytes = positions_of(alloc, text.as_str(), offsets.as_slice(), encoding)?;
+    write_others(line, positions, of_bytes.as_slice())?;
+    let reversed = reversed(alloc, text, encoding, offsets)?;
+    write_others(line, positions, reversed.as_slice())?;
+    Ok(())
 }
 
 // An edit: `all` and the new text, or the range's two positions and the new text.
-fn edit(alloc: Global, words: &str) -> anyhow::Result<Change> {
+fn edit(alloc: Global, words: &str) -> Answer<Change> {
     if let Some(text) = words.strip_prefix("all ") {
         let text = plain(alloc, text)?;
         return Ok(Change { range: None, text });
@@ -108,13 +138,18 @@ fn edit(alloc: Global, words: &str) -> anyhow::Result<Change> {
 }
 
 // The whole text after each edit.
-fn edits(alloc: Global, text: Text, encoding: Encoding, asked: &[&str]) -> anyhow::Result<String> {
+fn write_edits(
+    alloc: Global,
+    line: &mut String,
+    text: Text,
+    encoding: Encoding,
+    asked: &[&str],
+) -> Answer<()> {
     let mut text = text;
-    let mut line = String::new(alloc);
     for words in asked {
         text.apply(edit(alloc, words)?, encoding)?;
-        line.push_str(shown(alloc, text.as_str())?.as_str())?;
+        push_shown(line, text.as_str())?;
         line.push_str(" :: ")?;
     }
-    Ok(line)
+    Ok(())
 }

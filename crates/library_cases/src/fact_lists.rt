@@ -1,22 +1,30 @@
 // Facts of texts, and lists of diagnostics.
 use crate::texts::tree_of;
-use anyhow::bail;
-use case_notation::{field, first_word, plain};
+use case_notation::{Answer, Trouble, field, first_word, plain};
 use proto_facts::{Diag, FileFacts, Name, Problem, facts, in_order, joined, text_at};
 use proto_syntax::Span;
 use std::alloc::{AllocError, Global};
 
-/// The answer to a call on facts.
-pub fn answer(alloc: Global, call: &str, fields: &[&str]) -> anyhow::Result<String> {
+/// Writes the answer to a call on facts.
+pub fn answer(alloc: Global, line: &mut String, call: &str, fields: &[&str]) -> Answer<()> {
     match call {
-        "in order" => ordered(alloc, fields),
-        "long text" => problems_of_length(alloc, field(fields, 0)),
-        "joined" => joined_part(alloc, fields),
-        "part" => part_shown(alloc, fields),
-        "copied name" => copied_name(alloc, field(fields, 0)),
-        "problems" => problems(alloc, &facts_in(alloc, field(fields, 0))?),
-        "copied facts" => all_facts(alloc, &copied_facts(alloc, field(fields, 0))?),
-        _ => all_facts(alloc, &facts_in(alloc, field(fields, 0))?),
+        "in order" => write_ordered(alloc, line, fields),
+        "long text" => write_of_length(alloc, line, field(fields, 0)),
+        "joined" => write_joined(alloc, line, fields),
+        "part" => {
+            let part = part(field(fields, 0), field(fields, 1))?;
+            Ok(write!(line, "<{part}>")?)
+        }
+        "copied name" => Ok(write_copied_name(alloc, line, field(fields, 0))?),
+        _ => Ok(write_found(line, call, &facts_in(alloc, field(fields, 0))?)?),
+    }
+}
+
+fn write_found(line: &mut String, call: &str, found: &FileFacts) -> Result<(), AllocError> {
+    match call {
+        "problems" => write_problems(line, found),
+        "copied facts" => write_facts(line, &found.copy()?),
+        _ => write_facts(line, found),
     }
 }
 
@@ -25,30 +33,22 @@ pub fn facts_in(alloc: Global, field: &str) -> Result<FileFacts, AllocError> {
     facts_of(alloc, plain(alloc, field)?.as_str())
 }
 
-fn copied_facts(alloc: Global, field: &str) -> Result<FileFacts, AllocError> {
-    facts_in(alloc, field)?.copy()
-}
-
-fn copied_name(alloc: Global, field: &str) -> anyhow::Result<String> {
+fn write_copied_name(alloc: Global, line: &mut String, field: &str) -> Result<(), AllocError> {
     let name = Name::of(plain(alloc, field)?);
-    let copy = name.copy(alloc)?;
-    Ok(String::from_str(alloc, copy.as_str())?)
+    line.push_str(name.copy(alloc)?.as_str())
 }
 
-fn problems_of_length(alloc: Global, length: &str) -> anyhow::Result<String> {
+fn write_of_length(alloc: Global, line: &mut String, length: &str) -> Answer<()> {
     let text = long_text(alloc, length.parse::<usize>()?)?;
-    problems(alloc, &facts_of(alloc, text.as_str())?)
+    write_problems(line, &facts_of(alloc, text.as_str())?)?;
+    Ok(())
 }
 
-fn joined_part(alloc: Global, fields: &[&str]) -> anyhow::Result<String> {
+fn write_joined(alloc: Global, line: &mut String, fields: &[&str]) -> Answer<()> {
     let name = part(field(fields, 1), field(fields, 2))?;
     let full_name = joined(alloc, field(fields, 0), name)?;
-    Ok(String::from_str(alloc, full_name.as_str())?)
-}
-
-fn part_shown(alloc: Global, fields: &[&str]) -> anyhow::Result<String> {
-    let part = part(field(fields, 0), field(fields, 1))?;
-    Ok(format!(in alloc; "<{part}>")?)
+    line.push_str(full_name.as_str())?;
+    Ok(())
 }
 
 /// The facts of a text.
@@ -58,8 +58,7 @@ pub fn facts_of(alloc: Global, text: &str) -> Result<FileFacts, AllocError> {
 }
 
 // The language, and the offsets and the number of each diagnostic.
-fn problems(alloc: Global, found: &FileFacts) -> anyhow::Result<String> {
-    let mut line = String::new(alloc);
+fn write_problems(line: &mut String, found: &FileFacts) -> Result<(), AllocError> {
     let syntax = found.syntax;
     write!(line, "{syntax:?}")?;
     for diag in found.diags.as_slice() {
@@ -68,10 +67,10 @@ fn problems(alloc: Global, found: &FileFacts) -> anyhow::Result<String> {
         let code = diag.message.code();
         write!(line, ", {start}-{end} {code}")?;
     }
-    Ok(line)
+    Ok(())
 }
 
-fn write_package(line: &mut String, found: &FileFacts) -> anyhow::Result<()> {
+fn write_package(line: &mut String, found: &FileFacts) -> Result<(), AllocError> {
     if let Some(package) = &found.package {
         let full_name = package.full_name.as_str();
         write!(line, "; package {full_name}")?;
@@ -84,7 +83,7 @@ fn write_package(line: &mut String, found: &FileFacts) -> anyhow::Result<()> {
     Ok(())
 }
 
-fn write_imports(line: &mut String, found: &FileFacts) -> anyhow::Result<()> {
+fn write_imports(line: &mut String, found: &FileFacts) -> Result<(), AllocError> {
     for import in found.imports.as_slice() {
         let path = import.path.as_str();
         let start = import.span.start;
@@ -95,7 +94,7 @@ fn write_imports(line: &mut String, found: &FileFacts) -> anyhow::Result<()> {
     Ok(())
 }
 
-fn write_decls(line: &mut String, found: &FileFacts) -> anyhow::Result<()> {
+fn write_decls(line: &mut String, found: &FileFacts) -> Result<(), AllocError> {
     for decl in found.decls.as_slice() {
         let kind = decl.kind;
         let full_name = decl.full_name.as_str();
@@ -107,16 +106,15 @@ fn write_decls(line: &mut String, found: &FileFacts) -> anyhow::Result<()> {
     Ok(())
 }
 
-fn all_facts(alloc: Global, found: &FileFacts) -> anyhow::Result<String> {
-    let mut line = problems(alloc, found)?;
-    write_package(&mut line, found)?;
-    write_imports(&mut line, found)?;
-    write_decls(&mut line, found)?;
-    Ok(line)
+fn write_facts(line: &mut String, found: &FileFacts) -> Result<(), AllocError> {
+    write_problems(line, found)?;
+    write_package(line, found)?;
+    write_imports(line, found)?;
+    write_decls(line, found)
 }
 
 // The message with these words.
-fn message(words: &str) -> anyhow::Result<Problem> {
+fn message(words: &str) -> Answer<Problem> {
     for message in [
         Problem::NameIsPackage,
         Problem::UnfinishedString,
@@ -128,10 +126,10 @@ fn message(words: &str) -> anyhow::Result<Problem> {
             return Ok(message);
         }
     }
-    bail!("no such message")
+    return Err(Trouble::Unknown("no such message"))
 }
 
-fn diag(field: &str) -> anyhow::Result<Diag> {
+fn diag(field: &str) -> Answer<Diag> {
     let (start, words) = first_word(field);
     Ok(Diag {
         start: start.parse::<usize>()?,
@@ -140,7 +138,7 @@ fn diag(field: &str) -> anyhow::Result<Diag> {
     })
 }
 
-fn diags(alloc: Global, fields: &[&str]) -> anyhow::Result<Vec<Diag>> {
+fn diags(alloc: Global, fields: &[&str]) -> Answer<Vec<Diag>> {
     let mut diags = Vec::new(alloc);
     for field in fields {
         diags.push(diag(field)?)?;
@@ -148,22 +146,26 @@ fn diags(alloc: Global, fields: &[&str]) -> anyhow::Result<Vec<Diag>> {
     Ok(diags)
 }
 
-// Diagnostics, each a start and the words of its message, in order: with number, severity and words.
-fn ordered(alloc: Global, fields: &[&str]) -> anyhow::Result<String> {
-    let diags = diags(alloc, fields)?;
-    let mut line = String::new(alloc);
-    for diag in in_order(alloc, diags.as_slice())?.as_slice() {
+fn write_diags(line: &mut String, diags: &[Diag]) -> Result<(), AllocError> {
+    for diag in diags {
         let start = diag.start;
         let code = diag.message.code();
         let severity = diag.message.severity();
         let text = diag.message.text();
         write!(line, "{start} {code} {severity} {text}, ")?;
     }
-    Ok(line)
+    Ok(())
+}
+
+// Diagnostics, each a start and the words of its message, in order: with number, severity and words.
+fn write_ordered(alloc: Global, line: &mut String, fields: &[&str]) -> Answer<()> {
+    let diags = diags(alloc, fields)?;
+    write_diags(line, in_order(alloc, diags.as_slice())?.as_slice())?;
+    Ok(())
 }
 
 // The part of a text from an offset to another.
-fn part<'a>(text: &'a str, offsets: &str) -> anyhow::Result<&'a str> {
+fn part<'a>(text: &'a str, offsets: &str) -> Answer<&'a str> {
     let (start, end) = first_word(offsets);
     let span = Span {
         start: start.parse::<usize>()?,

@@ -2,22 +2,23 @@
 ghost use Rattle.std.specs.Prelude.{◌≡◌, ◌<◌, length};
 ghost use Rattle.import_graph.specs.Imports.{graph_of, edges_at};
 
-use crate::fact_lists::facts_of;
-use case_notation::{field, file_of};
+use crate::fact_lists::{facts_in, facts_of};
+use case_notation::{Answer, field, file_of, first_word};
 use import_graph::{FileNo, Graph, NamedFacts, are_in_path_order, same_outlook};
-use proto_facts::Name;
+use proto_facts::{FileFacts, Name};
 use std::alloc::{AllocError, Global};
 
-/// The answer to a call on graphs of files.
-pub fn answer(alloc: Global, call: &str, fields: &[&str]) -> anyhow::Result<String> {
+/// Writes the answer to a call on graphs of files.
+pub fn answer(alloc: Global, line: &mut String, call: &str, fields: &[&str]) -> Answer<()> {
     match call {
-        "ring" => ring_shown(alloc, field(fields, 0).parse::<u32>()?),
-        "alike" => {
-            let (before, after) = changed_files(alloc, fields)?;
-            marks(alloc, before.as_slice(), after.as_slice())
+        "ring" => {
+            let count = field(fields, 0).parse::<u32>()?;
+            write_ring(alloc, line, count)?;
         }
-        _ => shown(alloc, files_of(alloc, fields)?.as_slice()),
+        "alike" => write_alike(alloc, line, fields)?,
+        _ => write_graph(alloc, line, files_of(alloc, fields)?.as_slice())?,
     }
+    Ok(())
 }
 
 /// A file by its path and its text.
@@ -28,55 +29,51 @@ pub fn named_facts(alloc: Global, path: String, text: &str) -> Result<NamedFacts
     })
 }
 
-fn files_of(alloc: Global, fields: &[&str]) -> anyhow::Result<Vec<NamedFacts>> {
+// The file of a field.
+fn file_in(alloc: Global, field: &str) -> Result<NamedFacts, AllocError> {
+    let (path, text) = file_of(alloc, field)?;
+    named_facts(alloc, path, text.as_str())
+}
+
+/// The files of the fields that are no changes.
+pub fn files_of(alloc: Global, fields: &[&str]) -> Result<Vec<NamedFacts>, AllocError> {
     let mut files = Vec::new(alloc);
     for field in fields {
-        let (path, text) = file_of(alloc, field)?;
-        files.push(named_facts(alloc, path, text.as_str())?)?;
+        if !field.starts_with("> ") {
+            files.push(file_in(alloc, field)?)?;
+        }
     }
     Ok(files)
 }
 
-// Files before and after changes, which are fields with `> ` at the front.
-fn changed_files(
-    alloc: Global,
-    fields: &[&str],
-) -> anyhow::Result<(Vec<NamedFacts>, Vec<NamedFacts>)> {
-    let mut before = Vec::new(alloc);
-    let mut after = Vec::new(alloc);
+// Makes the changes, which are fields with `> ` at the front.
+fn change(alloc: Global, files: &mut Vec<NamedFacts>, fields: &[&str]) -> Result<(), AllocError> {
     for field in fields {
-        match field.strip_prefix("> ") {
-            None => {
-                let (path, text) = file_of(alloc, field)?;
-                before.push(named_facts(alloc, path.clone()?, text.as_str())?)?;
-                after.push(named_facts(alloc, path, text.as_str())?)?;
-            }
-            Some(change) => {
-                let (path, text) = file_of(alloc, change)?;
-                put(alloc, &mut after, path.as_str(), text.as_str())?;
-            }
-        }
-    }
-    Ok((before, after))
-}
-
-// Puts the facts of another text at a path.
-fn put(
-    alloc: Global,
-    files: &mut Vec<NamedFacts>,
-    path: &str,
-    text: &str,
-) -> Result<(), AllocError> {
-    for file in files.iter_mut() {
-        if file.path.as_str() == path {
-            file.facts = facts_of(alloc, text)?;
+        if let Some(change) = field.strip_prefix("> ") {
+            let (path, text) = first_word(change);
+            put(files, path, facts_in(alloc, text)?);
         }
     }
     Ok(())
 }
 
+// Puts other facts at a path.
+fn put(files: &mut Vec<NamedFacts>, path: &str, facts: FileFacts) {
+    for file in files.iter_mut() {
+        if file.path.as_str() == path {
+            file.facts = facts;
+            return;
+        }
+    }
+}
+
 // Adds the number of the file that an import names or `-`, and `!` where it closes a cycle.
-fn show_import(line: &mut String, graph: &Graph, file: FileNo, import: usize) -> anyhow::Result<()>
+fn show_import(
+    line: &mut String,
+    graph: &Graph,
+    file: FileNo,
+    import: usize,
+) -> Result<(), AllocError>
     requires file { file < length graph.now }
     requires import { import < length (edges_at graph.now file) }
 {
@@ -85,7 +82,7 @@ fn show_import(line: &mut String, graph: &Graph, file: FileNo, import: usize) ->
         None => write!(line, " -")?,
     }
     if graph.closes_cycle(file, import)? {
-        write!(line, "!")?;
+        line.push('!')?;
     }
     Ok(())
 }
@@ -96,7 +93,7 @@ fn show_file(
     graph: &Graph,
     files: &[NamedFacts],
     file: FileNo,
-) -> anyhow::Result<()>
+) -> Result<(), AllocError>
     requires graph { graph.now ≡ graph_of files.now }
     requires file { file < length files.now }
 {
@@ -104,50 +101,62 @@ fn show_file(
     for import in 0..files[file].facts.imports.as_slice().len() {
         show_import(line, graph, file, import)?;
     }
+    write_view(line, graph, file)
+}
+
+// Adds what a file sees, and a dot where its view is closed.
+fn write_view(line: &mut String, graph: &Graph, file: FileNo) -> Result<(), AllocError>
+    requires { file < length graph.now }
+{
+    let closed = graph.is_closed(file)?;
     let view = graph.visible(file)?;
     for seen in view.as_slice() {
         write!(line, " +{seen}")?;
     }
-    let closed = graph.is_closed(file)?;
     let end = match (closed, graph.are_complete(view.as_slice())) {
         (true, true) => ".",
         (false, false) => "",
         _ => " differ",
     };
-    write!(line, "{end}; ")?;
-    Ok(())
+    write!(line, "{end}; ")
 }
 
 // The graph of files.
-fn shown(alloc: Global, files: &[NamedFacts]) -> anyhow::Result<String> {
+fn write_graph(alloc: Global, line: &mut String, files: &[NamedFacts]) -> Result<(), AllocError> {
     if !are_in_path_order(files) {
-        return Ok(String::from_str(alloc, "not in order")?);
+        return line.push_str("not in order");
     }
     let graph = Graph::of(alloc, files)?;
-    let mut line = String::new(alloc);
     for number in 0..files.len() {
-        show_file(&mut line, &graph, files, number)?;
+        show_file(line, &graph, files, number)?;
     }
-    Ok(line)
+    Ok(())
 }
 
-// Files that each import the next two, the last ones the first ones.
-fn ring(alloc: Global, count: u32) -> anyhow::Result<Vec<NamedFacts>> {
+// A file of a ring, which imports the next two, the last ones the first ones.
+fn ring_file(alloc: Global, number: u32, count: u32) -> Result<NamedFacts, AllocError> {
+    let next = number.wrapping_add(1) % count.max(1);
+    let second = number.wrapping_add(2) % count.max(1);
+    let text = format!(in alloc;
+        "syntax = \"proto3\";\nimport \"{next:0>5}.proto\";\nimport \"{second:0>5}.proto\";\n"
+    )?;
+    named_facts(
+        alloc,
+        format!(in alloc; "{number:0>5}.proto")?,
+        text.as_str(),
+    )
+}
+
+fn ring(alloc: Global, count: u32) -> Result<Vec<NamedFacts>, AllocError> {
     let mut files = Vec::new(alloc);
     for number in 0..count {
-        let next = number.wrapping_add(1) % count.max(1);
-        let second = number.wrapping_add(2) % count.max(1);
-        let path = format!(in alloc; "{number:0>5}.proto")?;
-        let text = format!(in alloc;
-            "syntax = \"proto3\";\nimport \"{next:0>5}.proto\";\nimport \"{second:0>5}.proto\";\n"
-        )?;
-        files.push(named_facts(alloc, path, text.as_str())?)?;
+        files.push(ring_file(alloc, number, count)?)?;
     }
     Ok(files)
 }
 
 // How many imports of a file close cycles.
-fn closing_imports(graph: &Graph, files: &[NamedFacts], file: FileNo) -> anyhow::Result<u32>
+fn closing_imports(graph: &Graph, files: &[NamedFacts], file: FileNo) -> Result<u32, AllocError>
     requires graph { graph.now ≡ graph_of files.now }
     requires file { file < length files.now }
 {
@@ -160,36 +169,54 @@ fn closing_imports(graph: &Graph, files: &[NamedFacts], file: FileNo) -> anyhow:
     Ok(count)
 }
 
-// How many imports of a ring of files close cycles.
-fn ring_shown(alloc: Global, count: u32) -> anyhow::Result<String> {
-    let files = ring(alloc, count)?;
-    let files = files.as_slice();
+// How many imports of files close cycles.
+fn write_closing(alloc: Global, line: &mut String, files: &[NamedFacts]) -> Result<(), AllocError> {
     if !are_in_path_order(files) {
-        return Ok(String::from_str(alloc, "not in order")?);
+        return line.push_str("not in order");
     }
     let graph = Graph::of(alloc, files)?;
     let mut closing: u32 = 0;
     for file in 0..files.len() {
         closing = closing.wrapping_add(closing_imports(&graph, files, file)?);
     }
-    Ok(format!(in alloc; "{closing}")?)
+    write!(line, "{closing}")
+}
+
+// How many imports of a ring of files close cycles.
+fn write_ring(alloc: Global, line: &mut String, count: u32) -> Result<(), AllocError> {
+    let files = ring(alloc, count)?;
+    write_closing(alloc, line, files.as_slice())
+}
+
+fn write_alike(alloc: Global, line: &mut String, fields: &[&str]) -> Result<(), AllocError> {
+    let before = files_of(alloc, fields)?;
+    let mut after = files_of(alloc, fields)?;
+    change(alloc, &mut after, fields)?;
+    write_marks(alloc, line, before.as_slice(), after.as_slice())
 }
 
 // For each file `=` where its graphs before and after say the same of it, and else `!`.
-fn marks(alloc: Global, before: &[NamedFacts], after: &[NamedFacts]) -> anyhow::Result<String> {
-    let mut line = String::new(alloc);
+fn write_marks(
+    alloc: Global,
+    line: &mut String,
+    before: &[NamedFacts],
+    after: &[NamedFacts],
+) -> Result<(), AllocError> {
     if before.len() != after.len() || !are_in_path_order(before) || !are_in_path_order(after) {
-        return Ok(line);
+        return Ok(());
     }
     let old = Graph::of(alloc, before)?;
     let new = Graph::of(alloc, after)?;
     for file in 0..before.len() {
-        let mark = if same_outlook(&old, &new, file)? {
-            '='
-        } else {
-            '!'
-        };
-        line.push(mark)?;
+        line.push(mark(&old, &new, file)?)?;
     }
-    Ok(line)
+    Ok(())
+}
+
+fn mark(old: &Graph, new: &Graph, file: FileNo) -> Result<char, AllocError>
+    requires old { file < length old.now }
+    requires new { file < length new.now }
+{
+    let is_same = same_outlook(old, new, file)?;
+    Ok(if is_same { '=' } else { '!' })
 }

@@ -1,5 +1,6 @@
 // The laws of the libraries are calls that do nothing.
 use analysis_laws::{names_in_order, uses_in_order, uses_of_names};
+use case_notation::Answer;
 use facts_laws::{
     decls_in_order, names_are_identifiers, names_nest, one_list_in_order, one_value_of_facts,
     problems_in_order,
@@ -10,11 +11,12 @@ use std::alloc::Global;
 use syntax_laws::{identifiers_law, names_law, type_names_law};
 
 /// Calls the laws.
-pub fn answer(alloc: Global) -> anyhow::Result<String> {
+pub fn answer(alloc: Global, line: &mut String) -> Answer<()> {
     let none: Vec<NamedFacts> = Vec::new(alloc);
     laws_of_texts();
     laws_of_files(none.as_slice());
-    Ok(String::from_str(alloc, "laws")?)
+    line.push_str("laws")?;
+    Ok(())
 }
 
 fn laws_of_texts() {

@@ -2,112 +2,137 @@
 ghost use Rattle.std.specs.Prelude.{◌≡◌, ◌<◌, length, IfOk};
 
 use crate::fact_lists::facts_in;
-use crate::graphs::named_facts;
+use crate::graphs::{files_of, named_facts};
 use crate::places::{write_diagnostics, write_place};
 use crate::texts::tree_of;
-use anyhow::bail;
-use case_notation::{field, file_of};
+use case_notation::{Answer, Trouble, field, first_word, plain};
 use import_graph::{Graph, NamedFacts, are_in_path_order, same_outlook};
-use proto_facts::{FileFacts, Name};
-use proto_resolve::{Index, Links, Table, Target, resolve_file, same_exports, same_imports};
+use proto_facts::FileFacts;
+use proto_resolve::{
+    Index, Links, NameUse, Table, Target, resolve_file, same_exports, same_imports,
+};
 use std::alloc::{AllocError, Global};
 
-/// The answer to a call on the meaning of names.
-pub fn answer(alloc: Global, call: &str, fields: &[&str]) -> anyhow::Result<String> {
+/// Writes the answer to a call on the meaning of names.
+pub fn answer(alloc: Global, line: &mut String, call: &str, fields: &[&str]) -> Answer<()> {
     match call {
-        "outlines" => outlines(alloc, fields),
-        "replaced" => replaced(alloc, fields),
-        "set" => set(alloc, fields),
-        _ => all_links(alloc, fields),
+        "outlines" => Ok(write_outlines(alloc, line, fields)?),
+        "replaced" => write_replaced(alloc, line, fields),
+        "set" => write_set(alloc, line, fields),
+        _ => Ok(write_all_links(alloc, line, fields)?),
     }
 }
 
-// The uses with the numbers of their names and their targets, and the diagnostics.
-fn write_links(line: &mut String, text: &str, links: &Links) -> anyhow::Result<()> {
-    for name_use in links.uses.as_slice() {
-        line.push(' ')?;
-        write_place(line, text, name_use.span.start, name_use.span.end)?;
-        let number = name_use.name;
-        match &name_use.target {
-            Target::Package(name) => {
-                let name = name.as_str();
-                write!(line, "#{number}>package {name}")?;
-            }
-            Target::Declared(decl) => {
-                let file = decl.file;
-                let at = decl.number;
-                write!(line, "#{number}>{file}.{at}")?;
-            }
+// A use with the number of its name and its target.
+fn write_use(line: &mut String, text: &str, name_use: &NameUse) -> Result<(), AllocError> {
+    line.push(' ')?;
+    write_place(line, text, name_use.span.start, name_use.span.end)?;
+    let number = name_use.name;
+    match &name_use.target {
+        Target::Package(name) => {
+            let name = name.as_str();
+            write!(line, "#{number}>package {name}")
+        }
+        Target::Declared(decl) => {
+            let file = decl.file;
+            let at = decl.number;
+            write!(line, "#{number}>{file}.{at}")
         }
     }
-    write_diagnostics(line, text, links.diags.as_slice())
+}
+
+// The uses, and the diagnostics.
+fn write_links(line: &mut String, text: &str, links: &Links) -> Result<(), AllocError> {
+    for name_use in links.uses.as_slice() {
+        write_use(line, text, name_use)?;
+    }
+    write_diagnostics(line, text, links.diags.as_slice())?;
+    line.push(';')
+}
+
+// What the names of a text mean, that of a file of a table.
+fn write_file(
+    alloc: Global,
+    line: &mut String,
+    table: &Table,
+    file: usize,
+    text: &str,
+) -> Result<(), AllocError>
+    requires { file < length table.now }
+{
+    let tree = tree_of(alloc, text)?;
+    let links = resolve_file(alloc, table, file, text, &tree)?;
+    write_links(line, text, &links)
+}
+
+fn write_table(
+    alloc: Global,
+    line: &mut String,
+    table: &Table,
+    fields: &[&str],
+) -> Result<(), AllocError> {
+    for (number, field) in fields.iter().enumerate() {
+        if number < table.len() {
+            let (_, text) = first_word(field);
+            write_file(alloc, line, table, number, plain(alloc, text)?.as_str())?;
+        }
+    }
+    Ok(())
 }
 
 // Files, which come in the order of their paths: what their names mean, a part for each file.
-fn all_links(alloc: Global, fields: &[&str]) -> anyhow::Result<String> {
-    let mut files = Vec::new(alloc);
-    let mut texts = Vec::new(alloc);
-    for field in fields {
-        let (path, text) = file_of(alloc, field)?;
-        files.push(named_facts(alloc, path, text.as_str())?)?;
-        texts.push(text)?;
-    }
+fn write_all_links(alloc: Global, line: &mut String, fields: &[&str]) -> Result<(), AllocError> {
+    let files = files_of(alloc, fields)?;
     if !are_in_path_order(files.as_slice()) {
-        return Ok(String::from_str(alloc, "not in order")?);
+        return line.push_str("not in order");
     }
-    let table = Table::of(alloc, files)?;
-    let mut line = String::new(alloc);
-    for (number, text) in texts.iter().enumerate() {
-        if number < table.len() {
-            let tree = tree_of(alloc, text.as_str())?;
-            let links = resolve_file(alloc, &table, number, text.as_str(), &tree)?;
-            write_links(&mut line, text.as_str(), &links)?;
-            line.push(';')?;
-        }
-    }
-    Ok(line)
+    write_table(alloc, line, &Table::of(alloc, files)?, fields)
 }
 
 // Whether two texts say the same to the files that see them, and of imports.
-fn outlines(alloc: Global, fields: &[&str]) -> anyhow::Result<String> {
+fn write_outlines(alloc: Global, line: &mut String, fields: &[&str]) -> Result<(), AllocError> {
     let first = facts_in(alloc, field(fields, 0))?;
     let other = facts_in(alloc, field(fields, 1))?;
     let tells = same_exports(&first, &other);
     let imports = same_imports(&first, &other);
-    Ok(format!(in alloc; "{tells} {imports}")?)
+    write!(line, "{tells} {imports}")
 }
 
-// The table of one file, at `a.proto`.
-fn alone(alloc: Global, field: &str) -> anyhow::Result<Table>
+// The only file, at `a.proto`.
+fn only_file(alloc: Global, field: &str) -> Result<Vec<NamedFacts>, AllocError> {
+    let path = String::from_str(alloc, "a.proto")?;
+    let mut files = Vec::new(alloc);
+    files.push(named_facts(alloc, path, plain(alloc, field)?.as_str())?)?;
+    Ok(files)
+}
+
+// The table of one file.
+fn alone(alloc: Global, field: &str) -> Answer<Table>
     ensures { IfOk result (λ table. length table ≡ 1) }
 {
-    let path = Name::of(String::from_str(alloc, "a.proto")?);
-    let facts = facts_in(alloc, field)?;
-    let mut files = Vec::new(alloc);
-    files.push(NamedFacts { path, facts })?;
+    let files = only_file(alloc, field)?;
     if !are_in_path_order(files.as_slice()) {
-        bail!("not in order");
+        return Err(Trouble::Unknown("not in order"));
     }
     let table = Table::of(alloc, files)?;
     if table.len() != 1 {
-        bail!("not one file");
+        return Err(Trouble::Unknown("not one file"));
     }
     Ok(table)
 }
 
 // Where the names of declarations start.
-fn write_decls(line: &mut String, found: &FileFacts) -> anyhow::Result<()> {
+fn write_decls(line: &mut String, found: &FileFacts) -> Result<(), AllocError> {
     for decl in found.decls.as_slice() {
         let start = decl.name_span.start;
         write!(line, ", declared at {start}")?;
     }
     let imports = found.imports.as_slice().len();
-    write!(line, ", imports {imports}")?;
-    Ok(())
+    write!(line, ", imports {imports}")
 }
 
 // How many declarations have each of these names.
-fn write_named(line: &mut String, table: &Table, names: &[&str]) -> anyhow::Result<()> {
+fn write_named(line: &mut String, table: &Table, names: &[&str]) -> Result<(), AllocError> {
     for name in names.iter().skip(2) {
         let count = table.named(name).len();
         write!(line, ", {name} {count}")?;
@@ -117,44 +142,46 @@ fn write_named(line: &mut String, table: &Table, names: &[&str]) -> anyhow::Resu
 
 // Two texts of the only file: what the table says of these names once the second one's facts are in the place of the
 // first one's, whether the file is closed then and was before, and whether its graphs look alike.
-fn replaced(alloc: Global, fields: &[&str]) -> anyhow::Result<String> {
+fn write_replaced(alloc: Global, line: &mut String, fields: &[&str]) -> Answer<()> {
     let table = alone(alloc, field(fields, 0))?;
     let other = facts_in(alloc, field(fields, 1))?;
     let (table, before) = table.replace_facts(alloc, 0, other)?;
-    let mut line = String::new(alloc);
     if table.len() == 1 {
-        write_graphs(&mut line, &before, table.graph())?;
-        write_decls(&mut line, table.facts(0))?;
+        write_graphs(line, &before, table.graph())?;
     }
-    write_named(&mut line, &table, fields)?;
-    Ok(line)
+    write_replacement(line, &table, fields)?;
+    Ok(())
 }
 
-fn write_graphs(line: &mut String, before: &Graph, after: &Graph) -> anyhow::Result<()>
+fn write_replacement(line: &mut String, table: &Table, fields: &[&str]) -> Result<(), AllocError> {
+    if table.len() == 1 {
+        write_decls(line, table.facts(0))?;
+    }
+    write_named(line, table, fields)
+}
+
+fn write_graphs(line: &mut String, before: &Graph, after: &Graph) -> Result<(), AllocError>
     requires before { 0 < length before.now }
     requires after { 0 < length after.now }
 {
     let closed = after.is_closed(0)?;
     let closed_before = before.is_closed(0)?;
     let alike = same_outlook(before, after, 0)?;
-    Ok(write!(
+    write!(
         line,
         "closed {closed}, before {closed_before}, alike {alike}"
-    )?)
+    )
 }
 
 // The same, where the second text says the same to the other files and of imports: its facts are set.
-fn set(alloc: Global, fields: &[&str]) -> anyhow::Result<String> {
+fn write_set(alloc: Global, line: &mut String, fields: &[&str]) -> Answer<()> {
     let mut table = alone(alloc, field(fields, 0))?;
     let other = facts_in(alloc, field(fields, 1))?;
     if !same_exports(&other, table.facts(0)) || !same_imports(&other, table.facts(0)) {
-        bail!("not alike");
+        return Err(Trouble::Unknown("not alike"));
     }
     table.set_facts(0, other);
-    let mut line = String::from_str(alloc, "set")?;
-    if table.len() == 1 {
-        write_decls(&mut line, table.facts(0))?;
-    }
-    write_named(&mut line, &table, fields)?;
-    Ok(line)
+    line.push_str("set")?;
+    write_replacement(line, &table, fields)?;
+    Ok(())
 }

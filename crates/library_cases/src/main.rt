@@ -17,16 +17,16 @@ mod statements;
 mod texts;
 mod uris;
 
-use case_notation::{Names, behind, fields_of};
+use case_notation::{Answer, Names, behind, fields_of};
 use std::alloc::Global;
 use std::io::{self, BufRead, BufReader};
 
-// The answer to a call on some fields.
-fn answer(alloc: Global, call: &str, fields: &[&str]) -> anyhow::Result<String> {
+// Writes the answer to a call on some fields.
+fn answer(alloc: Global, line: &mut String, call: &str, fields: &[&str]) -> Answer<()> {
     match call {
-        "laws" => laws::answer(alloc),
+        "laws" => laws::answer(alloc, line),
         "tokens" | "token size" | "faults" | "statements" | "depth" => texts::answer(
-            alloc, call, fields,
+            alloc, line, call, fields,
         ),
         "problems"
         | "facts"
@@ -35,49 +35,72 @@ fn answer(alloc: Global, call: &str, fields: &[&str]) -> anyhow::Result<String> 
         | "long text"
         | "joined"
         | "part"
-        | "copied name" => { fact_lists::answer(alloc, call, fields) }
-        "graph" | "alike" | "ring" => graphs::answer(alloc, call, fields),
-        "links" | "outlines" | "replaced" | "set" => links::answer(alloc, call, fields),
-        "board" | "piece" | "refused piece" => boards::answer(alloc, call, fields),
-        "analysis" => analyses::answer(alloc, fields),
-        "again" => changes::answer(alloc, fields),
-        "offsets" | "positions" | "edits" => documents::answer(alloc, call, fields),
-        "path" | "uri" | "root" | "escaped" | "workspace path" => uris::answer(alloc, call, fields),
-        "message" | "message of bytes" | "opened" | "document" | "version" | "changes" => {
-            messages::answer(alloc, call, fields)
+        | "copied name" => { fact_lists::answer(alloc, line, call, fields) }
+        "graph" | "alike" | "ring" => graphs::answer(alloc, line, call, fields),
+        "links" | "outlines" | "replaced" | "set" => links::answer(alloc, line, call, fields),
+        "board" | "piece" | "refused piece" => boards::answer(alloc, line, call, fields),
+        "analysis" => analyses::answer(alloc, line, fields),
+        "again" => changes::answer(alloc, line, fields),
+        "offsets" | "positions" | "edits" => documents::answer(alloc, line, call, fields),
+        "path" | "uri" | "root" | "escaped" | "workspace path" => {
+            uris::answer(alloc, line, call, fields)
         }
-        _ => replies::answer(alloc, call, fields),
+        "message" | "message of bytes" | "opened" | "document" | "version" | "changes" => {
+            messages::answer(alloc, line, call, fields)
+        }
+        _ => replies::answer(alloc, line, call, fields),
     }
 }
 
-// The answer to a line. A remark and an empty line are answered by themselves, and a line that can't be read by what is wrong.
-fn answer_line(alloc: Global, names: &mut Names, line: &str) -> anyhow::Result<String> {
-    if line.is_empty() || line.starts_with('#') {
-        return Ok(String::from_str(alloc, line)?);
-    }
-    let line = names.expanded(line)?;
-    let fields = fields_of(alloc, line.as_str())?;
-    let Some((call, fields)) = fields.as_slice().split_first() else {
-        return Ok(String::new(alloc));
+// Writes the answer to a line that is written out, or gives a piece a name.
+fn answer_fields(
+    alloc: Global,
+    names: &mut Names,
+    line: &mut String,
+    given: &str,
+    fields: &[&str],
+) -> Answer<()> {
+    let Some((call, rest)) = fields.split_first() else {
+        return Ok(());
     };
-    if let Some(name) = call.strip_prefix("let ") {
-        names.add(name, behind(line.as_str()))?;
-        return Ok(format!(in alloc; "let {name}")?);
+    let Some(name) = call.strip_prefix("let ") else {
+        return answer(alloc, line, call, rest);
+    };
+    names.add(name, behind(given))?;
+    Ok(write!(line, "let {name}")?)
+}
+
+fn answer_whole(alloc: Global, names: &mut Names, line: &mut String, given: &str) -> Answer<()> {
+    let fields = fields_of(alloc, given)?;
+    answer_fields(alloc, names, line, given, fields.as_slice())
+}
+
+// Writes the answer to a line. A remark and an empty line are answered by themselves.
+fn answer_line(alloc: Global, names: &mut Names, line: &mut String, given: &str) -> Answer<()> {
+    if given.is_empty() || given.starts_with('#') {
+        return Ok(line.push_str(given)?);
     }
-    answer(alloc, call, fields)
+    let whole = names.expanded(given)?;
+    answer_whole(alloc, names, line, whole.as_str())
+}
+
+// The answer to a line, and to one that can't be read what is wrong.
+fn print_answer<R: Print>(rt: &R, alloc: Global, names: &mut Names, given: &str) -> io::Result<()> {
+    let mut line = String::new(alloc);
+    match answer_line(alloc, names, &mut line, given) {
+        Ok(()) => {
+            let answer = line.as_str().trim_end();
+            println!(rt; "{answer}")
+        }
+        Err(trouble) => println!(rt; "error: {trouble}"),
+    }
 }
 
 fn main(rt: HostRuntime) -> io::Result<()> {
     let alloc = rt.alloc();
     let mut names = Names::new(alloc);
     for line in BufReader::new(alloc, rt.reader())?.lines(alloc) {
-        match answer_line(alloc, &mut names, line?.as_str()) {
-            Ok(answer) => {
-                let answer = answer.as_str().trim_end();
-                println!(rt; "{answer}")?;
-            }
-            Err(error) => println!(rt; "error: {error}")?,
-        }
+        print_answer(&rt, alloc, &mut names, line?.as_str())?;
     }
     Ok(())
 }

@@ -1,33 +1,24 @@
 // Messages of an editor.
-use case_notation::{field, plain, shown};
-use doc_text::Range;
+use case_notation::{Answer, field, plain, push_shown};
+use doc_text::{Change, Range};
 use lsp_rpc::{DidChangeParams, DidOpenParams, Message, document_uri};
 use serde_json::Value;
 use std::alloc::{AllocError, Global};
 
-/// The answer to a call on a message or on params.
-pub fn answer(alloc: Global, call: &str, fields: &[&str]) -> anyhow::Result<String> {
+/// Writes the answer to a call on a message or on params.
+pub fn answer(alloc: Global, line: &mut String, call: &str, fields: &[&str]) -> Answer<()> {
     let text = plain(alloc, field(fields, 0))?;
     let text = text.as_str();
-    match call {
-        "message" => Ok(message(alloc, text.as_bytes())?),
-        "message of bytes" => Ok(message(alloc, bytes(alloc, text)?.as_slice())?),
-        "opened" => opened(alloc, text),
-        "changes" => changes(alloc, text),
-        _ => {
-            let Ok(params) = Value::from_str(alloc, text) else {
-                return Ok(String::from_str(alloc, "no JSON")?);
-            };
-            Ok(match call {
-                "document" => document(alloc, &params)?,
-                _ => version(alloc, params)?,
-            })
-        }
-    }
+    Ok(match call {
+        "message" => write_message(line, Message::parse(alloc, text.as_bytes())?)?,
+        "message of bytes" => write_message_of_bytes(alloc, line, text)?,
+        "opened" => write_opened(alloc, line, text)?,
+        _ => write_params(alloc, line, call, text)?,
+    })
 }
 
 // The bytes with these numbers.
-fn bytes(alloc: Global, words: &str) -> anyhow::Result<Vec<u8>> {
+fn bytes(alloc: Global, words: &str) -> Answer<Vec<u8>> {
     let mut bytes = Vec::new(alloc);
     for word in words.split(' ') {
         bytes.push(word.parse::<u8>()?)?;
@@ -35,68 +26,110 @@ fn bytes(alloc: Global, words: &str) -> anyhow::Result<Vec<u8>> {
     Ok(bytes)
 }
 
+fn write_message_of_bytes(alloc: Global, line: &mut String, words: &str) -> Answer<()> {
+    let bytes = bytes(alloc, words)?;
+    write_message(line, Message::parse(alloc, bytes.as_slice())?)?;
+    Ok(())
+}
+
 // What a message is, without its params.
-fn message(alloc: Global, body: &[u8]) -> Result<String, AllocError> {
-    match Message::parse(alloc, body)? {
-        Message::ParseError => String::from_str(alloc, "parse error"),
-        Message::InvalidRequest { id } => format!(in alloc; "invalid {id:?}"),
-        Message::Response => String::from_str(alloc, "response"),
-        Message::Request { id, method, .. } => format!(in alloc; "request {id:?} {method:?}"),
-        Message::Notification { method, .. } => format!(in alloc; "notification {method:?}"),
-    }
-}
-
-fn document(alloc: Global, params: &Value) -> Result<String, AllocError> {
-    String::from_str(alloc, document_uri(params).unwrap_or("none"))
-}
-
-fn version(alloc: Global, params: Value) -> Result<String, AllocError> {
-    match DidOpenParams::from_value(params) {
-        None => String::from_str(alloc, "none"),
-        Some(opened) => {
-            let version = opened.version;
-            format!(in alloc; "{version}")
-        }
+fn write_message(line: &mut String, message: Message) -> Result<(), AllocError> {
+    match message {
+        Message::ParseError => line.push_str("parse error"),
+        Message::InvalidRequest { id } => write!(line, "invalid {id:?}"),
+        Message::Response => line.push_str("response"),
+        Message::Request { id, method, .. } => write!(line, "request {id:?} {method:?}"),
+        Message::Notification { method, .. } => write!(line, "notification {method:?}"),
     }
 }
 
 // The length of the notification's body, the URI of its params, and the document that they open.
-fn opened(alloc: Global, body: &str) -> anyhow::Result<String> {
-    let length = body.len();
-    let Message::Notification { params, .. } = Message::parse(alloc, body.as_bytes())? else {
-        return Ok(String::from_str(alloc, "no notification")?);
-    };
-    let of = document(alloc, &params)?;
-    let Some(opened) = DidOpenParams::from_value(params) else {
-        return Ok(String::from_str(alloc, "no document")?);
-    };
-    let uri = opened.uri;
-    let version = opened.version;
-    let text = shown(alloc, opened.text.as_str())?;
-    Ok(format!(in alloc; "{length} {of} {uri} {version} {text}")?)
+fn write_opened(alloc: Global, line: &mut String, body: &str) -> Result<(), AllocError> {
+    match Message::parse(alloc, body.as_bytes())? {
+        Message::Notification { params, .. } => {
+            let length = body.len();
+            let uri = document_uri(&params).unwrap_or("none");
+            write!(line, "{length} {uri} ")?;
+            write_document(line, params)
+        }
+        _ => line.push_str("no notification"),
+    }
 }
 
-// The URI, the version, and each change as its range and its text.
-fn changes(alloc: Global, params: &str) -> anyhow::Result<String> {
-    let Ok(params) = Value::from_slice(alloc, params.as_bytes()) else {
-        return Ok(String::from_str(alloc, "no JSON")?);
-    };
-    let Some(changed) = DidChangeParams::from_value(alloc, params)? else {
-        return Ok(String::from_str(alloc, "none")?);
-    };
-    let uri = changed.document.uri.as_str();
-    let version = changed.document.version;
-    let mut line = format!(in alloc; "{uri} {version}")?;
-    for change in &changed.changes {
-        let text = change.text.as_str();
-        match change.range {
-            Some(Range { start, end }) => write!(
-                line,
-                " {}:{}-{}:{} {text}",
-                start.line, start.character, end.line, end.character
-            )?,
-            None => write!(line, " all {text}")?,
+fn write_document(line: &mut String, params: Value) -> Result<(), AllocError> {
+    match DidOpenParams::from_value(params) {
+        None => line.push_str("no document"),
+        Some(opened) => {
+            let uri = opened.uri.as_str();
+            let version = opened.version;
+            write!(line, "{uri} {version} ")?;
+            push_shown(line, opened.text.as_str())
         }
     }
-    Ok(line)
+}
+
+fn write_params(
+    alloc: Global,
+    line: &mut String,
+    call: &str,
+    text: &str,
+) -> Result<(), AllocError> {
+    match Value::from_str(alloc, text) {
+        Err(_) => line.push_str("no JSON"),
+        Ok(params) => write_value(alloc, line, call, params),
+    }
+}
+
+fn write_value(
+    alloc: Global,
+    line: &mut String,
+    call: &str,
+    params: Value,
+) -> Result<(), AllocError> {
+    match call {
+        "document" => line.push_str(document_uri(&params).unwrap_or("none")),
+        "changes" => write_changes(alloc, line, params),
+        _ => write_version(line, params),
+    }
+}
+
+fn write_version(line: &mut String, params: Value) -> Result<(), AllocError> {
+    match DidOpenParams::from_value(params) {
+        None => line.push_str("none"),
+        Some(opened) => {
+            let version = opened.version;
+            write!(line, "{version}")
+        }
+    }
+}
+
+// The URI, the version, and each change.
+fn write_changes(alloc: Global, line: &mut String, params: Value) -> Result<(), AllocError> {
+    match DidChangeParams::from_value(alloc, params)? {
+        None => line.push_str("none"),
+        Some(changed) => write_changed(line, &changed),
+    }
+}
+
+fn write_changed(line: &mut String, changed: &DidChangeParams) -> Result<(), AllocError> {
+    let uri = changed.document.uri.as_str();
+    let version = changed.document.version;
+    write!(line, "{uri} {version}")?;
+    for change in &changed.changes {
+        write_change(line, change)?;
+    }
+    Ok(())
+}
+
+// A change as its range and its text.
+fn write_change(line: &mut String, change: &Change) -> Result<(), AllocError> {
+    let text = change.text.as_str();
+    match change.range {
+        Some(Range { start, end }) => write!(
+            line,
+            " {}:{}-{}:{} {text}",
+            start.line, start.character, end.line, end.character
+        ),
+        None => write!(line, " all {text}"),
+    }
 }

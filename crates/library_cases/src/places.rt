@@ -1,5 +1,6 @@
 // Places in texts, and diagnostics.
 use proto_facts::Diag;
+use std::alloc::AllocError;
 
 // Line and column of an offset, from 0.
 fn place(text: &str, offset: usize) -> (u32, u32) {
@@ -17,10 +18,15 @@ fn place(text: &str, offset: usize) -> (u32, u32) {
 }
 
 /// Writes a place: the line of its start, and the columns of its start and its end.
-pub fn write_place(line: &mut String, text: &str, start: usize, end: usize) -> anyhow::Result<()> {
+pub fn write_place(
+    line: &mut String,
+    text: &str,
+    start: usize,
+    end: usize,
+) -> Result<(), AllocError> {
     let (row, from) = place(text, start);
     let (_, to) = place(text, end);
-    Ok(write!(line, "{row}:{from}-{to}")?)
+    write!(line, "{row}:{from}-{to}")
 }
 
 /// Writes diagnostics, each with a space before it: its place and its number.
@@ -28,7 +34,7 @@ pub fn write_diagnostics(
     line: &mut String,
     text: &str,
     diagnostics: &[Diag],
-) -> anyhow::Result<()> {
+) -> Result<(), AllocError> {
     for diag in diagnostics {
         line.push(' ')?;
         write_place(line, text, diag.start, diag.end)?;

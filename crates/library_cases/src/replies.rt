@@ -1,31 +1,48 @@
 // Replies to an editor: the length and the bytes of their bodies.
-use anyhow::bail;
-use case_notation::{field, first_word, plain, shown};
+use case_notation::{Answer, Trouble, field, first_word, plain, push_shown};
 use doc_text::{Position, Range};
 use lsp_rpc::{
     Diagnostic, ErrorCode, Id, Severity, error_reply, initialize_reply, null_reply, report_reply,
 };
 use std::alloc::Global;
 
-/// The answer to a call that writes a reply. The first field is the id: a number, or a text between quotes.
-pub fn answer(alloc: Global, call: &str, fields: &[&str]) -> anyhow::Result<String> {
-    let id = id(alloc, field(fields, 0))?;
-    let body = match (call, id) {
-        ("error reply", id) => error_reply(alloc, id.as_ref(), error_code(field(fields, 1))?)?,
-        ("initialize reply", Some(id)) => initialize_reply(alloc, &id)?,
-        ("null reply", Some(id)) => null_reply(alloc, &id)?,
-        ("report reply", Some(id)) => report(alloc, &id, fields)?,
-        _ => bail!("no such call"),
-    };
-    let length = body.len();
-    let Ok(text) = str::from_utf8(body.as_slice()) else {
-        bail!("no UTF-8");
-    };
-    let text = shown(alloc, text)?;
-    Ok(format!(in alloc; "{length} {text}")?)
+/// Writes the answer to a call that writes a reply. The first field is the id: a number, or a text between quotes.
+pub fn answer(alloc: Global, line: &mut String, call: &str, fields: &[&str]) -> Answer<()> {
+    let body = body(alloc, call, fields)?;
+    write_body(line, body.as_slice())
 }
 
-fn id(alloc: Global, field: &str) -> anyhow::Result<Option<Id>> {
+fn body(alloc: Global, call: &str, fields: &[&str]) -> Answer<Vec<u8>> {
+    match id(alloc, field(fields, 0))? {
+        None => error(alloc, None, field(fields, 1)),
+        Some(id) => reply(alloc, call, &id, fields),
+    }
+}
+
+fn error(alloc: Global, id: Option<&Id>, words: &str) -> Answer<Vec<u8>> {
+    Ok(error_reply(alloc, id, error_code(words)?)?)
+}
+
+fn reply(alloc: Global, call: &str, id: &Id, fields: &[&str]) -> Answer<Vec<u8>> {
+    match call {
+        "error reply" => error(alloc, Some(id), field(fields, 1)),
+        "initialize reply" => Ok(initialize_reply(alloc, id)?),
+        "null reply" => Ok(null_reply(alloc, id)?),
+        "report reply" => report(alloc, id, fields),
+        _ => Err(Trouble::Unknown("no such call")),
+    }
+}
+
+fn write_body(line: &mut String, body: &[u8]) -> Answer<()> {
+    let length = body.len();
+    write!(line, "{length} ")?;
+    match str::from_utf8(body) {
+        Ok(text) => Ok(push_shown(line, text)?),
+        Err(_) => Err(Trouble::Unknown("no UTF-8")),
+    }
+}
+
+fn id(alloc: Global, field: &str) -> Answer<Option<Id>> {
     if field == "null" {
         return Ok(None);
     }
@@ -35,19 +52,19 @@ fn id(alloc: Global, field: &str) -> anyhow::Result<Option<Id>> {
     }
 }
 
-fn error_code(words: &str) -> anyhow::Result<ErrorCode> {
+fn error_code(words: &str) -> Answer<ErrorCode> {
     Ok(match words {
         "parse error" => ErrorCode::ParseError,
         "invalid request" => ErrorCode::InvalidRequest,
         "method not found" => ErrorCode::MethodNotFound,
         "invalid params" => ErrorCode::InvalidParams,
         "server not initialized" => ErrorCode::ServerNotInitialized,
-        _ => bail!("no such error"),
+        _ => return Err(Trouble::Unknown("no such error")),
     })
 }
 
 // A diagnostic of the first character of the second line: `error` or `information`, its number and its words.
-fn diagnostic(field: &str) -> anyhow::Result<Diagnostic<'_>> {
+fn diagnostic(field: &str) -> Answer<Diagnostic<'_>> {
     let (severity, rest) = first_word(field);
     let (code, message) = first_word(rest);
     Ok(Diagnostic {
@@ -71,7 +88,7 @@ fn diagnostic(field: &str) -> anyhow::Result<Diagnostic<'_>> {
     })
 }
 
-fn report(alloc: Global, id: &Id, fields: &[&str]) -> anyhow::Result<Vec<u8>> {
+fn report(alloc: Global, id: &Id, fields: &[&str]) -> Answer<Vec<u8>> {
     let mut diagnostics = Vec::new(alloc);
     for field in fields.iter().skip(1) {
         diagnostics.push(diagnostic(field)?)?;

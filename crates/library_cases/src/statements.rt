@@ -2,13 +2,19 @@
 use proto_syntax::{
     Items, Literal, Node, Number, RangeEnd, ReservedList, ReservedRange, Span, TypeName,
 };
+use std::alloc::AllocError;
 
 // The text of a span.
 fn of(text: &str, span: Span) -> &str {
     text.get(span.start..span.end).unwrap_or("?")
 }
 
-fn write_spans(line: &mut String, text: &str, spans: &[Span], before: &str) -> anyhow::Result<()> {
+fn write_spans(
+    line: &mut String,
+    text: &str,
+    spans: &[Span],
+    before: &str,
+) -> Result<(), AllocError> {
     for span in spans {
         line.push_str(before)?;
         line.push_str(of(text, *span))?;
@@ -16,7 +22,7 @@ fn write_spans(line: &mut String, text: &str, spans: &[Span], before: &str) -> a
     Ok(())
 }
 
-fn write_type(line: &mut String, text: &str, name: &TypeName) -> anyhow::Result<()> {
+fn write_type(line: &mut String, text: &str, name: &TypeName) -> Result<(), AllocError> {
     let whole = of(text, name.span);
     write!(line, " type {whole}")?;
     if name.is_absolute {
@@ -25,15 +31,14 @@ fn write_type(line: &mut String, text: &str, name: &TypeName) -> anyhow::Result<
     write_spans(line, text, name.components.as_slice(), "/")
 }
 
-fn write_number(line: &mut String, text: &str, number: Number) -> anyhow::Result<()> {
+fn write_number(line: &mut String, text: &str, number: Number) -> Result<(), AllocError> {
     let whole = of(text, number.span);
     let digits = of(text, number.digits);
     let negative = number.is_negative;
-    write!(line, " {whole} {digits} {negative}")?;
-    Ok(())
+    write!(line, " {whole} {digits} {negative}")
 }
 
-fn write_range(line: &mut String, text: &str, range: ReservedRange) -> anyhow::Result<()> {
+fn write_range(line: &mut String, text: &str, range: ReservedRange) -> Result<(), AllocError> {
     write_number(line, text, range.low)?;
     match range.high {
         RangeEnd::Same => Ok(()),
@@ -43,18 +48,18 @@ fn write_range(line: &mut String, text: &str, range: ReservedRange) -> anyhow::R
         }
         RangeEnd::Max(span) => {
             line.push_str(" to ")?;
-            Ok(line.push_str(of(text, span))?)
+            line.push_str(of(text, span))
         }
     }
 }
 
-fn write_literal(line: &mut String, text: &str, literal: &Literal) -> anyhow::Result<()> {
+fn write_literal(line: &mut String, text: &str, literal: &Literal) -> Result<(), AllocError> {
     let whole = of(text, literal.span);
     write!(line, " {whole}")?;
     write_spans(line, text, literal.parts.as_slice(), "+")
 }
 
-fn write_list(line: &mut String, text: &str, list: &ReservedList) -> anyhow::Result<()> {
+fn write_list(line: &mut String, text: &str, list: &ReservedList) -> Result<(), AllocError> {
     match list {
         ReservedList::Ranges(ranges) => {
             for range in ranges.as_slice() {
@@ -76,15 +81,14 @@ fn write_block(
     form: &str,
     name: Span,
     items: &Items<Node>,
-) -> anyhow::Result<()> {
+) -> Result<(), AllocError> {
     let name = of(text, name);
     let count = items.len();
-    write!(line, "{form} {name} {count}")?;
-    Ok(())
+    write!(line, "{form} {name} {count}")
 }
 
 /// Writes a statement in words, without those inside it.
-pub fn write_node(line: &mut String, text: &str, node: &Node) -> anyhow::Result<()> {
+pub fn write_node(line: &mut String, text: &str, node: &Node) -> Result<(), AllocError> {
     match node {
         Node::Message { name, items, .. } => write_block(line, text, "message", *name, items),
         Node::EnumDef { name, items, .. } => write_block(line, text, "enum", *name, items),
@@ -110,7 +114,7 @@ pub fn write_node(line: &mut String, text: &str, node: &Node) -> anyhow::Result<
             line.push_str(of(text, field.name))?;
             write_spans(line, text, field.labels.as_slice(), " ")?;
             write_type(line, text, &field.type_name)?;
-            Ok(write_spans(line, text, &[field.number], " = ")?)
+            write_spans(line, text, &[field.number], " = ")
         }
         Node::MapField(map) => {
             line.push_str("map ")?;
@@ -156,7 +160,7 @@ pub fn write_node(line: &mut String, text: &str, node: &Node) -> anyhow::Result<
             line.push_str("syntax")?;
             write_literal(line, text, value)
         }
-        Node::Empty { .. } => Ok(line.push_str("empty")?),
+        Node::Empty { .. } => line.push_str("empty"),
     }
 }
 

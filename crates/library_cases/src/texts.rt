@@ -1,21 +1,45 @@
 // Tokens and trees of texts.
 use crate::places::write_place;
 use crate::statements::{inner, write_node};
-use case_notation::{field, plain};
+use case_notation::{Answer, field, plain};
 use proto_lex::{Token, lex};
-use proto_syntax::{FileTree, SyntaxProblem, parse};
+use proto_syntax::{Fault, FileTree, Node, SyntaxProblem, parse};
 use std::alloc::{AllocError, Global};
 use std::mem::size_of;
 
-/// The answer to a call on a text.
-pub fn answer(alloc: Global, call: &str, fields: &[&str]) -> anyhow::Result<String> {
+/// Writes the answer to a call on a text.
+pub fn answer(alloc: Global, line: &mut String, call: &str, fields: &[&str]) -> Answer<()> {
     let text = plain(alloc, field(fields, 0))?;
+    write_answer(alloc, line, call, text.as_str())?;
+    Ok(())
+}
+
+fn write_answer(
+    alloc: Global,
+    line: &mut String,
+    call: &str,
+    text: &str,
+) -> Result<(), AllocError> {
     match call {
-        "tokens" => tokens(alloc, text.as_str()),
-        "token size" => is_token_small(alloc),
-        "faults" => faults(alloc, text.as_str()),
-        "depth" => depth(alloc, text.as_str()),
-        _ => statements(alloc, text.as_str()),
+        "tokens" => write_tokens(line, lex(alloc, text)?.as_slice()),
+        "token size" => {
+            let is_small = size_of::<Token>() <= 24;
+            write!(line, "{is_small}")
+        }
+        _ => write_tree(line, call, text, &tree_of(alloc, text)?),
+    }
+}
+
+fn write_tree(
+    line: &mut String,
+    call: &str,
+    text: &str,
+    tree: &FileTree,
+) -> Result<(), AllocError> {
+    match call {
+        "faults" => write_faults(line, text, tree.faults.as_slice()),
+        "depth" => write_depth(line, tree.nodes.as_slice()),
+        _ => write_statements(line, text, tree.nodes.as_slice()),
     }
 }
 
@@ -25,21 +49,15 @@ pub fn tree_of(alloc: Global, text: &str) -> Result<FileTree, AllocError> {
     parse(alloc, text, tokens.as_slice())
 }
 
-fn is_token_small(alloc: Global) -> anyhow::Result<String> {
-    let is_small = size_of::<Token>() <= 24;
-    Ok(format!(in alloc; "{is_small}")?)
-}
-
 // A kind and the offsets of each token.
-fn tokens(alloc: Global, text: &str) -> anyhow::Result<String> {
-    let mut line = String::new(alloc);
-    for token in &lex(alloc, text)? {
+fn write_tokens(line: &mut String, tokens: &[Token]) -> Result<(), AllocError> {
+    for token in tokens {
         let kind = token.kind;
         let start = token.start;
         let end = token.end;
         write!(line, "{kind:?} {start}-{end}, ")?;
     }
-    Ok(line)
+    Ok(())
 }
 
 fn code(problem: SyntaxProblem) -> u32 {
@@ -52,36 +70,34 @@ fn code(problem: SyntaxProblem) -> u32 {
 }
 
 // The place and the number of each fault.
-fn faults(alloc: Global, text: &str) -> anyhow::Result<String> {
-    let mut line = String::new(alloc);
-    let tree = tree_of(alloc, text)?;
-    for fault in tree.faults.as_slice() {
+fn write_faults(line: &mut String, text: &str, faults: &[Fault]) -> Result<(), AllocError> {
+    for fault in faults {
         let code = code(fault.problem);
-        write_place(&mut line, text, fault.span.start, fault.span.end)?;
+        write_place(line, text, fault.span.start, fault.span.end)?;
         write!(line, " {code}, ")?;
     }
-    Ok(line)
+    Ok(())
+}
+
+fn write_statement(line: &mut String, text: &str, node: &Node) -> Result<(), AllocError> {
+    write_node(line, text, node)?;
+    line.push_str("; ")
 }
 
 // The statements at top level and those one level below, each in words.
-fn statements(alloc: Global, text: &str) -> anyhow::Result<String> {
-    let mut line = String::new(alloc);
-    let tree = tree_of(alloc, text)?;
-    for node in tree.nodes.as_slice() {
-        write_node(&mut line, text, node)?;
-        line.push_str("; ")?;
+fn write_statements(line: &mut String, text: &str, nodes: &[Node]) -> Result<(), AllocError> {
+    for node in nodes {
+        write_statement(line, text, node)?;
         for below in inner(node) {
-            write_node(&mut line, text, below)?;
-            line.push_str("; ")?;
+            write_statement(line, text, below)?;
         }
     }
-    Ok(line)
+    Ok(())
 }
 
 // How many blocks stand one inside the other, where each is the last of its body.
-fn depth(alloc: Global, text: &str) -> anyhow::Result<String> {
-    let tree = tree_of(alloc, text)?;
-    let mut nodes = tree.nodes.as_slice();
+fn write_depth(line: &mut String, nodes: &[Node]) -> Result<(), AllocError> {
+    let mut nodes = nodes;
     let mut blocks = 0u32;
     for _ in 0..100 {
         if let Some(node) = nodes.last() {
@@ -89,5 +105,5 @@ fn depth(alloc: Global, text: &str) -> anyhow::Result<String> {
             blocks = blocks.saturating_add(1);
         }
     }
-    Ok(format!(in alloc; "{blocks}")?)
+    write!(line, "{blocks}")
 }

@@ -1,48 +1,60 @@
 // Roots, paths and URIs.
-use case_notation::{field, plain, shown};
+use case_notation::{Answer, field, plain, push_shown};
 use std::alloc::{AllocError, Global};
 use workspace_uri::{Root, escape_path, is_workspace_path};
 
-/// The answer to a call on URIs.
-pub fn answer(alloc: Global, call: &str, fields: &[&str]) -> anyhow::Result<String> {
-    let first = plain(alloc, field(fields, 0))?;
-    let second = plain(alloc, field(fields, 1))?;
-    Ok(match call {
-        "path" => path(alloc, first.as_str(), second.as_str())?,
-        "uri" => uri(alloc, first.as_str(), second.as_str())?,
-        "root" => root(alloc, first.as_str())?,
-        "escaped" => escape_path(alloc, first.as_str().as_bytes())?,
-        _ => {
-            let is_path = is_workspace_path(first.as_str());
-            format!(in alloc; "{is_path}")?
+/// Writes the answer to a call on URIs.
+pub fn answer(alloc: Global, line: &mut String, call: &str, fields: &[&str]) -> Answer<()> {
+    let text = plain(alloc, field(fields, 0))?;
+    write_answer(alloc, line, call, text.as_str(), field(fields, 1))?;
+    Ok(())
+}
+
+fn write_answer(
+    alloc: Global,
+    line: &mut String,
+    call: &str,
+    text: &str,
+    other: &str,
+) -> Result<(), AllocError> {
+    match call {
+        "escaped" => line.push_str(escape_path(alloc, text.as_bytes())?.as_str()),
+        "workspace path" => {
+            let is_path = is_workspace_path(text);
+            write!(line, "{is_path}")
         }
-    })
+        _ => match Root::parse(alloc, text)? {
+            None => line.push_str("no root"),
+            Some(root) => write_below(alloc, line, call, &root, other),
+        },
+    }
+}
+
+fn write_below(
+    alloc: Global,
+    line: &mut String,
+    call: &str,
+    root: &Root,
+    other: &str,
+) -> Result<(), AllocError> {
+    match call {
+        "root" => line.push_str(root.as_str()),
+        "path" => write_path(alloc, line, root, plain(alloc, other)?.as_str()),
+        _ => write_uri(alloc, line, root, plain(alloc, other)?.as_str()),
+    }
 }
 
 // The path of a URI below a root.
-fn path(alloc: Global, root: &str, uri: &str) -> Result<String, AllocError> {
-    let Some(root) = Root::parse(alloc, root)? else {
-        return String::from_str(alloc, "no root");
-    };
+fn write_path(alloc: Global, line: &mut String, root: &Root, uri: &str) -> Result<(), AllocError> {
     match root.path_of(alloc, uri)? {
-        Some(path) => shown(alloc, path.as_str()),
-        None => String::from_str(alloc, "no URL"),
+        Some(path) => push_shown(line, path.as_str()),
+        None => line.push_str("no URL"),
     }
 }
 
 // The URI of a path below a root, and the path that it leads back to.
-fn uri(alloc: Global, root: &str, path_of_file: &str) -> Result<String, AllocError> {
-    let Some(parsed) = Root::parse(alloc, root)? else {
-        return String::from_str(alloc, "no root");
-    };
-    let uri = parsed.uri_of(alloc, path_of_file)?;
-    let back = path(alloc, root, uri.as_str())?;
-    format!(in alloc; "{uri} :: {back}")
-}
-
-fn root(alloc: Global, text: &str) -> Result<String, AllocError> {
-    match Root::parse(alloc, text)? {
-        Some(root) => String::from_str(alloc, root.as_str()),
-        None => String::from_str(alloc, "no root"),
-    }
+fn write_uri(alloc: Global, line: &mut String, root: &Root, path: &str) -> Result<(), AllocError> {
+    let uri = root.uri_of(alloc, path)?;
+    write!(line, "{uri} :: ")?;
+    write_path(alloc, line, root, uri.as_str())
 }
