@@ -9,7 +9,6 @@ use std::alloc::{AllocError, Global};
 pub fn answer(alloc: Global, line: &mut String, call: &str, fields: &[&str]) -> Answer<()> {
     match call {
         "in order" => write_ordered(alloc, line, fields),
-        "long text" => write_of_length(alloc, line, field(fields, 0)),
         "joined" => write_joined(alloc, line, fields),
         "part" => {
             let part = part(field(fields, 0), field(fields, 1))?;
@@ -36,12 +35,6 @@ pub fn facts_in(alloc: Global, field: &str) -> Result<FileFacts, AllocError> {
 fn write_copied_name(alloc: Global, line: &mut String, field: &str) -> Result<(), AllocError> {
     let name = Name::of(plain(alloc, field)?);
     line.push_str(name.copy(alloc)?.as_str())
-}
-
-fn write_of_length(alloc: Global, line: &mut String, length: &str) -> Answer<()> {
-    let text = long_text(alloc, length.parse::<usize>()?)?;
-    write_problems(line, &facts_of(alloc, text.as_str())?)?;
-    Ok(())
 }
 
 fn write_joined(alloc: Global, line: &mut String, fields: &[&str]) -> Answer<()> {
@@ -172,16 +165,4 @@ fn part<'a>(text: &'a str, offsets: &str) -> Answer<&'a str> {
         end: end.parse::<usize>()?,
     };
     Ok(text_at(text, span))
-}
-
-// A text of so many bytes: a `syntax` statement and spaces.
-fn long_text(alloc: Global, length: usize) -> Result<String, AllocError> {
-    let spaces = "                                                                ";
-    let mut text = String::from_str(alloc, "syntax = \"proto3\";\n")?;
-    let left = length.saturating_sub(text.len());
-    for _ in 0..left / 64 {
-        text.push_str(spaces)?;
-    }
-    text.push_str(spaces.get(..left % 64).unwrap_or(""))?;
-    Ok(text)
 }

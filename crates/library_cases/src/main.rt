@@ -32,7 +32,6 @@ fn answer(alloc: Global, line: &mut String, call: &str, fields: &[&str]) -> Answ
         | "facts"
         | "copied facts"
         | "in order"
-        | "long text"
         | "joined"
         | "part"
         | "copied name" => { fact_lists::answer(alloc, line, call, fields) }
