@@ -16,6 +16,8 @@ import time
 ROOT = pathlib.Path(__file__).resolve().parent.parent
 # The most jobs that one check gains from.
 MOST_JOBS = 4
+# The most memory that a check has been seen to take: what the kit foresees is far more for a crate above many others.
+MOST_MEMORY = 4_000_000_000
 
 
 def load():
@@ -88,7 +90,7 @@ def proof_task(crate, is_used):
         flags = ["--jobs", str(jobs)]
         return logged(crate, "proof", lambda: crate.build_rlib(flags, anew=False) if is_used else crate.check(flags))
 
-    return Task(crate.name, [it.name for it in crate.below()], size_of(crate), crate.need() // 2, call)
+    return Task(crate.name, [it.name for it in crate.below()], size_of(crate), min(crate.need() // 2, MOST_MEMORY), call)
 
 
 class Schedule:

@@ -33,7 +33,7 @@ def checked_task(crate):
         return well
 
     weight = kit.size_of(crate) if crate.is_program or crate.has_tests() else 1
-    return kit.Task(f"{crate.name} (tests)", [crate.name], weight, crate.need() // 2, call)
+    return kit.Task(f"{crate.name} (tests)", [crate.name], weight, min(crate.need() // 2, kit.MOST_MEMORY), call)
 
 
 def run(words, **how):
