@@ -50,7 +50,7 @@ def run_end_to_end():
     for name in names:
         if name == TESTS_OF_TOOLS and not tools_changed:
             continue
-        well = run([sys.executable, "-m", "unittest", "-q", f"tests/{name}"])
+        well = run([sys.executable, "-m", "unittest", "discover", "-q", "-s", "tests", "-p", name])
         passed, failed = passed + well, failed + (not well)
         print(f"tests/{name}: {'passed' if well else 'FAILED'}", flush=True)
     if tools_changed and not failed:

@@ -28,13 +28,9 @@ fn answer(alloc: Global, line: &mut String, call: &str, fields: &[&str]) -> Answ
         "tokens" | "token size" | "faults" | "statements" | "depth" => texts::answer(
             alloc, line, call, fields,
         ),
-        "problems"
-        | "facts"
-        | "copied facts"
-        | "in order"
-        | "joined"
-        | "part"
-        | "copied name" => { fact_lists::answer(alloc, line, call, fields) }
+        "problems" | "facts" | "copied facts" | "in order" | "joined" | "part" | "copied name" => {
+            fact_lists::answer(alloc, line, call, fields)
+        }
         "graph" | "alike" | "ring" => graphs::answer(alloc, line, call, fields),
         "links" | "outlines" | "replaced" | "set" => links::answer(alloc, line, call, fields),
         "board" | "piece" | "refused piece" => boards::answer(alloc, line, call, fields),
