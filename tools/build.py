@@ -33,8 +33,8 @@ def build_libraries(program):
 def main():
     program = next(it for it in kit.crates() if it.name == PROGRAM)
     made = f"{program.folder}/out/{PROGRAM}"
-    is_well = build_libraries(program)
-    if is_well:
+    is_well = kit.is_current(program) or build_libraries(program)
+    if is_well and not kit.is_current(program):
         # (the program is run once, without words; it says how it is called)
         subprocess.run(["rt", "run"], cwd=program.folder, stdin=subprocess.DEVNULL)
         is_well = os.path.isfile(f"{made}.stamp") and os.path.isfile(made)

@@ -60,6 +60,23 @@ def hold(some):
     return rtlib.lock(some)
 
 
+def is_current(program):
+    """Whether the built program is that of the present sources. Each crate's sum is worked out once: rt does so again for each that stands on it."""
+    known, stamp = {}, rtlib.Crate.stamp
+
+    def once(crate):
+        if crate.folder not in known:
+            known[crate.folder] = stamp(crate)
+        return known[crate.folder]
+
+    rtlib.Crate.stamp = once
+    try:
+        made = f"{program.folder}/out/{program.name}"
+        return os.path.isfile(made) and rtlib.text_of(f"{made}.stamp") == program.stamp() + rtlib.sum_of(made)
+    finally:
+        rtlib.Crate.stamp = stamp
+
+
 def size_of(crate):
     """About how long a proof of the crate takes, as a number of bytes."""
     return sum(os.path.getsize(it) for it in rtlib.files_of(crate.folder))
