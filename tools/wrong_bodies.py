@@ -371,8 +371,8 @@ class Trial:
             return self.without_blamed(group, placed, said, kept)
         refused = judge(said, group, placed) if ran.returncode else {}
         if refused is None:
-            self.log.append(f"a check of {len(group)} has an error that is none of its functions'")
-            refused = {}
+            self.log.append(f"a check of {len(group)} has an error that is none of its functions': {[it.name for it in group]}")
+            return self.halves(group, kept)
         found = {it: (REFUSED, f"with {len(group) - 1} others: {why}") for it, why in refused.items()}
         self.verdicts.update(found)
         self.write_record()
