@@ -14,6 +14,16 @@ replaced e (Some r) text new =
     let b = offset_of e r.end text in
     take (min a b) text ++ new ++ drop (max a b) text
 
+-- a new text for a range of a text, or for the whole of it where there is no range
+pub record ChangeData : Type 0 where
+  pub range : Option Range
+  pub text : List ℕ
+
 -- a text after a change
 abbrev pub edited : Encoding → Change → List ℕ → List ℕ
 edited e change text = replaced e change.range text (string_bytes change.text)
+
+-- ---- the Rust type beside this
+
+abbrev pub change_view : Change → ChangeData
+change_view c = record { range = c.range; text = string_bytes c.text }

@@ -1,17 +1,22 @@
 // The check of a workspace, without an editor.
 ghost use Rattle.std.specs.Prelude.{◌≡◌, ◌+◌, ◌≤◌, IfOk, IfErr, OnOk, OnErr};
 ghost use Rattle.std.specs.Io.KnownBytes.{Appends};
-ghost use Rattle.lsp_frame.specs.Counts.{NoError, HasFailed};
+ghost use Rattle.lsp_frame.specs.Counts.{NoneFell, NoError};
+ghost use Rattle.work_index.specs.Pieces.{workspace_of};
 ghost use Rattle.lsp_workspace.specs.Files.{workspace};
-ghost use Rattle.lsp_workspace.specs.Listing.{listing, has_errors};
+ghost use Rattle.lsp_check.specs.Listing.{lines_of, listing, has_errors};
 ghost use Rattle.lsp_config.specs.Configuration.{files_of};
 ghost use Rattle.lsp_config.specs.Fault.{IsWriteOrMemory};
 ghost use Rattle.lsp_config.specs.Sending.{SendsPrefix};
 
+use crate::lines::{has_errors, lines_of};
+use file_facts::Diag;
 use lsp_config::{Config, ServeFault};
 use lsp_frame::{ByteSink, write_bytes};
-use lsp_workspace::{Snapshot, from_disk, has_errors, listing, snapshot_of};
+use lsp_workspace::{Snapshot, from_disk, snapshot_of};
+use piece_collector::Piece;
 use std::alloc::{AllocError, Global};
+use work_index::FileWork;
 
 // The analysis of the files of a configuration.
 fn link_files(alloc: Global, config: Config) -> Result<Snapshot, AllocError>
@@ -21,43 +26,78 @@ fn link_files(alloc: Global, config: Config) -> Result<Snapshot, AllocError>
     snapshot_of(alloc, None, &files)
 }
 
-// The lines of an analysis, and whether there is an error.
-fn lines_of(alloc: Global, snapshot: &Snapshot) -> Result<(Vec<u8>, bool), AllocError>
-    ensures lines { IfOk result (λ found. found.0.items ≡ listing snapshot.now) }
-    ensures errors { IfOk result (λ found. found.1 ≡ has_errors snapshot.now) }
-{
-    let lines = listing(alloc, snapshot)?;
-    Ok((lines, has_errors(snapshot)))
-}
-
-// The lines of the files of a configuration, and whether there is an error.
-fn lines_and_errors(alloc: Global, config: Config) -> Result<(Vec<u8>, bool), AllocError>
-    ensures lines { IfOk result (λ found. found.0.items ≡ listing (workspace (files_of config))) }
-    ensures errors { IfOk result (λ found. found.1 ≡ has_errors (workspace (files_of config))) }
-{
-    let snapshot = link_files(alloc, config)?;
-    lines_of(alloc, &snapshot)
-}
-
-// Writes some bytes.
-fn send<K: ByteSink>(writer: &mut K, bytes: &[u8]) -> Result<(), ServeFault>
-    ensures ok { OnOk result (Appends (K.written writer.old) (K.written writer.new) bytes.now) }
-    ensures err { OnErr result (SendsPrefix (K.written writer.old) (K.written writer.new) bytes.now) }
-    ensures fault { IfErr result (λ fault. fault ≡ ServeFault.Write) }
-    ensures cause { OnErr result (HasFailed (K.counts writer.old) (K.counts writer.new)) }
+// Writes the lines of a file.
+fn send_lines<K: ByteSink>(
+    alloc: Global,
+    writer: &mut K,
+    path: &str,
+    text: &str,
+    diags: &[Diag],
+) -> Result<(), ServeFault>
+    ensures ok { OnOk result (Appends (K.written writer.old) (K.written writer.new) (lines_of path.now text.now diags.now)) }
+    ensures err { OnErr result (SendsPrefix (K.written writer.old) (K.written writer.new) (lines_of path.now text.now diags.now)) }
+    ensures fault { IfErr result (IsWriteOrMemory (K.counts writer.old) (K.counts writer.new)) }
+    ensures counts { NoneFell (K.counts writer.old) (K.counts writer.new) }
     ensures calm { OnOk result (NoError (K.counts writer.old) (K.counts writer.new)) }
     ensures once { (K.counts writer.new).errors ≤ (K.counts writer.old).errors + 1 }
 {
-    match write_bytes(writer, bytes) {
+    let Ok(lines) = lines_of(alloc, path, text, diags) else {
+        return Err(ServeFault::Memory);
+    };
+    match write_bytes(writer, lines.as_slice()) {
         Ok(()) => Ok(()),
         Err(_) => Err(ServeFault::Write),
     }
 }
 
+// Writes the lines of the files of the workspace, which are these, one file after the other.
+fn send_all<K: ByteSink>(
+    alloc: Global,
+    writer: &mut K,
+    snapshot: &Snapshot,
+    pieces: &[Piece<FileWork>],
+) -> Result<(), ServeFault>
+    requires { workspace_of pieces.now ≡ snapshot.now }
+    ensures ok { OnOk result (Appends (K.written writer.old) (K.written writer.new) (listing snapshot.now)) }
+    ensures err { OnErr result (SendsPrefix (K.written writer.old) (K.written writer.new) (listing snapshot.now)) }
+    ensures fault { IfErr result (IsWriteOrMemory (K.counts writer.old) (K.counts writer.new)) }
+    ensures calm { OnOk result (NoError (K.counts writer.old) (K.counts writer.new)) }
+    ensures once { (K.counts writer.new).errors ≤ (K.counts writer.old).errors + 1 }
+{
+    for (number, piece) in pieces.iter().enumerate() {
+        send_lines(
+            alloc,
+            writer,
+            piece.path(),
+            piece.text(),
+            snapshot.diagnostics(number),
+        )?;
+    }
+    Ok(())
+}
+
+// Writes the lines of the files of the workspace, and answers whether there is an error.
+fn send_and_judge<K: ByteSink>(
+    alloc: Global,
+    writer: &mut K,
+    snapshot: &Snapshot,
+) -> Result<bool, ServeFault>
+    ensures prefix { SendsPrefix (K.written writer.old) (K.written writer.new) (listing snapshot.now) }
+    ensures whole { OnOk result (Appends (K.written writer.old) (K.written writer.new) (listing snapshot.now)) }
+    ensures errors { IfOk result (λ found. found ≡ has_errors snapshot.now) }
+    ensures fault { IfErr result (IsWriteOrMemory (K.counts writer.old) (K.counts writer.new)) }
+    ensures calm { OnOk result (NoError (K.counts writer.old) (K.counts writer.new)) }
+    ensures once { (K.counts writer.new).errors ≤ (K.counts writer.old).errors + 1 }
+{
+    send_all(alloc, writer, snapshot, snapshot.pieces())?;
+    Ok(has_errors(snapshot))
+}
+
 /// Checks the files of a configuration: writes a line for each diagnostic, and answers whether one is an error.
 ///
 /// A line is `path:line:column: number message`, with line and column from 1 and columns in UTF-16 units, and ends with a
-/// line feed. The lines come by path, and those of a file by start, end, number and words. The only faults are `Write`
+/// line feed. The lines come by path, and those of a file by start, end, number and words; those of one file are in memory at
+/// a time. The only faults are `Write`
 /// where the sink failed, and `Memory` where memory was refused. Whatever it ends with, what was written is a prefix of
 /// the lines, and all of them where no fault came.
 pub fn check<K: ByteSink>(alloc: Global, writer: &mut K, config: Config) -> Result<bool, ServeFault>
@@ -75,9 +115,8 @@ pub fn check<K: ByteSink>(alloc: Global, writer: &mut K, config: Config) -> Resu
     ensures calm { OnOk result (NoError (K.counts writer.old) (K.counts writer.new)) }
     ensures once { (K.counts writer.new).errors ≤ (K.counts writer.old).errors + 1 }
 {
-    let Ok((lines, found)) = lines_and_errors(alloc, config) else {
+    let Ok(snapshot) = link_files(alloc, config) else {
         return Err(ServeFault::Memory);
     };
-    send(writer, lines.as_slice())?;
-    Ok(found)
+    send_and_judge(alloc, writer, &snapshot)
 }

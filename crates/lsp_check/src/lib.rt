@@ -2,5 +2,6 @@
 #![tactic(auto)]
 
 mod checking;
+mod lines;
 
 pub use checking::check;

@@ -1,1 +1,2 @@
 mod ConfigLemmas
+pub mod SendingLemmas

@@ -2,7 +2,7 @@
 use Rattle.std.specs.Prelude.{ℕ, ℤ, List, [], ◌∷◌, Option, Some, None, map, option_map, option_and_then, codes, string_bytes}
 use Rattle.serde_json.specs.Data.{Data, Items, no_items, item}
 use Rattle.serde_json.specs.Find.{get, as_array}
-use Rattle.doc_text.specs.declared.change.Change.{Change}
+use Rattle.doc_text.specs.Edits.{ChangeData, change_view}
 use Rattle.doc_text.specs.declared.position.Position.{Position}
 use Rattle.doc_text.specs.declared.position.Range.{Range}
 use Rattle.lsp_rpc.specs.Body.{member_or_null, text_member, integer_member, natural_member}
@@ -56,11 +56,6 @@ range_in d =
 
 -- ---- changes
 
--- a new text for a range of a document, or for the whole of it where there is no range
-pub record ChangeData : Type 0 where
-  pub range : Option Range
-  pub text : List ℕ
-
 -- a member `range` may be missing; one that is there has to be a range
 abbrev pub optional_range : Option Data → Option (Option Range)
 optional_range None = Some None
@@ -105,9 +100,6 @@ changed_of params =
     option_map (λ changes. record { document = document; changes = changes })
     (changes_of params))
     (versioned_in (document_of params))
-
-abbrev pub change_view : Change → ChangeData
-change_view c = record { range = c.range; text = string_bytes c.text }
 
 abbrev pub versioned_view : VersionedDocument → VersionedData
 versioned_view d = record { uri = string_bytes d.uri; version = d.version }

@@ -4,7 +4,8 @@ ghost use Rattle.serde_json.specs.Data.{object, null};
 ghost use Rattle.serde_json.specs.Find.{get_member, as_str, as_array};
 ghost use Rattle.serde_json.specs.View.{view, members_view, items_view};
 ghost use Rattle.lsp_rpc.specs.Body.{integer_member};
-ghost use Rattle.lsp_rpc.specs.Params.{uri_of, opened_of, opened_in, opened_view, position_in, range_in, change_in, changes_in, change_view, versioned_in, versioned_view, changed_of, changed_view};
+ghost use Rattle.doc_text.specs.Edits.{change_view};
+ghost use Rattle.lsp_rpc.specs.Params.{uri_of, opened_of, opened_in, opened_view, position_in, range_in, change_in, changes_in, versioned_in, versioned_view, changed_of, changed_view};
 
 use crate::body::{natural_member, take_member, text_member};
 use doc_text::{Change, Position, Range};

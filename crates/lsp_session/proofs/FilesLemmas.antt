@@ -6,7 +6,7 @@ use Rattle.lsp_rpc.specs.Params.{OpenedDocument, ChangedDocument, opened_of, cha
 use Rattle.lsp_rpc.specs.declared.method.Method.{Method}
 use Rattle.lsp_rpc.specs.declared.method.Method.TheVariants.{Initialize, Shutdown, Exit, DidOpen, DidChange, DidSave, DidClose, DocumentDiagnostic, WorkspaceDiagnostic}
 use Rattle.workspace_uri.specs.Uri.{path_of}
-use Rattle.lsp_workspace.specs.Files.{Files, AreInPathOrder, KeepsPathOrder, opened_files, changed_files, saved_files, closed_files}
+use Rattle.lsp_workspace.specs.Files.{OpenDocument, Files, AreInPathOrder, KeepsPathOrder, opened_files, changed_files, saved_files, closed_files}
 use Rattle.lsp_workspace.proofs.PathOrder.{from_disk-order, opened_files-order, changed_files-order, saved_files-order, closed_files-order}
 use Rattle.lsp_config.specs.Configuration.{Configuration, in_root_order}
 use Rattle.lsp_session.specs.Session.{State, Run, at_path, path_in, opened, changed, document_in, diagnosed, running_request, first_request, requested, exits, running_notification, notified, received, turn_in, start, next, session}
@@ -24,7 +24,9 @@ at_path-order become keeps s (Some path) order = keeps path s.files order
 
 opened-order : (s : State) (o : Option OpenedDocument) → IsOrdered s → IsOrdered (opened s o)
 opened-order s None order = order
-opened-order s (Some o) order = at_path-order (opened_files o) (opened_files-order o) s (path_of s.roots o.uri) order
+opened-order s (Some o) order =
+    let d : OpenDocument = record { version = o.version; text = o.text } in
+    at_path-order (opened_files o.uri d) (opened_files-order o.uri d) s (path_of s.roots o.uri) order
 
 changed-order : (s : State) (c : Option ChangedDocument) → IsOrdered s → IsOrdered (changed s c)
 changed-order s None order = order

@@ -1,4 +1,6 @@
 mod CoreLemmas
+mod DiagnosticsLemmas
+mod ReportsLemmas
 mod FilesLemmas
 mod RunLemmas
 mod ServingLemmas

@@ -24,6 +24,7 @@ use Rattle.lsp_rpc.specs.Message.{message_of}
 use Rattle.lsp_config.specs.Configuration.{Configuration}
 use Rattle.lsp_config.specs.Fault.{ComesWhileServing, IsWriteOrMemory}
 use Rattle.lsp_config.specs.Sending.{SendsPrefix}
+use Rattle.lsp_config.proofs.SendingLemmas.{front-of, front-behind, nothing_sent}
 use Rattle.lsp_config.specs.declared.fault.ServeFault.{ServeFault}
 use Rattle.lsp_config.specs.declared.fault.ServeFault.TheVariants as served
 use Rattle.lsp_session.specs.Core.{CoreState}
@@ -183,9 +184,6 @@ exits_at config (Some bytes) (Some rest) v w core after_shutdown s e =
 
 -- ---- where something failed
 
-front-of : (v w : Option (List ℕ)) (sent more all : List ℕ) → all ≡ sent ++ more → Appends v w sent → SendsPrefix v w all
-front-of v w sent more all is s = (length sent, omega (arith, ap length is, length-append sent more), rw (is, take_at sent more (length sent) refl) s)
-
 -- the output goes on behind the replies to the first messages
 output-more : (config : Configuration) (bodies later : List (List ℕ)) → (more : List ℕ) × (frames_of (session config (bodies ++ later)).replies ≡ frames_of (session config bodies).replies ++ more)
 output-more config bodies later =
@@ -199,15 +197,6 @@ stops config (Some bytes) None v w core s = absurd s
 stops config (Some bytes) (Some rest) v w core s =
     let more = output-more config s.bodies (frames rest).bodies in
     front-of v w (frames_of (session config s.bodies).replies) more.0 (output config bytes) (ap (λ bs. frames_of (session config bs).replies) (came s) ∙ more.1) s.wrote
-
-pub nothing_sent : (v : Option (List ℕ)) (all : List ℕ) → SendsPrefix v v all
-nothing_sent v all = (0, omega arith, Appends-nil v)
-
--- a front of a part, behind what went out before
-pub front-behind : (v w x : Option (List ℕ)) (sent part more all : List ℕ) → all ≡ sent ++ (part ++ more) → Appends v w sent → SendsPrefix w x part → SendsPrefix v x all
-front-behind v w x sent part more all is s p =
-    let cut : take (length sent + p.0) all ≡ sent ++ take p.0 part = ap (take (length sent + p.0)) is ∙ take-append-add sent (part ++ more) p.0 ∙ ap (λ l. sent ++ l) (take-append-le p.0 part more p.1) in
-    (length sent + p.0, omega (arith, ap length is, length-append sent (part ++ more), length-append part more, p.1), rw cut (Appends-trans v w x sent (take p.0 part) s p.2))
 
 -- the writer failed within the replies to a message
 pub stops_within : (config : Configuration) (a b c v w x : Option (List ℕ)) (core : CoreState) (body : List ℕ) → Serving config a b core v w → IfSome b (λ rest. TakesFrame rest c body)

@@ -1,3 +1,5 @@
+pub mod Diagnostics
+pub mod Reports
 pub mod Session
 pub mod Stream
 pub mod Core

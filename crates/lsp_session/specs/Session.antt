@@ -14,7 +14,7 @@ use Rattle.lsp_rpc.specs.declared.method.Method.{Method}
 use Rattle.lsp_rpc.specs.declared.method.Method.TheVariants.{Initialize, Shutdown, Exit, DidOpen, DidChange, DidSave, DidClose, DocumentDiagnostic, WorkspaceDiagnostic}
 use Rattle.workspace_uri.specs.Uri.{path_of}
 use Rattle.lsp_config.specs.Configuration.{Configuration, files_of}
-use Rattle.lsp_workspace.specs.Reports.{document_diagnostics, workspace_reports, ReportsAreOfDocuments}
+use Rattle.lsp_session.specs.Reports.{document_diagnostics, workspace_reports, ReportsAreOfDocuments}
 use Rattle.lsp_workspace.specs.Files.{Files, opened_files, changed_files, saved_files, closed_files, text_at, AreInPathOrder, HasTextsOfWorkspace}
 use Rattle.lsp_session.specs.declared.phase.Phase.{Phase}
 use Rattle.lsp_session.specs.declared.phase.Phase.TheVariants.{Uninitialized, Running, Shut, Exited}
@@ -56,7 +56,7 @@ path_in s params = option_and_then (path_of s.roots) (uri_of params)
 -- bad params change nothing, and neither does a URI that is no URL
 abbrev pub opened : State → Option OpenedDocument → State
 opened s None = s
-opened s (Some o) = at_path (opened_files o) s (path_of s.roots o.uri)
+opened s (Some o) = at_path (opened_files o.uri (record { version = o.version; text = o.text })) s (path_of s.roots o.uri)
 
 abbrev pub changed : State → Option ChangedDocument → State
 changed s None = s

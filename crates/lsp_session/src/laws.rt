@@ -1,4 +1,5 @@
 // What the definitions of the session say, beside what the code meets.
+ghost use Rattle.lsp_session.specs.Reports.{ReportsAgreeWithDocuments};
 ghost use Rattle.lsp_session.specs.Session.{FilesAreInPathOrder, DocumentsAreOfTheWorkspace, ReportsAgree};
 ghost use Rattle.lsp_session.specs.Stream.{NothingFollowsAnExit};
 
@@ -16,6 +17,12 @@ pub fn files_are_in_path_order()
 /// there, and there is none where the workspace has no such file.
 pub fn documents_are_of_the_workspace()
     ensures { DocumentsAreOfTheWorkspace }
+{}
+
+/// A law. Of files whose paths ascend, the report of each one in the reports of all has the diagnostics that a request
+/// for its document gets.
+pub fn reports_agree_with_documents()
+    ensures { ReportsAgreeWithDocuments }
 {}
 
 /// A law. Whatever messages came, the reports of all documents have, by path, the diagnostics that a request for the document

@@ -6,10 +6,12 @@
 //! configuration, without an editor.
 #![tactic(auto)]
 
+mod diagnostics;
 mod ended;
 mod laws;
 mod phase;
 mod reply;
+mod reports;
 mod run;
 mod serving;
 mod session;
@@ -19,7 +21,8 @@ mod verdict;
 
 pub use ended::Ended;
 pub use laws::{
-    documents_are_of_the_workspace, files_are_in_path_order, nothing_follows_an_exit, reports_agree,
+    documents_are_of_the_workspace, files_are_in_path_order, nothing_follows_an_exit,
+    reports_agree, reports_agree_with_documents,
 };
 pub use lsp_check::check;
 pub use lsp_config::{Config, CoreFault, DiskFile, ServeFault};

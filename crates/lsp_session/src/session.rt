@@ -7,21 +7,20 @@ ghost use Rattle.lsp_rpc.specs.Message.{id_view, message_view};
 ghost use Rattle.lsp_rpc.specs.Params.{opened_of, changed_of};
 ghost use Rattle.lsp_rpc.specs.Diagnostic.{diagnostic_view};
 ghost use Rattle.lsp_workspace.specs.Files.{text_at, workspace};
-ghost use Rattle.lsp_workspace.specs.Reports.{document_diagnostics};
+ghost use Rattle.lsp_session.specs.Reports.{document_diagnostics};
 ghost use Rattle.lsp_rpc.specs.Reply as reply;
 ghost use Rattle.lsp_session.specs.Session as spec;
 
 use crate::phase::Phase;
 use crate::reply::Reply;
+use crate::reports::{document_diagnostics, workspace_reports};
 use doc_text::Text;
 use lsp_config::Config;
 use lsp_rpc::{
     Diagnostic, DidChangeParams, DidOpenParams, ErrorCode, Id, Message, Method, document_uri,
     error_reply, initialize_reply, null_reply, report_reply, workspace_reply,
 };
-use lsp_workspace::{
-    self as files, Files, Snapshot, document_diagnostics, snapshot_of, workspace_reports,
-};
+use lsp_workspace::{self as files, Document, Edits, Files, Snapshot, snapshot_of};
 use serde_json::Value;
 use std::alloc::{AllocError, Global};
 use workspace_uri::Root;
@@ -94,7 +93,13 @@ impl Session {
             return Ok(());
         };
         match self.root.path_of(self.alloc, opened.uri.as_str())? {
-            Some(path) => files::open(&mut self.files, path, opened),
+            Some(path) => {
+                let document = Document {
+                    version: opened.version,
+                    text: Text::new(opened.text),
+                };
+                files::open(&mut self.files, path, opened.uri, document)
+            }
             None => Ok(()),
         }
     }
@@ -109,7 +114,13 @@ impl Session {
             .root
             .path_of(self.alloc, changed.document.uri.as_str())?
         {
-            Some(path) => files::change(&mut self.files, path.as_str(), changed),
+            Some(path) => {
+                let edits = Edits {
+                    version: changed.document.version,
+                    changes: changed.changes,
+                };
+                files::change(&mut self.files, path.as_str(), edits)
+            }
             None => Ok(()),
         }
     }

@@ -6,7 +6,7 @@ use Rattle.std.specs.Cmp.Lexicographic.{slice_cmp}
 use Rattle.std.specs.Map.{lookup, set_value, remove_entry}
 use Rattle.std.specs.BTreeMap.{insert_entry, is_at}
 use Rattle.std.proofs.lemmas.Map.Steps.{set_value_same}
-use Rattle.lsp_rpc.specs.Params.{OpenedDocument, ChangeData}
+use Rattle.doc_text.specs.Edits.{ChangeData}
 use Rattle.lsp_workspace.specs.Disk.{FileData}
 use Rattle.lsp_workspace.specs.Files.{OpenDocument, File, Files, file_at, disk_file, with_disk_files, with_file, set_file, without_file, opened_file, opened_at, opened_files, with_document, with_open_file, changed_file, changed_files, saved_file, saved_files, closed_at, closed_files}
 use Rattle.lsp_workspace.specs.Steps.{changed_from, saved_from, leaves, with_none_open}
@@ -97,11 +97,11 @@ module _ (path : List ℕ) (files : Files) (none : file_at path files ≡ None) 
   pub nothing_saved : files ≡ saved_files path files
   nothing_saved = sym (ap (with_open_file (λ f d. set_file path (saved_file f d) files) files) none)
 
-  pub newly_opened : (o : OpenedDocument) → with_file path (opened_file o None) files ≡ opened_files o path files
-  newly_opened o = sym (ap (opened_at o path files) none)
+  pub newly_opened : (uri : List ℕ) (d : OpenDocument) → with_file path (opened_file uri d None) files ≡ opened_files uri d path files
+  newly_opened uri d = sym (ap (opened_at uri d path files) none)
 
-pub opened_again : (path : List ℕ) (files : Files) (f : File) (o : OpenedDocument) → file_at path files ≡ Some f → set_file path (opened_file o f.kept) files ≡ opened_files o path files
-opened_again path files f o found = sym (ap (opened_at o path files) found)
+pub opened_again : (path : List ℕ) (files : Files) (f : File) (uri : List ℕ) (d : OpenDocument) → file_at path files ≡ Some f → set_file path (opened_file uri d f.kept) files ≡ opened_files uri d path files
+opened_again path files f uri d found = sym (ap (opened_at uri d path files) found)
 
 -- ---- a close
 

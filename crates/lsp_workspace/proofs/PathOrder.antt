@@ -9,7 +9,7 @@ use Rattle.std.specs.BTreeMap.{is_at}
 use Rattle.std.proofs.lemmas.Cmp.{nat_list_cmp_total}
 use Rattle.std.proofs.lemmas.Map.{keys-set_value}
 use Rattle.work_index.specs.Workspace.{Workspace}
-use Rattle.lsp_rpc.specs.Params.{OpenedDocument, ChangeData}
+use Rattle.doc_text.specs.Edits.{ChangeData}
 use Rattle.lsp_workspace.specs.Disk.{FileData}
 use Rattle.lsp_workspace.specs.Files.{OpenDocument, File, Files, file_at, with_file, set_file, without_file, text_of, workspace, are_apart, AreInPathOrder, disk_file, with_disk_files, from_disk, opened_file, opened_at, opened_files, with_document, with_open_file, changed_file, changed_files, saved_file, saved_files, closed_at, closed_files}
 
@@ -92,12 +92,12 @@ from_disk-order fs = with_disk_files-order fs [] tt
 
 -- ---- documents
 
-opened_at-order : (o : OpenedDocument) (path : List ℕ) (files : Files) (found : Option File) → AreInPathOrder files → AreInPathOrder (opened_at o path files found)
-opened_at-order o path files None order = with_file-order path (opened_file o None) files order
-opened_at-order o path files (Some f) order = set_file-order path (opened_file o f.kept) files order
+opened_at-order : (uri : List ℕ) (o : OpenDocument) (path : List ℕ) (files : Files) (found : Option File) → AreInPathOrder files → AreInPathOrder (opened_at uri o path files found)
+opened_at-order uri o path files None order = with_file-order path (opened_file uri o None) files order
+opened_at-order uri o path files (Some f) order = set_file-order path (opened_file uri o f.kept) files order
 
-pub opened_files-order : (o : OpenedDocument) (path : List ℕ) (files : Files) → AreInPathOrder files → AreInPathOrder (opened_files o path files)
-opened_files-order o path files order = opened_at-order o path files (file_at path files) order
+pub opened_files-order : (uri : List ℕ) (o : OpenDocument) (path : List ℕ) (files : Files) → AreInPathOrder files → AreInPathOrder (opened_files uri o path files)
+opened_files-order uri o path files order = opened_at-order uri o path files (file_at path files) order
 
 module _ (become : File → OpenDocument → Files) (files : Files) (order : AreInPathOrder files) (later : (f : File) (d : OpenDocument) → AreInPathOrder (become f d)) where
   with_document-order : (f : File) (d : Option OpenDocument) → AreInPathOrder (with_document become files f d)

@@ -7,9 +7,8 @@ use Rattle.std.specs.Cmp.Lexicographic.{slice_cmp}
 use Rattle.std.specs.List.Sorted.{IsStrictlySortedBy}
 use Rattle.std.specs.Map.{keys_of, lookup, set_value, remove_entry}
 use Rattle.std.specs.BTreeMap.{insert_entry, is_at}
-use Rattle.doc_text.specs.Edits.{replaced}
+use Rattle.doc_text.specs.Edits.{ChangeData, replaced}
 use Rattle.doc_text.specs.declared.encoding.Encoding.TheVariants.{Utf16}
-use Rattle.lsp_rpc.specs.Params.{OpenedDocument, ChangeData}
 use Rattle.lsp_workspace.specs.Disk.{FileData}
 
 pub record OpenDocument : Type 0 where
@@ -80,19 +79,16 @@ from_disk fs = with_disk_files fs []
 
 -- ---- documents
 
-abbrev pub open_document : OpenedDocument → OpenDocument
-open_document o = record { version = o.version; text = o.text }
+abbrev pub opened_file : List ℕ → OpenDocument → Option (List ℕ) → File
+opened_file uri d kept = record { document = Some d; kept = kept; uri = Some uri }
 
-abbrev pub opened_file : OpenedDocument → Option (List ℕ) → File
-opened_file o kept = record { document = Some (open_document o); kept = kept; uri = Some o.uri }
+abbrev pub opened_at : List ℕ → OpenDocument → List ℕ → Files → Option File → Files
+opened_at uri d path files None = with_file path (opened_file uri d None) files
+opened_at uri d path files (Some f) = set_file path (opened_file uri d f.kept) files
 
-abbrev pub opened_at : OpenedDocument → List ℕ → Files → Option File → Files
-opened_at o path files None = with_file path (opened_file o None) files
-opened_at o path files (Some f) = set_file path (opened_file o f.kept) files
-
--- an open, which replaces a document that is open; the kept text stays
-abbrev pub opened_files : OpenedDocument → List ℕ → Files → Files
-opened_files o path files = opened_at o path files (file_at path files)
+-- an open under a URI, which replaces a document that is open; the kept text stays
+abbrev pub opened_files : List ℕ → OpenDocument → List ℕ → Files → Files
+opened_files uri d path files = opened_at uri d path files (file_at path files)
 
 abbrev pub with_document : (File → OpenDocument → Files) → Files → File → Option OpenDocument → Files
 with_document become files f None = files
@@ -144,7 +140,7 @@ KeepsPathOrder become = (files : Files) → AreInPathOrder files → AreInPathOr
 -- files from disk are in path order, and what is done to a document keeps them in it
 pub record FilesStayInPathOrder : Type 0 where
   pub begun : (fs : List FileData) → AreInPathOrder (from_disk fs)
-  pub opened : (o : OpenedDocument) (path : List ℕ) → KeepsPathOrder (opened_files o path)
+  pub opened : (uri : List ℕ) (d : OpenDocument) (path : List ℕ) → KeepsPathOrder (opened_files uri d path)
   pub changed : (version : ℤ) (changes : List ChangeData) (path : List ℕ) → KeepsPathOrder (changed_files version changes path)
   pub saved : (path : List ℕ) → KeepsPathOrder (saved_files path)
   pub closed : (path : List ℕ) → KeepsPathOrder (closed_files path)

@@ -1,6 +1,6 @@
 -- What the private steps of files promise each other.
 use Rattle.std.specs.Prelude.{ℤ, ℕ, List, Bool, false, ◌&&◌, Option, Some, None, is_some, is_none}
-use Rattle.lsp_rpc.specs.Params.{ChangeData}
+use Rattle.doc_text.specs.Edits.{ChangeData}
 use Rattle.lsp_workspace.specs.Files.{OpenDocument, File, Files, set_file, changed_file, saved_file}
 
 -- a file after changes of its document, if one is open

@@ -1,14 +1,13 @@
 // The files that a session knows.
 ghost use Rattle.std.specs.Prelude.{◌≡◌, OnOk, IfOk, Some, None, map, option_map, string_bytes};
-ghost use Rattle.lsp_rpc.specs.Params.{change_view, opened_view};
+ghost use Rattle.doc_text.specs.Edits.{change_view};
 ghost use Rattle.lsp_workspace.specs.Disk.{disk_view};
 ghost use Rattle.lsp_workspace.specs.Files.{file_at, with_file, disk_file, from_disk, text_of, opened_file, opened_files, edited_all, changed_files, saved_files, closed_files};
 ghost use Rattle.lsp_workspace.specs.Steps.{changed_from, saved_from, leaves, with_none_open};
-ghost use Rattle.lsp_workspace.specs.View.{file_view, files_view};
+ghost use Rattle.lsp_workspace.specs.View.{document_view, file_view, files_view};
 
 use crate::disk::DiskFile;
 use doc_text::{Change, Encoding, Text};
-use lsp_rpc::{DidChangeParams, DidOpenParams};
 use std::alloc::{AllocError, Global};
 use std::collections::BTreeMap;
 
@@ -19,6 +18,15 @@ pub struct Document {
     pub version: i64,
     /// The text, with all changes.
     pub text: Text,
+}
+
+/// What an editor changed in a document.
+#[derive(Drop)]
+pub struct Edits {
+    /// The version that the document has then.
+    pub version: i64,
+    /// The changes in order, each at places of the text that those before it leave; characters count in UTF-16 units.
+    pub changes: Vec<Change>,
 }
 
 /// What is known at a path.
@@ -87,64 +95,68 @@ pub fn get<'f>(files: &'f Files, path: &str) -> Option<&'f FileEntry>
     files.get(path)
 }
 
-/// Opens a document at a path, in the place of one that is open. The kept text stays. An `Err` comes only where memory was
-/// refused.
-pub fn open(files: &mut Files, path: String, opened: DidOpenParams) -> Result<(), AllocError>
-    ensures { OnOk result (files_view files.new.entries ≡ opened_files (opened_view opened) (string_bytes path) (files_view files.old.entries)) }
+/// Opens a document at a path, in the place of one that is open, and notes the URI that the editor gave it. The kept text
+/// stays. An `Err` comes only where memory was refused.
+pub fn open(
+    files: &mut Files,
+    path: String,
+    uri: String,
+    document: Document,
+) -> Result<(), AllocError>
+    ensures { OnOk result (files_view files.new.entries ≡ opened_files (string_bytes uri) (document_view document) (string_bytes path) (files_view files.old.entries)) }
 {
     match files.get_mut(path.as_str()) {
         Some(file) => {
-            reopen(file, opened);
+            reopen(file, uri, document);
             Ok(())
         }
-        None => insert(files, path, opened),
+        None => insert(files, path, uri, document),
     }
 }
 
 // Opens a document of a file in the place of one that is open.
-fn reopen(file: &mut FileEntry, opened: DidOpenParams)
-    ensures { file_view file.new ≡ opened_file (opened_view opened) (file_view file.old).kept }
+fn reopen(file: &mut FileEntry, uri: String, document: Document)
+    ensures { file_view file.new ≡ opened_file (string_bytes uri) (document_view document) (file_view file.old).kept }
 {
-    file.document = Some(Document {
-        version: opened.version,
-        text: Text::new(opened.text),
-    });
-    file.uri = Some(opened.uri);
+    file.document = Some(document);
+    file.uri = Some(uri);
 }
 
 // Puts the file of a new document under its path.
-fn insert(files: &mut Files, path: String, opened: DidOpenParams) -> Result<(), AllocError>
-    ensures { OnOk result (files_view files.new.entries ≡ with_file (string_bytes path) (opened_file (opened_view opened) None) (files_view files.old.entries)) }
+fn insert(
+    files: &mut Files,
+    path: String,
+    uri: String,
+    document: Document,
+) -> Result<(), AllocError>
+    ensures { OnOk result (files_view files.new.entries ≡ with_file (string_bytes path) (opened_file (string_bytes uri) (document_view document) None) (files_view files.old.entries)) }
 {
     let entry = FileEntry {
-        document: Some(Document {
-            version: opened.version,
-            text: Text::new(opened.text),
-        }),
+        document: Some(document),
         kept: None,
-        uri: Some(opened.uri),
+        uri: Some(uri),
     };
     put(files, path, entry)
 }
 
-/// Changes the document that is open at a path, by changes in order, and gives it their version. Where none is open, nothing
+/// Makes these edits in the document that is open at a path, and gives it their version. Where none is open, nothing
 /// changes. An `Err` comes only where memory was refused; some of the changes may have been made then.
-pub fn change(files: &mut Files, path: &str, changed: DidChangeParams) -> Result<(), AllocError>
+pub fn change(files: &mut Files, path: &str, edits: Edits) -> Result<(), AllocError>
     ensures { OnOk result (files_view files.new.entries
-        ≡ changed_files changed.document.version (map change_view changed.changes.items) path.now (files_view files.old.entries)) }
+        ≡ changed_files edits.version (map change_view edits.changes.items) path.now (files_view files.old.entries)) }
 {
     match files.get_mut(path) {
-        Some(file) => change_file(file, changed),
+        Some(file) => change_file(file, edits),
         None => Ok(()),
     }
 }
 
-fn change_file(file: &mut FileEntry, changed: DidChangeParams) -> Result<(), AllocError>
-    ensures { OnOk result (file_view file.new ≡ changed_from changed.document.version (map change_view changed.changes.items) (file_view file.old) (file_view file.old).document) }
+fn change_file(file: &mut FileEntry, edits: Edits) -> Result<(), AllocError>
+    ensures { OnOk result (file_view file.new ≡ changed_from edits.version (map change_view edits.changes.items) (file_view file.old) (file_view file.old).document) }
 {
     if let Some(document) = &mut file.document {
-        edit(&mut document.text, changed.changes)?;
-        document.version = changed.document.version;
+        edit(&mut document.text, edits.changes)?;
+        document.version = edits.version;
     }
     Ok(())
 }

@@ -1,6 +1,5 @@
 // What the definitions of files say, beside what the code meets.
 ghost use Rattle.lsp_workspace.specs.Files.{TextsAreOfTheWorkspace, FilesStayInPathOrder, FilesInPathOrderAreApart};
-ghost use Rattle.lsp_workspace.specs.Reports.{ReportsAgreeWithDocuments};
 
 /// A law. Of files that have different paths the text at a path is that of the workspace's file there: what a request
 /// asks for is a document of the workspace, and no other.
@@ -17,10 +16,4 @@ pub fn files_stay_in_path_order()
 /// A law. Files whose paths ascend have different paths.
 pub fn files_in_path_order_are_apart()
     ensures { FilesInPathOrderAreApart }
-{}
-
-/// A law. Of files whose paths ascend, the report of each one in the reports of all has the diagnostics that a request
-/// for its document gets.
-pub fn reports_agree_with_documents()
-    ensures { ReportsAgreeWithDocuments }
 {}

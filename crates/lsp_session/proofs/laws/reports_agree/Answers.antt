@@ -1,4 +1,4 @@
-use Rattle.lsp_workspace.proofs.ReportsLemmas.{reports_of_documents}
+use Rattle.lsp_session.proofs.ReportsLemmas.{reports_of_documents}
 use Rattle.lsp_session.specs.Session.{session}
 use Rattle.lsp_session.proofs.FilesLemmas.{session-order}
 use Rattle.lsp_session.proofs.laws.reports_agree.Goals as goal

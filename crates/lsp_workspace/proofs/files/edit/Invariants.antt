@@ -1,5 +1,5 @@
 use Rattle.std.proofs.Common.{◌≡◌, map}
-use Rattle.lsp_rpc.specs.Params.{change_view}
+use Rattle.doc_text.specs.Edits.{change_view}
 use Rattle.lsp_workspace.specs.Files.{edited_all}
 use Rattle.lsp_workspace.proofs.files.edit.Given as goal
 

@@ -1,7 +1,7 @@
 use Rattle.std.proofs.Common.{◌≡◌, map, subst}
 use Rattle.lsp_rpc.specs.Diagnostic.{diagnostic_view}
 use Rattle.work_index.specs.Workspace.{Workspace, analysis, diags_at}
-use Rattle.lsp_workspace.specs.Diagnostics.{placed}
+use Rattle.lsp_session.specs.Diagnostics.{placed}
 use Rattle.lsp_session.proofs.session.Session.found_in.Goals as goal
 
 pub returns : goal.returns

@@ -6,7 +6,7 @@ use Rattle.lsp_rpc.specs.Workspace.{DocumentData}
 use Rattle.file_facts.specs.declared.diagnostic.Diag.{Diag}
 use Rattle.work_index.specs.Workspace.{AnalysisData, analysis, diags_at}
 use Rattle.workspace_uri.specs.Uri.{file_uri}
-use Rattle.lsp_workspace.specs.Diagnostics.{placed}
+use Rattle.lsp_session.specs.Diagnostics.{placed}
 use Rattle.lsp_workspace.specs.Files.{File, Files, file_at, workspace, AreInPathOrder}
 
 -- what is wrong in the document of a path, which has this text

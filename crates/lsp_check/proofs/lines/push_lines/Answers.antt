@@ -1,5 +1,5 @@
-use Rattle.lsp_workspace.proofs.DiagnosticsLemmas.{listed-more}
-use Rattle.lsp_workspace.proofs.lines.push_lines_at.Goals as goal
+use Rattle.lsp_check.proofs.LinesLemmas.{listed-more}
+use Rattle.lsp_check.proofs.lines.push_lines.Goals as goal
 
 pub loop-number-preserved : goal.loop-number-preserved
 loop-number-preserved c =

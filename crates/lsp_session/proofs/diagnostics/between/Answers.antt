@@ -1,7 +1,7 @@
 use Rattle.std.proofs.Common.{map}
 use Rattle.lsp_rpc.specs.Diagnostic.{diagnostic_view}
-use Rattle.lsp_workspace.proofs.DiagnosticsLemmas.{placed-more}
-use Rattle.lsp_workspace.proofs.diagnostics.between.Goals as goal
+use Rattle.lsp_session.proofs.DiagnosticsLemmas.{placed-more}
+use Rattle.lsp_session.proofs.diagnostics.between.Goals as goal
 
 pub loop-i-preserved : goal.loop-i-preserved
 loop-i-preserved c =

@@ -2,7 +2,7 @@
 ghost use Rattle.std.specs.Prelude.{◌≡◌, [], ◌∷◌, ◌++◌, IfOk, OnOk, map};
 ghost use Rattle.doc_text.specs.Positions.{position_of};
 ghost use Rattle.lsp_rpc.specs.Diagnostic.{diagnostic_view};
-ghost use Rattle.lsp_workspace.specs.Diagnostics.{severity_of, diagnostic_between, diagnostic_at, placed};
+ghost use Rattle.lsp_session.specs.Diagnostics.{severity_of, diagnostic_between, diagnostic_at, placed};
 
 use doc_text::{Encoding, Position, Range, positions_of};
 use file_facts::Diag;

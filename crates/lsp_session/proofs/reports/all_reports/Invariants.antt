@@ -3,9 +3,9 @@ use Rattle.lsp_rpc.specs.Workspace.{document_view}
 use Rattle.workspace_uri.specs.View.{root_text}
 use Rattle.work_index.specs.Workspace.{analysis}
 use Rattle.work_index.proofs.Steps.{made_from}
-use Rattle.lsp_workspace.specs.Reports.{numbered_report}
+use Rattle.lsp_session.specs.Reports.{numbered_report}
 use Rattle.lsp_workspace.specs.View.{files_view}
-use Rattle.lsp_workspace.proofs.reports.all_reports.Given as goal
+use Rattle.lsp_session.proofs.reports.all_reports.Given as goal
 
 -- what is there and what is left are all
 abbrev pub invariant-loop-number : goal.invariant-loop-number

@@ -1,21 +1,16 @@
-// What is wrong in a workspace, as a command line shows it.
-ghost use Rattle.std.specs.Prelude.{◌≡◌, ◌<◌, ◌++◌, length, map, decimal, IfOk, OnOk};
-ghost use Rattle.std.specs.List.{enumerate_from, flat_map, list_any};
+// What is wrong in a file, as a command line shows it.
+ghost use Rattle.std.specs.Prelude.{◌≡◌, ◌++◌, map, decimal, IfOk, OnOk};
+ghost use Rattle.std.specs.List.{list_any};
 ghost use Rattle.doc_text.specs.Positions.{position_of};
 ghost use Rattle.doc_text.specs.declared.encoding.Encoding.TheVariants.{Utf16};
-ghost use Rattle.work_index.specs.Pieces.{workspace_of};
-ghost use Rattle.work_index.specs.Workspace.{analysis};
-ghost use Rattle.lsp_workspace.specs.Listing.{place_of, words_of, line_at, line_of, lines_of, listing, is_error, has_errors};
+ghost use Rattle.lsp_check.specs.Listing.{place_of, words_of, line_at, lines_of, is_error, has_errors};
 
-use crate::diagnostics::start_positions;
-use crate::snapshot::Snapshot;
-use doc_text::{Encoding, Position};
+use doc_text::{Encoding, Position, positions_of};
 use file_facts::{Diag, Problem};
 use itoa::Buffer;
-use piece_collector::Piece;
+use lsp_workspace::Snapshot;
 use sqlite_items::Items;
 use std::alloc::{AllocError, Global};
-use work_index::FileWork;
 
 fn push_number(out: &mut Vec<u8>, number: u128) -> Result<(), AllocError>
     ensures { OnOk result (out.new.items ≡ out.old.items ++ decimal number) }
@@ -64,7 +59,7 @@ fn push_line(
 }
 
 // Adds the lines of some diagnostics of a file, which start at these positions.
-fn push_lines_at(
+fn push_lines(
     out: &mut Vec<u8>,
     path: &str,
     text: &str,
@@ -72,7 +67,7 @@ fn push_lines_at(
     places: &[Position],
 ) -> Result<(), AllocError>
     requires { places.now ≡ map (position_of Encoding.Utf16 text.now) (map (λ d. d.start) diags.now) }
-    ensures { OnOk result (out.new.items ≡ out.old.items ++ flat_map (line_of path.now text.now) diags.now) }
+    ensures { OnOk result (out.new.items ≡ out.old.items ++ lines_of path.now text.now diags.now) }
 {
     for number in 0..diags.len() {
         push_line(out, path, places[number], diags[number].message)?;
@@ -80,51 +75,26 @@ fn push_lines_at(
     Ok(())
 }
 
-// Adds the lines of some diagnostics of a file.
-fn push_lines(
+// The positions at which some diagnostics of a text start.
+fn start_positions(alloc: Global, text: &str, diags: &[Diag]) -> Result<Vec<Position>, AllocError>
+    ensures { IfOk result (λ places. places.items ≡ map (position_of Encoding.Utf16 text.now) (map (λ d. d.start) diags.now)) }
+{
+    let offsets: Vec<usize> = diags.iter().map(|d| d.start).collect(alloc)?;
+    positions_of(alloc, text, offsets.as_slice(), Encoding::Utf16)
+}
+
+// A line for each diagnostic of a file.
+pub fn lines_of(
     alloc: Global,
-    out: &mut Vec<u8>,
     path: &str,
     text: &str,
     diags: &[Diag],
-) -> Result<(), AllocError>
-    ensures { OnOk result (out.new.items ≡ out.old.items ++ flat_map (line_of path.now text.now) diags.now) }
+) -> Result<Vec<u8>, AllocError>
+    ensures { IfOk result (λ lines. lines.items ≡ lines_of path.now text.now diags.now) }
 {
     let places = start_positions(alloc, text, diags)?;
-    push_lines_at(out, path, text, diags, places.as_slice())?;
-    Ok(())
-}
-
-// Adds the lines of the files of the workspace, which are these.
-fn push_all_lines(
-    alloc: Global,
-    out: &mut Vec<u8>,
-    snapshot: &Snapshot,
-    pieces: &[Piece<FileWork>],
-) -> Result<(), AllocError>
-    requires { workspace_of pieces.now ≡ snapshot.now }
-    ensures { OnOk result (out.new.items ≡ out.old.items ++ flat_map (lines_of (analysis snapshot.now)) (enumerate_from 0 (workspace_of pieces.now))) }
-{
-    for (number, piece) in pieces.iter().enumerate() {
-        push_lines(
-            alloc,
-            out,
-            piece.path(),
-            piece.text(),
-            snapshot.diagnostics(number),
-        )?;
-    }
-    Ok(())
-}
-
-/// A line for each diagnostic of the workspace: the path, the line and the column where it starts, both from 1 and columns
-/// in UTF-16 units, its number and what it says, as `a.proto:3:24: 401 unresolved name`. An `Err` comes only where
-/// memory was refused.
-pub fn listing(alloc: Global, snapshot: &Snapshot) -> Result<Vec<u8>, AllocError>
-    ensures { IfOk result (λ lines. lines.items ≡ listing snapshot.now) }
-{
     let mut out = Vec::new(alloc);
-    push_all_lines(alloc, &mut out, snapshot, snapshot.pieces())?;
+    push_lines(&mut out, path, text, diags, places.as_slice())?;
     Ok(out)
 }
 
@@ -140,7 +110,7 @@ fn any_error(diags: &Items<Diag>) -> bool
     diags.as_slice().iter().any(is_error)
 }
 
-/// Whether one of the diagnostics of the workspace is an error, and not an information. Takes no memory.
+// Whether one of the diagnostics of the workspace is an error, and not an information.
 pub fn has_errors(snapshot: &Snapshot) -> bool
     ensures { result ≡ has_errors snapshot.now }
 {

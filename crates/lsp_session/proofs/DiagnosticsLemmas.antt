@@ -1,14 +1,12 @@
 -- Diagnostics and their positions.
-use Rattle.std.proofs.Common.{◌≡◌, ℕ, zero, suc, ◌+◌, ◌<◌, List, [], ◌∷◌, ◌++◌, length, take, get_or, map, refl, ap, sym, ◌∙◌, arith, append_assoc, append-nil, flat_map}
+use Rattle.std.proofs.Common.{◌≡◌, ℕ, zero, suc, ◌+◌, ◌<◌, List, [], ◌∷◌, ◌++◌, length, take, get_or, map, refl, ap, sym, ◌∙◌, arith}
 use Rattle.std.proofs.lemmas.List.{map-append, take_more}
-use Rattle.std.proofs.lemmas.Grind.{flat_map-append}
-use Rattle.lsp_workspace.specs.Listing.{line_at, line_of}
 use Rattle.doc_text.specs.Positions.{position_of}
 use Rattle.doc_text.specs.declared.encoding.Encoding.TheVariants.{Utf16}
 use Rattle.doc_text.specs.declared.position.Position.{Position}
 use Rattle.lsp_rpc.specs.Diagnostic.{DiagnosticData}
 use Rattle.file_facts.specs.declared.diagnostic.Diag.{Diag}
-use Rattle.lsp_workspace.specs.Diagnostics.{diagnostic_between, diagnostic_at}
+use Rattle.lsp_session.specs.Diagnostics.{diagnostic_between, diagnostic_at}
 
 -- the position of one of the offsets
 place-of : (text : List ℕ) (offset : Diag → ℕ) (ds : List Diag) (i : ℕ) (d : Diag) (p : Position) → i < length ds → get_or (map (position_of Utf16 text) (map offset ds)) i p ≡ position_of Utf16 text (offset (get_or ds i d))
@@ -27,16 +25,3 @@ placed-more text ds starts ends before after i d p q lt s e b a =
     let one : diagnostic_between (get_or starts i p) (get_or ends i q) here.message ≡ diagnostic_at text here = rw (start, end') refl in
     a ∙ ap (λ l. l ++ diagnostic_between (get_or starts i p) (get_or ends i q) here.message ∷ []) b ∙ ap (λ x. map (diagnostic_at text) (take i ds) ++ x ∷ []) one
     ∙ sym (map-append (diagnostic_at text) (take i ds) (here ∷ [])) ∙ ap (map (diagnostic_at text)) (sym (take_more ds i d lt))
-
--- the line of one more diagnostic
-pub listed-more : (path text : List ℕ) (ds : List Diag) (starts : List Position) (old before after : List ℕ) (i : ℕ) (d : Diag) (p : Position) → i < length ds
-    → starts ≡ map (position_of Utf16 text) (map (λ u. u.start) ds) → before ≡ old ++ flat_map (line_of path text) (take i ds) → after ≡ before ++ line_at path (get_or starts i p) (get_or ds i d).message
-    → after ≡ old ++ flat_map (line_of path text) (take (i + 1) ds)
-listed-more path text ds starts old before after i d p lt s b a =
-    let here = get_or ds i d in
-    let lines = flat_map (line_of path text) (take i ds) in
-    let start : get_or starts i p ≡ position_of Utf16 text here.start = ap (λ l. get_or l i p) s ∙ place-of text (λ u. u.start) ds i d p lt in
-    let one : lines ++ line_of path text here ≡ flat_map (line_of path text) (take (i + 1) ds) =
-    ap (λ l. lines ++ l) (sym (append-nil (line_of path text here))) ∙ sym (flat_map-append (line_of path text) (take i ds) (here ∷ [])) ∙ ap (flat_map (line_of path text)) (sym (take_more ds i d lt)) in
-    a ∙ ap (λ l. l ++ line_at path (get_or starts i p) here.message) b ∙ append_assoc old lines (line_at path (get_or starts i p) here.message)
-    ∙ ap (λ place. old ++ (lines ++ line_at path place here.message)) start ∙ ap (λ l. old ++ l) one

@@ -23,13 +23,17 @@ line_at path place m = place_of path place ++ words_of m
 abbrev pub line_of : List ℕ → List ℕ → Diag → List ℕ
 line_of path text d = line_at path (position_of Utf16 text d.start) d.message
 
--- a line for each diagnostic of a file, given its number
-abbrev pub lines_of : AnalysisData → ℕ × (List ℕ × List ℕ) → List ℕ
-lines_of a file = flat_map (line_of file.1.0 file.1.1) (slice_index_or a.diagnostics file.0 [])
+-- a line for each of some diagnostics of a file, given its path and its text
+abbrev pub lines_of : List ℕ → List ℕ → List Diag → List ℕ
+lines_of path text diags = flat_map (line_of path text) diags
+
+-- the lines of a file of the workspace, given its number
+abbrev pub numbered_lines : AnalysisData → ℕ × (List ℕ × List ℕ) → List ℕ
+numbered_lines a file = lines_of file.1.0 file.1.1 (slice_index_or a.diagnostics file.0 [])
 
 -- the lines of all files, by path
 abbrev pub listing : Workspace → List ℕ
-listing w = flat_map (lines_of (analysis w)) (enumerate_from 0 w)
+listing w = flat_map (numbered_lines (analysis w)) (enumerate_from 0 w)
 
 -- whether a diagnostic is an error, and not an information
 abbrev pub is_error : Diag → Bool

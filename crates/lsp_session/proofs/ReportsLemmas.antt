@@ -14,9 +14,9 @@ use Rattle.lsp_rpc.specs.Diagnostic.{DiagnosticData}
 use Rattle.lsp_rpc.specs.Workspace.{DocumentData}
 use Rattle.file_facts.specs.declared.diagnostic.Diag.{Diag}
 use Rattle.work_index.specs.Workspace.{Workspace, AnalysisData, analysis, diags_at}
-use Rattle.lsp_workspace.specs.Diagnostics.{placed}
+use Rattle.lsp_session.specs.Diagnostics.{placed}
 use Rattle.lsp_workspace.specs.Files.{Files, AreInPathOrder, workspace}
-use Rattle.lsp_workspace.specs.Reports.{document_diagnostics, numbered_report, workspace_reports}
+use Rattle.lsp_session.specs.Reports.{document_diagnostics, numbered_report, workspace_reports}
 use Rattle.lsp_workspace.proofs.PathOrder.{AreBehind, Ascend, paths, ascend-workspace}
 
 another_path : (p q : List ℕ) → slice_cmp nat_cmp p q ≡ Less → bytes_eq p q ≡ false

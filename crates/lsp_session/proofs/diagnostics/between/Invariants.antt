@@ -1,7 +1,7 @@
 use Rattle.std.proofs.Common.{◌≡◌, map, take}
 use Rattle.lsp_rpc.specs.Diagnostic.{diagnostic_view}
-use Rattle.lsp_workspace.specs.Diagnostics.{diagnostic_at}
-use Rattle.lsp_workspace.proofs.diagnostics.between.Given as goal
+use Rattle.lsp_session.specs.Diagnostics.{diagnostic_at}
+use Rattle.lsp_session.proofs.diagnostics.between.Given as goal
 
 -- the diagnostics so far
 abbrev pub invariant-loop-i : goal.invariant-loop-i

@@ -3,9 +3,9 @@ use Rattle.std.specs.List.{enumerate_from}
 use Rattle.lsp_rpc.specs.Workspace.{document_view}
 use Rattle.workspace_uri.specs.View.{root_text}
 use Rattle.work_index.specs.Workspace.{Workspace, analysis}
-use Rattle.lsp_workspace.specs.Reports.{numbered_report}
+use Rattle.lsp_session.specs.Reports.{numbered_report}
 use Rattle.lsp_workspace.specs.View.{files_view}
-use Rattle.lsp_workspace.proofs.reports.workspace_reports.Goals as goal
+use Rattle.lsp_session.proofs.reports.workspace_reports.Goals as goal
 
 pub returns : goal.returns
 returns c =

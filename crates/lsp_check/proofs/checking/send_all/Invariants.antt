@@ -1,0 +1,18 @@
+use Rattle.std.proofs.Common.{◌≡◌}
+use Rattle.lsp_frame.specs.Counts.{NoneFell, NoError}
+use Rattle.work_index.specs.Workspace.{analysis}
+use Rattle.lsp_check.specs.Listing.{listing}
+use Rattle.lsp_check.specs.Steps.{Sent}
+use Rattle.lsp_check.proofs.LinesLemmas.{left_from}
+use Rattle.lsp_check.proofs.checking.send_all.Given as goal
+
+-- the lines of the files so far went out
+abbrev pub invariant-loop-number : goal.invariant-loop-number
+invariant-loop-number g l =
+    let written = g.K.ByteSink.written in
+    let counts = g.K.ByteSink.counts in
+    record {
+      none_fell : NoneFell (counts l.initial.writer) (counts l.writer);
+      no_error : NoError (counts l.initial.writer) (counts l.writer);
+      sent : Sent (written l.initial.writer) (written l.writer) (listing l.snapshot) (left_from (analysis l.snapshot) l.number l.pieces);
+    }
