@@ -1,5 +1,5 @@
 -- What a text says by itself.
-use Rattle.std.specs.Prelude.{◌≡◌, ℕ, Bool, not, List, [], ◌∷◌, ◌++◌, Option, Some, None, map, length, drop, nat_le, nat_lt, codes, if◌then◌else◌}
+use Rattle.std.specs.Prelude.{◌≡◌, ℕ, Bool, not, List, [], ◌∷◌, ◌++◌, Option, Some, None, map, drop, nat_lt, codes, if◌then◌else◌}
 use Rattle.std.specs.List.{flat_map, filter_map, list_any}
 use Rattle.std.specs.Str.{bytes_eq}
 use Rattle.std.specs.declared.alloc.Global.{Global}
@@ -10,7 +10,7 @@ use Rattle.syntax_tree.specs.declared.node.SyntaxProblem.TheVariants as problem
 use Rattle.syntax_tree.specs.declared.node.FileTree.{FileTree}
 use Rattle.syntax_tree.specs.declared.node.Node.{Node, out-Node}
 use Rattle.syntax_tree.specs.declared.node.Node.TheOpen.{Node-F}
-use Rattle.syntax_tree.specs.Read.{value_tree}
+use Rattle.syntax_tree.specs.Read.{is_too_long, value_tree}
 use Rattle.file_facts.specs.declared.fact.Decl.{Decl}
 use Rattle.file_facts.specs.declared.fact.DeclKind.TheVariants as kind
 use Rattle.file_facts.specs.declared.diagnostic.Diag.{Diag}
@@ -90,7 +90,7 @@ not_proto3 (s ∷ more) = diag_if (not s.is_proto3) m.NotProto3 s.span
 
 -- 316 and 317: the one diagnostic of an opaque file
 abbrev pub opaque : List ℕ → List StatedSyntax → Option Diag
-opaque text found = if nat_le (length text) 16777216 then not_proto3 found else Some (diag m.TextTooLong nowhere)
+opaque text found = if is_too_long text then Some (diag m.TextTooLong nowhere) else not_proto3 found
 
 -- what is wrong with its packages, imports and declarations
 abbrev pub file_diags : List StatedPackage → List ImportFact → List Decl → List Diag

@@ -17,10 +17,7 @@ use proto_lex::Reason;
 use sqlite_items::Items;
 use std::alloc::{AllocError, Global};
 use std::collections::HashSet;
-use syntax_tree::{Fault, Literal, Node, Span, SyntaxProblem};
-
-// The longest text that is analysed.
-const MAX_TEXT: usize = 16_777_216;
+use syntax_tree::{Fault, Literal, Node, Span, SyntaxProblem, is_too_long};
 
 // ---- bad tokens and statements
 
@@ -105,10 +102,10 @@ fn not_proto3(found: &[StatedSyntax]) -> Option<Diag>
 pub fn opaque(text: &str, found: &[StatedSyntax]) -> Option<Diag>
     ensures { result ≡ spec.opaque text.now found.now }
 {
-    if text.len() <= MAX_TEXT {
-        not_proto3(found)
-    } else {
+    if is_too_long(text) {
         Some(diag(Problem::TextTooLong, Span { start: 0, end: 0 }))
+    } else {
+        not_proto3(found)
     }
 }
 

@@ -130,6 +130,10 @@ tree_of text ts = join (record { nodes = []; faults = bad_tokens ts }) (body_tre
 unfoldable pub read : List ℕ → FileTree
 read text = tree_of text (tokens text)
 
--- the tree that counts: a text of over 16,777,216 bytes isn't analysed, and has that of the empty text
+-- a text of over 16,777,216 bytes isn't analysed
+abbrev pub is_too_long : List ℕ → Bool
+is_too_long text = nat_lt 16777216 (length text)
+
+-- the tree that counts: a text that is too long has that of the empty text
 unfoldable pub value_tree : List ℕ → FileTree
-value_tree text = if nat_lt 16777216 (length text) then read [] else read text
+value_tree text = if is_too_long text then read [] else read text

@@ -7,9 +7,11 @@
 #![tactic(auto)]
 
 mod lexeme;
+mod limit;
 mod node;
 
 pub use lexeme::{Body, Lexeme, Word};
+pub use limit::is_too_long;
 pub use node::{
     Fault, Field, FileTree, Header, Literal, MapField, Node, Number, RangeEnd, ReservedList,
     ReservedRange, Span, SyntaxProblem, TypeName,

@@ -9,10 +9,7 @@ use proto_facts::facts;
 use proto_lex::lex;
 use proto_syntax::parse;
 use std::alloc::{AllocError, Global};
-use syntax_tree::FileTree;
-
-// How long a text may be that is analysed, in bytes.
-const MAX_ANALYSED: usize = 16_777_216;
+use syntax_tree::{FileTree, is_too_long};
 
 /// What is made of a file's text by itself.
 #[derive(Drop)]
@@ -66,7 +63,7 @@ fn read(alloc: Global, text: &str) -> Result<FileTree, AllocError>
 fn tree_of(alloc: Global, text: &str) -> Result<FileTree, AllocError>
     ensures { IfOk result (λ tree. tree ≡ value_tree text.now) }
 {
-    if MAX_ANALYSED < text.len() {
+    if is_too_long(text) {
         read(alloc, "")
     } else {
         read(alloc, text)
