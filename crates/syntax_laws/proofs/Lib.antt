@@ -1,4 +1,6 @@
 pub mod GrammarLemmas
+pub mod PartsRead
+pub mod StatementsRead
 pub mod ItemsLaw
 pub mod SizeLaw
 pub mod BracketsLaw

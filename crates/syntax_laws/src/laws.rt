@@ -1,6 +1,7 @@
 // Laws of the definitions. Each is proved for all texts, and its function does nothing.
 ghost use Rattle.std.specs.List.Sorted.{IsStrictlyIncreasing};
 ghost use Rattle.std.specs.Prelude.{◌≡◌, ◌↔◌, ◌<◌, ◌≤◌, ℕ, IsTrue, List, [], length, map};
+ghost use Rattle.syntax_laws.specs.Reading.{HeadersAreRead, HeadersAreUnique, StatementsAreRead, StatementsAreUnique};
 ghost use Rattle.syntax_tree.specs.Cut.{items, AreItems};
 ghost use Rattle.syntax_tree.specs.Grammar.{HeadersAreSpelled, StatementsAreSpelled};
 ghost use Rattle.syntax_tree.specs.Identifiers.{NamesAreIdentifiers};
@@ -24,14 +25,19 @@ pub fn brackets_law()
     ensures { (ts : List Lexeme) → IsTrue (is_balanced ts) ↔ IsBalanced ts }
 {}
 
-/// A law: what is read as the header of a block is spelled as the grammar says, and its `{` follows.
+/// A law: as the header of a block, with its `{` behind it, exactly the tokens are read that the grammar says, and what is
+/// behind them is left. Tokens begin with one header at most.
 pub fn headers_law()
-    ensures { HeadersAreSpelled }
+    ensures spelled { HeadersAreSpelled }
+    ensures read { HeadersAreRead }
+    ensures only { HeadersAreUnique }
 {}
 
-/// A law: what is read as a statement without a block is spelled as the grammar says.
+/// A law: as a statement without a block exactly the tokens are read that the grammar says. They spell one statement at most.
 pub fn statements_law()
-    ensures { StatementsAreSpelled }
+    ensures spelled { StatementsAreSpelled }
+    ensures read { StatementsAreRead }
+    ensures only { StatementsAreUnique }
 {}
 
 /// A law: a text of over 16,777,216 bytes has the tree of the empty text, with no statements and no faults, and each
