@@ -10,3 +10,5 @@ pub mod TreeSpells
 pub mod NameOrder
 pub mod PackageNames
 pub mod TokenNames
+pub mod Identifiers
+pub mod Apart

@@ -1,6 +1,7 @@
 // Laws of the definitions. Each is proved for all texts, and its function does nothing.
 ghost use Rattle.std.specs.List.Sorted.{IsStrictlyIncreasing};
 ghost use Rattle.std.specs.Prelude.{◌≡◌, ◌↔◌, ◌<◌, ◌≤◌, ℕ, IsTrue, List, [], length, map};
+ghost use Rattle.syntax_laws.specs.Apart.{NamesAreApart};
 ghost use Rattle.syntax_laws.specs.Reading.{HeadersAreRead, HeadersAreUnique, StatementsAreRead, StatementsAreUnique};
 ghost use Rattle.syntax_tree.specs.Cut.{items, AreItems};
 ghost use Rattle.syntax_tree.specs.Grammar.{HeadersAreSpelled, StatementsAreSpelled};
@@ -61,6 +62,15 @@ pub fn type_names_law()
     ensures names { (text : List ℕ) → IsStrictlyIncreasing (map (λ t. t.span.start) (type_names_in (read text).nodes)) }
     ensures components { (text : List ℕ) → IsStrictlyIncreasing (map (λ s. s.start) (type_components_in (read text).nodes)) }
 {
+    ordered_tokens();
+}
+
+/// A law: no two names of a text touch. Those that statements declare and the components of types and of packages, put in one
+/// list by their offsets, have a byte or more, and each ends before the next one starts, with a byte at least between the two.
+pub fn names_apart()
+    ensures { (text : List ℕ) → NamesAreApart (read text).nodes }
+{
+    one_token_list();
     ordered_tokens();
 }
 
