@@ -12,3 +12,5 @@ pub mod PackageNames
 pub mod TokenNames
 pub mod Identifiers
 pub mod Apart
+pub mod BlockEnds
+pub mod TreesLaw

@@ -49,7 +49,7 @@ pub starts_ident : (span : Span) (ts : List Lexeme) → IsIdent span ts → Star
 starts_ident span ts h = record { first = h.0; more = []; whole = h.1; passes = h.2 }
 
 -- a word that passes is none that doesn't
-differs : (fits : Word → Bool) (x it : Word) → fits x ≡ true → fits it ≡ false → same_word x it ≡ false
+pub differs : (fits : Word → Bool) (x it : Word) → fits x ≡ true → fits it ≡ false → same_word x it ≡ false
 differs fits x it e f = by (same_word x it) refl
   where
     by : (b : Bool) → same_word x it ≡ b → same_word x it ≡ false

@@ -30,6 +30,7 @@ use Rattle.syntax_tree.specs.Parts.{Reader, ◌>>=◌, ◌>>◌, pure, nothing, 
 use Rattle.syntax_tree.specs.Forms.{option_parts, block_name, extend_header, in_parentheses, rpc_header, header_form, header_and_brace, header_and_rest, numbered, is_label, label, labels_given, labels, plain_field, map_field, field, field_or_map, begins_map, syntax_form, import_form, package_form, value_form, empty_form, rpc_form, option_part, option_value, option_form, named_from, range_end, range, ranges, literals, reserved_list, reserved_form, form, statement}
 use Rattle.syntax_tree.specs.Grammar.{◌⊳◌, IsWord, IsWordAt, IsIdent, IsFlag, IsSeparated, IsFull, IsType, IsLiteral, IsNumber, IsLabels, begins_with_label, AreAllLabels, IsAt, IsContent, IsFieldEnd, IsOptionPart, IsOptionName, IsRangeEnd, IsRange, IsReservedList, IsInParentheses, IsHeader, IsModifier, Spells, is_syntax, is_import, is_package, is_option, is_field, is_map_field, is_value, is_reserved_in_message, is_reserved_in_enum, is_rpc, is_empty, may_be_field, has_options, is_listed_in_enum}
 use Rattle.syntax_tree.proofs.PartLemmas.{pair_is}
+use Rattle.syntax_laws.specs.Trees.{first_word}
 use Rattle.syntax_laws.proofs.BracketsLaw.{is_balanced_of}
 use Rattle.syntax_laws.proofs.GrammarLemmas.{full_span, but_last_twice, named_is, Ending, parted}
 use Rattle.syntax_laws.proofs.PartsRead.{Starts, is_word, is_same, starts_before, starts_turn, starts_word, starts_word_at, starts_ident, starts_not, starts_as, read_then, step_at, step, read_ident, read_word_at, at_word, step_word, last_word, read_flag, read_separated, starts_separated, some_of, read_full, starts_full, in_type, starts_type, read_type, starts_literal, read_literal, in_number, starts_number, read_number}
@@ -85,15 +86,6 @@ rpc_read name request response front rest h =
     step in_parentheses _ (IsInParentheses request) (IsWord w.Returns ⊳ IsInParentheses response) request _ t2 rest h2 (λ f2 t3 p2 h3. in_parentheses_read request f2 (t3 ++ rest) p2) (λ t3 h3.
     step_word w.Returns _ (IsInParentheses response) _ t3 rest h3 (λ s4 t4 h4. read_then in_parentheses _ (t4 ++ rest) rest response _ (in_parentheses_read response t4 rest h4) refl))))
 
--- the word that a header begins with
-abbrev word_of_header : Header → Word
-word_of_header (header.Message name) = w.Message
-word_of_header (header.Enum name) = w.Enum
-word_of_header (header.Service name) = w.Service
-word_of_header (header.Oneof name) = w.Oneof
-word_of_header (header.Extend target) = w.Extend
-word_of_header (header.Rpc name request response) = w.Rpc
-
 -- a header with a name alone
 named_read : (it : Word) (name : Span) (made : Span → Header) (front rest : List Lexeme) → (IsWord it ⊳ IsIdent name) front → (block_name it >>= (λ name. pure (made name))) (front ++ rest) ≡ Some (made name, rest)
 named_read it name made front rest h = read_then (block_name it) (λ name. pure (made name)) (front ++ rest) rest name (Some (made name, rest)) (block_named it name front rest h) refl
@@ -102,7 +94,7 @@ named_read it name made front rest h = read_then (block_name it) (λ name. pure 
 abbrev BraceFollows : List Lexeme → Type 0
 BraceFollows rest = begins w.Dot rest ≡ false
 
-header_read : (head : Header) (front rest : List Lexeme) → IsHeader head front → BraceFollows rest → header_form (word_of_header head) (front ++ rest) ≡ Some (head, rest)
+header_read : (head : Header) (front rest : List Lexeme) → IsHeader head front → BraceFollows rest → header_form (first_word head) (front ++ rest) ≡ Some (head, rest)
 unfolding extend_header
 header_read (header.Message name) front rest h none = named_read w.Message name header.Message front rest h
 header_read (header.Enum name) front rest h none = named_read w.Enum name header.Enum front rest h
@@ -112,7 +104,7 @@ header_read (header.Extend target) front rest h none =
     step_word w.Extend _ (IsType target) _ front rest h (λ s t1 h1. read_then type_name _ (t1 ++ rest) rest target _ (read_type target t1 rest h1 none) refl)
 header_read (header.Rpc name request response) front rest h none = rpc_read name request response front rest h
 
-starts_header : (head : Header) (front : List Lexeme) → IsHeader head front → Starts (is_word (word_of_header head)) front
+pub starts_header : (head : Header) (front : List Lexeme) → IsHeader head front → Starts (is_word (first_word head)) front
 starts_header (header.Message name) front h = starts_turn (IsWord w.Message) _ (starts_word w.Message) h
 starts_header (header.Enum name) front h = starts_turn (IsWord w.Enum) _ (starts_word w.Enum) h
 starts_header (header.Service name) front h = starts_turn (IsWord w.Service) _ (starts_word w.Service) h
@@ -120,12 +112,12 @@ starts_header (header.Oneof name) front h = starts_turn (IsWord w.Oneof) _ (star
 starts_header (header.Extend target) front h = starts_turn (IsWord w.Extend) _ (starts_word w.Extend) h
 starts_header (header.Rpc name request response) front h = starts_turn (IsWord w.Rpc) _ (starts_word w.Rpc) h
 
-brace_at : (t : Lexeme) (ts front rest : List Lexeme) (head : Header) → front ++ rest ≡ t ∷ ts → t.word ≡ word_of_header head → (IsHeader head ⊳ IsWord w.OpenBrace) front → header_and_brace (t ∷ ts) ≡ Some (head, rest)
+brace_at : (t : Lexeme) (ts front rest : List Lexeme) (head : Header) → front ++ rest ≡ t ∷ ts → t.word ≡ first_word head → (IsHeader head ⊳ IsWord w.OpenBrace) front → header_and_brace (t ∷ ts) ≡ Some (head, rest)
 unfolding header_and_brace
 brace_at t ts front rest head e first h =
     ap (header_form t.word >>= (λ head. word w.OpenBrace >> pure head)) (sym e)
     ∙ ap (λ it. (header_form it >>= (λ head. word w.OpenBrace >> pure head)) (front ++ rest)) first
-    ∙ step (header_form (word_of_header head)) _ (IsHeader head) (IsWord w.OpenBrace) head _ front rest h
+    ∙ step (header_form (first_word head)) _ (IsHeader head) (IsWord w.OpenBrace) head _ front rest h
     (λ f b p q. header_read head f (b ++ rest) p (no_other w.OpenBrace w.Dot b rest q refl))
     (λ b q. last_word w.OpenBrace _ _ b rest q (λ s. refl))
 
@@ -133,11 +125,11 @@ pub headers_are_read : (head : Header) (front rest : List Lexeme) → (IsHeader 
 headers_are_read head front rest h =
     let s = starts_turn (IsHeader head) (IsWord w.OpenBrace) (starts_header head) h in
     let split : front ++ rest ≡ s.first ∷ (s.more ++ rest) = ap (λ l. l ++ rest) s.whole in
-    ap header_and_brace split ∙ brace_at s.first (s.more ++ rest) front rest head split (same_true the_type (search refl) s.first.word (word_of_header head) s.passes) h
+    ap header_and_brace split ∙ brace_at s.first (s.more ++ rest) front rest head split (same_true the_type (search refl) s.first.word (first_word head) s.passes) h
 
 -- ---- ends of statements
 
-ends_in_last : (it : Word) (ts : List Lexeme) (t : Lexeme) → t.word ≡ it → ends_in it (ts ++ t ∷ []) ≡ true
+pub ends_in_last : (it : Word) (ts : List Lexeme) (t : Lexeme) → t.word ≡ it → ends_in it (ts ++ t ∷ []) ≡ true
 ends_in_last it [] t e = ap (is_word it) e ∙ is_same it
 ends_in_last it (u ∷ []) t e = ap (is_word it) e ∙ is_same it
 ends_in_last it (u ∷ v ∷ ts) t e = ends_in_last it (v ∷ ts) t e
@@ -146,7 +138,7 @@ take_front : (ts us : List Lexeme) → take (length ts) (ts ++ us) ≡ ts
 take_front [] us = refl
 take_front (t ∷ ts) us = ap (λ l. t ∷ l) (take_front ts us)
 
-but_last_one : (ts : List Lexeme) (t : Lexeme) → but_last 1 (ts ++ t ∷ []) ≡ ts
+pub but_last_one : (ts : List Lexeme) (t : Lexeme) → but_last 1 (ts ++ t ∷ []) ≡ ts
 but_last_one ts t =
     let len : length (ts ++ t ∷ []) - 1 ≡ length ts = omega (arith, length-append ts (t ∷ [])) in
     ap (λ k. take k (ts ++ t ∷ [])) len ∙ take_front ts (t ∷ [])

@@ -3,12 +3,14 @@ ghost use Rattle.std.specs.List.Sorted.{IsStrictlyIncreasing};
 ghost use Rattle.std.specs.Prelude.{◌≡◌, ◌↔◌, ◌<◌, ◌≤◌, ℕ, IsTrue, List, [], length, map};
 ghost use Rattle.syntax_laws.specs.Apart.{NamesAreApart};
 ghost use Rattle.syntax_laws.specs.Reading.{HeadersAreRead, HeadersAreUnique, StatementsAreRead, StatementsAreUnique};
+ghost use Rattle.syntax_laws.specs.Trees.{BlocksEnd, IsTreeOf, ReadsBody};
+ghost use Rattle.syntax_tree.specs.declared.node.FileTree.{FileTree};
 ghost use Rattle.syntax_tree.specs.Cut.{items, AreItems};
 ghost use Rattle.syntax_tree.specs.Grammar.{HeadersAreSpelled, StatementsAreSpelled};
 ghost use Rattle.syntax_tree.specs.Identifiers.{NamesAreIdentifiers};
 ghost use Rattle.syntax_tree.specs.Names.{names_in, type_components_in, type_names_in};
 ghost use Rattle.syntax_tree.specs.Parts.{IsBalanced, is_balanced};
-ghost use Rattle.syntax_tree.specs.Read.{empty_tree, read, value_tree};
+ghost use Rattle.syntax_tree.specs.Read.{body_tree, empty_tree, read, value_tree};
 ghost use Rattle.syntax_tree.specs.declared.lexeme.Body.{Body};
 ghost use Rattle.syntax_tree.specs.declared.lexeme.Lexeme.{Lexeme};
 
@@ -40,6 +42,20 @@ pub fn statements_law()
     ensures read { StatementsAreRead }
     ensures only { StatementsAreUnique }
 {}
+
+/// A law: of a block that is cut out of its body the last token is a `}`.
+pub fn blocks_law()
+    ensures { BlocksEnd }
+{}
+
+/// A law: each body, and each text, is read as the one tree that the rules for items and blocks say, and as no other.
+pub fn trees_law()
+    ensures body { (blocks : ℕ) (body : Body) (ts : List Lexeme) (tree : FileTree) → ReadsBody blocks body ts tree ↔ (tree ≡ body_tree blocks body ts) }
+    ensures exists { (text : List ℕ) → IsTreeOf text (read text) }
+    ensures only { (text : List ℕ) (tree : FileTree) → IsTreeOf text tree → tree ≡ read text }
+{
+    one_token_list();
+}
 
 /// A law: a text of over 16,777,216 bytes has the tree of the empty text, with no statements and no faults, and each
 /// other text has the tree that is read.
