@@ -7,6 +7,8 @@ ghost use Rattle.file_facts.specs.declared.fact.FileFacts.{FileFacts};
 ghost use Rattle.file_facts.specs.declared.problem.Problem.{Problem};
 ghost use Rattle.file_facts.specs.Facts.{AreFacts, facts_in, facts_of};
 ghost use Rattle.file_facts.specs.Problems.{problem_order, variant_order};
+ghost use Rattle.facts_laws.specs.Parents.{ParentsHold};
+ghost use Rattle.syntax_tree.specs.Read.{value_tree};
 ghost use Rattle.file_facts.specs.Nesting.{NamesNest};
 ghost use Rattle.file_facts.specs.Order.{IsListOf, in_order as ordered};
 
@@ -34,6 +36,14 @@ pub fn decls_in_order()
     ensures { (text : List ℕ) → IsStrictlyIncreasing (map (λ d. d.name_span.start) (facts_of text).decls) }
 {
     names_law();
+}
+
+/// A law: the parent of a declaration of a text stands before it and is the message, enum, service or oneof whose body declares
+/// it. One without a parent is declared by the file itself, and no declaration's body declares it.
+pub fn parents_hold()
+    ensures { (text : List ℕ) → ParentsHold (value_tree text).nodes (facts_of text).decls }
+{
+    decls_in_order();
 }
 
 /// A law: the declarations of a text nest. Each full name that a declaration lies in is declared too, or is the package or one

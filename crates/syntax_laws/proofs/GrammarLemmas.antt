@@ -155,7 +155,7 @@ gives-separated separator item P p ts = gives-separated_by separator item P p (l
 pub gives-full : Gives full IsFull
 gives-full = gives-separated w.Dot identifier IsIdent gives-identifier
 
-heads : {x y : Lexeme} {xs ys : List Lexeme} → x ∷ xs ≡ y ∷ ys → x ≡ y
+pub heads : {x y : Lexeme} {xs ys : List Lexeme} → x ∷ xs ≡ y ∷ ys → x ≡ y
 heads e = cc
 
 -- the last component of a name is its last token
@@ -168,7 +168,7 @@ full_last (x ∷ y ∷ more) names d h =
     (h.3.0, h.4.3.0 ∷ r.0 ∷ r.1, whole, r.3)
 
 -- the span of a full name is from its first component to its last
-full_span : (s : Span) (ss : List Span) (names : List Lexeme) → IsFull (s ∷ ss) names → between s (last_of s ss) ≡ span_of names
+pub full_span : (s : Span) (ss : List Span) (names : List Lexeme) → IsFull (s ∷ ss) names → between s (last_of s ss) ≡ span_of names
 full_span s [] names h = ap (λ (x : Span). between x x) (sym h.3) ∙ ap span_of (sym h.1)
 full_span s (y ∷ more) names h =
     let r = full_last (s ∷ y ∷ more) names s h in
@@ -177,7 +177,7 @@ full_span s (y ∷ more) names h =
     ap (λ (x : Span). between x (last_of y more)) first ∙ ap (between r.0.span) r.3 ∙ ap span_of (sym r.2)
 
 -- the last token of a list stands here
-abbrev EndsAt : Span → List Lexeme → Type 0
+abbrev pub EndsAt : Span → List Lexeme → Type 0
 EndsAt span ts = (u : Lexeme) × (us : List Lexeme) × (ts ≡ u ∷ us) × (last_span u us ≡ span)
 
 -- the last token of a list is the last of what is behind
@@ -186,11 +186,11 @@ last_behind t [] u us = refl
 last_behind t (x ∷ ts) u us = last_behind x ts u us
 
 -- a form, and where its last token stands
-abbrev Ending : (List Lexeme → Type 0) → Span → List Lexeme → Type 0
+abbrev pub Ending : (List Lexeme → Type 0) → Span → List Lexeme → Type 0
 Ending P span ts = P ts × EndsAt span ts
 
 -- the last of the parts ends with the last token
-parts_last : (P : List Lexeme → Type 0) (parts : List Span) (names : List Lexeme) (d : Span) → IsSeparated w.Dot (Ending P) parts names → (u : Lexeme) × (us : List Lexeme) × (names ≡ u ∷ us) × (last_of d parts ≡ last_span u us)
+pub parts_last : (P : List Lexeme → Type 0) (parts : List Span) (names : List Lexeme) (d : Span) → IsSeparated w.Dot (Ending P) parts names → (u : Lexeme) × (us : List Lexeme) × (names ≡ u ∷ us) × (last_of d parts ≡ last_span u us)
 parts_last P [] names d h = absurd h
 parts_last P (x ∷ []) names d h = (h.1.0, h.1.1, h.1.2, sym h.1.3)
 parts_last P (x ∷ y ∷ more) names d h =
@@ -206,7 +206,7 @@ parts_only P [] names h = absurd h
 parts_only P (x ∷ []) names h = h.0
 parts_only P (x ∷ y ∷ more) names h = (h.0, h.1, h.2, h.3.0, (h.4.0, h.4.1, h.4.2, h.4.3, parts_only P (y ∷ more) h.4.1 h.4.4))
 
-type_span : (t : Lexeme) (ts : List Lexeme) (components : List Span) (absolute : Bool) (front rest : List Lexeme) → t ∷ ts ≡ front ++ rest → (IsFlag w.Dot absolute ⊳ IsFull components) front → between t.span (last_of t.span components) ≡ span_of front
+pub type_span : (t : Lexeme) (ts : List Lexeme) (components : List Span) (absolute : Bool) (front rest : List Lexeme) → t ∷ ts ≡ front ++ rest → (IsFlag w.Dot absolute ⊳ IsFull components) front → between t.span (last_of t.span components) ≡ span_of front
 type_span t ts components true front rest e h =
     let r = full_last components h.1 t.span h.4 in
     let whole : front ≡ h.3.0 ∷ r.0 ∷ r.1 = h.2 ∙ ap (λ l. l ++ h.1) h.3.1 ∙ ap (λ l. h.3.0 ∷ l) r.2 in
@@ -295,7 +295,7 @@ last_is t [] = refl
 last_is t (u ∷ ts) = last_is u ts
 
 -- the span of tokens is from the first of their spans to the last
-spanned : (ts : List Lexeme) (s : Span) (ss : List Span) → map (λ t. t.span) ts ≡ s ∷ ss → between s (last_of s ss) ≡ span_of ts
+pub spanned : (ts : List Lexeme) (s : Span) (ss : List Span) → map (λ t. t.span) ts ≡ s ∷ ss → between s (last_of s ss) ≡ span_of ts
 spanned [] s ss e = cc
 spanned (t ∷ ts) s ss e =
     let heads : t.span ≡ s = cc in
@@ -320,7 +320,7 @@ gives-literal ts a rest e =
         (front, e1 ∙ ap (λ l. front ++ l) (behind ∙ (pair_is g).1), subst (λ x. IsLiteral x front) (pair_is g).0 (e2 ∙ same, all, is_some, spanned front s ss (e2 ∙ same)))
 
 -- a number's span is that of its tokens
-number_span : (t : Lexeme) (ts : List Lexeme) (digits : Span) (minus : Bool) (front rest : List Lexeme) → t ∷ ts ≡ front ++ rest → (IsFlag w.Minus minus ⊳ IsWordAt w.Int digits) front → between t.span digits ≡ span_of front
+pub number_span : (t : Lexeme) (ts : List Lexeme) (digits : Span) (minus : Bool) (front rest : List Lexeme) → t ∷ ts ≡ front ++ rest → (IsFlag w.Minus minus ⊳ IsWordAt w.Int digits) front → between t.span digits ≡ span_of front
 number_span t ts digits true front rest e h =
     let whole : front ≡ h.3.0 ∷ h.4.0 ∷ [] = h.2 ∙ ap (λ l. l ++ h.1) h.3.1 ∙ ap (λ l. h.3.0 ∷ l) h.4.1 in
     let first : t ≡ h.3.0 = heads (e ∙ ap (λ l. l ++ rest) whole) in
@@ -357,11 +357,11 @@ both true true e = (refl, refl)
 both true false e = absurd (false≢true e)
 both false y e = absurd (false≢true e)
 
-content : (ts : List Lexeme) → is_content ts ≡ true → IsContent ts
+pub content : (ts : List Lexeme) → is_content ts ≡ true → IsContent ts
 content [] e = absurd (false≢true e)
 content (t ∷ ts) e = (balanced_is (t ∷ ts) e, λ none. cc)
 
-but_last_twice : (ts : List Lexeme) → but_last 1 (but_last 1 ts) ≡ but_last 2 ts
+pub but_last_twice : (ts : List Lexeme) → but_last 1 (but_last 1 ts) ≡ but_last 2 ts
 but_last_twice ts =
     let len : length (but_last 1 ts) ≡ length ts - 1 = omega (arith, length-take (length ts - 1) ts) in
     let n : length (but_last 1 ts) - 1 ≡ length ts - 2 = omega arith in
@@ -566,7 +566,7 @@ closed_at s f1 middle f4 p1 p4 =
     (p1.0, middle ++ p4.0 ∷ [], whole, last_behind p1.0 middle p4.0 [] ∙ p4.3)
 
 -- a part in parentheses
-parted : (s : Span) (absolute : Bool) (parts : List Span) (f1 f2 f3 f4 : List Lexeme) → IsWord w.OpenParen f1 → IsFlag w.Dot absolute f2 → IsFull parts f3 → IsWordAt w.CloseParen s f4 → Ending IsOptionPart s (f1 ++ (f2 ++ (f3 ++ f4)))
+pub parted : (s : Span) (absolute : Bool) (parts : List Span) (f1 f2 f3 f4 : List Lexeme) → IsWord w.OpenParen f1 → IsFlag w.Dot absolute f2 → IsFull parts f3 → IsWordAt w.CloseParen s f4 → Ending IsOptionPart s (f1 ++ (f2 ++ (f3 ++ f4)))
 parted s absolute parts f1 f2 f3 f4 p1 p2 p3 p4 =
     (inr (absolute, parts, turn f1 _ p1 (turn f2 _ p2 (turn f3 f4 p3 (p4.0, p4.1, p4.2)))), subst (λ l. EndsAt s (f1 ++ l)) (append_assoc f2 f3 f4) (closed_at s f1 (f2 ++ f3) f4 p1 p4))
 
@@ -592,7 +592,7 @@ gives-option_value ts a rest e = by (ends_in w.Semicolon ts && is_content (but_l
     by false f e = never e
 
 -- the name is the whole of the parts
-named_is : (ts : List Lexeme) (parts : List Span) (names here : List Lexeme) → ts ≡ names ++ here → IsSeparated w.Dot (Ending IsOptionPart) parts names → named_from ts parts ≡ Some (span_of names)
+pub named_is : (ts : List Lexeme) (parts : List Span) (names here : List Lexeme) → ts ≡ names ++ here → IsSeparated w.Dot (Ending IsOptionPart) parts names → named_from ts parts ≡ Some (span_of names)
 named_is [] parts names here e h =
     let r = parts_last IsOptionPart parts names (record { start = 0; «end» = 0 }) h in
     let none : [] ≡ r.0 ∷ (r.1 ++ here) = e ∙ ap (λ l. l ++ here) r.2 in

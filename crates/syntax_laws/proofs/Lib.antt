@@ -1,4 +1,6 @@
 pub mod GrammarLemmas
+pub mod PartsRead
+pub mod StatementsRead
 pub mod ItemsLaw
 pub mod SizeLaw
 pub mod BracketsLaw
@@ -8,3 +10,7 @@ pub mod TreeSpells
 pub mod NameOrder
 pub mod PackageNames
 pub mod TokenNames
+pub mod Identifiers
+pub mod Apart
+pub mod BlockEnds
+pub mod TreesLaw

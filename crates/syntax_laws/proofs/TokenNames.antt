@@ -41,7 +41,7 @@ no_string : (bs : List ℕ) → is_identifier (string_word bs) ≡ false
 no_string bs = either (list_any (λ x. x == 92) bs) w.EscapedText w.PlainText refl refl
 
 -- an identifier is a token of that kind
-of_ident : (kind : Kind) (bs : List ℕ) → IsForm kind bs → is_identifier (word_of kind bs) ≡ true → IsIdentForm bs
+pub of_ident : (kind : Kind) (bs : List ℕ) → IsForm kind bs → is_identifier (word_of kind bs) ≡ true → IsIdentForm bs
 of_ident k.Ident bs form is = form
 of_ident k.Int bs form is = absurd (false≢true is)
 of_ident k.Float bs form is = absurd (false≢true is)
@@ -73,7 +73,7 @@ no_dot (c ∷ bs) form = All-cons (λ c. c ≢ 46) c bs (letter_no_dot c form.0)
 -- ---- tokens
 
 -- a token of which this holds if it is an identifier
-abbrev IfIdentifier : (Span → Type 0) → Lexeme → Type 0
+abbrev pub IfIdentifier : (Span → Type 0) → Lexeme → Type 0
 IfIdentifier Q t = IsTrue (is_identifier t.word) → Q t.span
 
 module _ (text : List ℕ) where
@@ -81,7 +81,7 @@ module _ (text : List ℕ) where
   abbrev IsKnown : Token → Type 0
   IsKnown t = IsTokenAt text t × (IsUtf8 text → IsCut text t)
 
-  tokens_from-known : (at : ℕ) (ts : List Token) → AreTokensFrom text at ts → All (IsTokenAt text) ts
+  pub tokens_from-known : (at : ℕ) (ts : List Token) → AreTokensFrom text at ts → All (IsTokenAt text) ts
   tokens_from-known at [] h = All-nil (IsTokenAt text)
   tokens_from-known at (t ∷ ts) h = All-cons (IsTokenAt text) t ts h.1 (tokens_from-known t.«end» ts h.2)
 
@@ -110,7 +110,7 @@ All-behind P [] behind h = h
 All-behind P (x ∷ front) behind h = All-behind P front behind (All-tail P x (front ++ behind) h)
 
 -- what holds of each token that is an identifier holds of the identifiers that are spelled
-spelled-all : (Q : Span → Type 0) (ts : List Lexeme) (spans : List Span) → All (IfIdentifier Q) ts → Spell IsIdent ts spans → All Q spans
+pub spelled-all : (Q : Span → Type 0) (ts : List Lexeme) (spans : List Span) → All (IfIdentifier Q) ts → Spell IsIdent ts spans → All Q spans
 spelled-all Q ts [] all h = All-nil Q
 spelled-all Q ts (s ∷ more) all h =
     let ident = h.4 in

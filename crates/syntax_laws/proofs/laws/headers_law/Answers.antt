@@ -1,5 +1,12 @@
 use Rattle.syntax_laws.proofs.GrammarLemmas.{gives-header}
+use Rattle.syntax_laws.proofs.StatementsRead.{headers_are_read, headers_are_unique}
 use Rattle.syntax_laws.proofs.laws.headers_law.Goals as goal
 
-pub returns : goal.returns
-returns c = gives-header
+pub returns-clause-spelled : goal.returns-clause-spelled
+returns-clause-spelled c = gives-header
+
+pub returns-clause-read : goal.returns-clause-read
+returns-clause-read c = headers_are_read
+
+pub returns-clause-only : goal.returns-clause-only
+returns-clause-only c = headers_are_unique
