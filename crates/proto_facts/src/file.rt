@@ -10,13 +10,11 @@ ghost use Rattle.file_facts.specs.Checks as checks;
 
 use crate::checks::{add, diag, diag_if};
 use crate::members::is;
-use crate::seen::note_name;
 use crate::text::{dotted, literal_text};
-use file_facts::{Decl, Diag, ImportFact, PackageFact, Problem, StatedPackage, StatedSyntax};
+use file_facts::{Diag, ImportFact, PackageFact, Problem, StatedPackage, StatedSyntax};
 use proto_lex::Reason;
 use sqlite_items::Items;
 use std::alloc::{AllocError, Global};
-use std::collections::HashSet;
 use syntax_tree::{Fault, Literal, Node, Span, SyntaxProblem};
 
 // The longest text that is analysed.
@@ -333,43 +331,6 @@ pub fn add_imports(
 {
     'nodes: for node in nodes {
         add_import_of(alloc, text, node, found)?;
-    }
-    Ok(())
-}
-
-// Adds the imports whose path an earlier one has.
-pub fn add_imported_twice(
-    alloc: Global,
-    imports: &[ImportFact],
-    diags: &mut Items<Diag>,
-) -> Result<(), AllocError>
-    ensures { OnOk result (diags.new ≡ diags.old ++ checks.judged spec.imported_twice imports.now) }
-{
-    let mut seen = HashSet::with_capacity(alloc, imports.len())?;
-    'names: for name in imports {
-        let again = note_name(&mut seen, name.path.as_str())?;
-        add(diag_if(again, Problem::ImportedTwice, name.span), diags)?;
-    }
-    Ok(())
-}
-
-// ---- declarations
-
-// Adds the declarations whose full name an earlier one has.
-pub fn add_declared_twice(
-    alloc: Global,
-    decls: &[Decl],
-    diags: &mut Items<Diag>,
-) -> Result<(), AllocError>
-    ensures { OnOk result (diags.new ≡ diags.old ++ checks.judged spec.declared_twice decls.now) }
-{
-    let mut seen = HashSet::with_capacity(alloc, decls.len())?;
-    'names: for name in decls {
-        let again = note_name(&mut seen, name.full_name.as_str())?;
-        add(
-            diag_if(again, Problem::DeclaredTwice, name.name_span),
-            diags,
-        )?;
     }
     Ok(())
 }
