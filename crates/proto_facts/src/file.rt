@@ -65,7 +65,7 @@ fn add_stated_of(
 {
     match node {
         Node::Syntax { span, value } => {
-            let is_proto3 = says_proto3(alloc, text, value)?;
+            let is_proto3 = says_proto3(alloc, text, value.get())?;
             found.push(StatedSyntax {
                 span: *span,
                 is_proto3,
@@ -121,9 +121,9 @@ fn start_of(node: &Node) -> usize
         Node::Service { span, .. } => span.start,
         Node::Oneof { span, .. } => span.start,
         Node::Extend { span, .. } => span.start,
-        Node::Rpc { span, .. } => span.start,
-        Node::Field(field) => field.span.start,
-        Node::MapField(field) => field.span.start,
+        Node::Rpc { span, .. } => span.get().start,
+        Node::Field(field) => field.get().span.start,
+        Node::MapField(field) => field.get().span.start,
         Node::Value { span, .. } => span.start,
         Node::Reserved { span, .. } => span.start,
         Node::Import { span, .. } => span.start,
@@ -236,8 +236,9 @@ fn add_package_of(
             components,
             ..
         } => {
-            let full_name = dotted(alloc, text, components.as_slice())?;
-            let components = Items::from_slice(alloc, components.as_slice())?;
+            let components = components.get().as_slice();
+            let full_name = dotted(alloc, text, components)?;
+            let components = Items::from_slice(alloc, components)?;
             found.push(StatedPackage {
                 name: *name,
                 fact: PackageFact {
@@ -309,6 +310,7 @@ fn add_import_of(
             path,
             ..
         } => {
+            let path = path.get();
             let value = literal_text(alloc, text, path)?;
             found.push(ImportFact {
                 path: value,
