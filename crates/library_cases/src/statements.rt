@@ -90,13 +90,13 @@ fn write_block(
 /// Writes a statement in words, without those inside it.
 pub fn write_node(line: &mut String, text: &str, node: &Node) -> Result<(), AllocError> {
     match node {
-        Node::Message { name, items, .. } => write_block(line, text, "message", *name, items),
-        Node::EnumDef { name, items, .. } => write_block(line, text, "enum", *name, items),
-        Node::Service { name, items, .. } => write_block(line, text, "service", *name, items),
-        Node::Oneof { name, items, .. } => write_block(line, text, "oneof", *name, items),
+        Node::Message { name, items, .. } => write_block(line, text, "message", *name, items.get()),
+        Node::EnumDef { name, items, .. } => write_block(line, text, "enum", *name, items.get()),
+        Node::Service { name, items, .. } => write_block(line, text, "service", *name, items.get()),
+        Node::Oneof { name, items, .. } => write_block(line, text, "oneof", *name, items.get()),
         Node::Extend { target, items, .. } => {
-            write_block(line, text, "extend", target.span, items)?;
-            write_type(line, text, target)
+            write_block(line, text, "extend", target.get().span, items.get())?;
+            write_type(line, text, target.get())
         }
         Node::Rpc {
             name,
@@ -105,11 +105,12 @@ pub fn write_node(line: &mut String, text: &str, node: &Node) -> Result<(), Allo
             items,
             ..
         } => {
-            write_block(line, text, "rpc", *name, items)?;
-            write_type(line, text, request)?;
-            write_type(line, text, response)
+            write_block(line, text, "rpc", *name.get(), items.get())?;
+            write_type(line, text, request.get())?;
+            write_type(line, text, response.get())
         }
         Node::Field(field) => {
+            let field = field.get();
             line.push_str("field ")?;
             line.push_str(of(text, field.name))?;
             write_spans(line, text, field.labels.as_slice(), " ")?;
@@ -117,6 +118,7 @@ pub fn write_node(line: &mut String, text: &str, node: &Node) -> Result<(), Allo
             write_spans(line, text, &[field.number], " = ")
         }
         Node::MapField(map) => {
+            let map = map.get();
             line.push_str("map ")?;
             line.push_str(of(text, map.name))?;
             write_spans(line, text, map.labels.as_slice(), " ")?;
@@ -127,11 +129,11 @@ pub fn write_node(line: &mut String, text: &str, node: &Node) -> Result<(), Allo
         Node::Value { name, number, .. } => {
             line.push_str("value ")?;
             line.push_str(of(text, *name))?;
-            write_number(line, text, *number)
+            write_number(line, text, *number.get())
         }
         Node::Reserved { list, .. } => {
             line.push_str("reserved")?;
-            write_list(line, text, list)
+            write_list(line, text, list.get())
         }
         Node::Import {
             is_public,
@@ -139,7 +141,7 @@ pub fn write_node(line: &mut String, text: &str, node: &Node) -> Result<(), Allo
             ..
         } => {
             write!(line, "import {is_public}")?;
-            write_literal(line, text, path)
+            write_literal(line, text, path.get())
         }
         Node::Package {
             name,
@@ -148,17 +150,17 @@ pub fn write_node(line: &mut String, text: &str, node: &Node) -> Result<(), Allo
         } => {
             line.push_str("package ")?;
             line.push_str(of(text, *name))?;
-            write_spans(line, text, components.as_slice(), "/")
+            write_spans(line, text, components.get().as_slice(), "/")
         }
         Node::OptionDef { name, value, .. } => write_spans(
             line,
             text,
-            &[*name, *value],
+            &[*name, *value.get()],
             " option ",
         ),
         Node::Syntax { value, .. } => {
             line.push_str("syntax")?;
-            write_literal(line, text, value)
+            write_literal(line, text, value.get())
         }
         Node::Empty { .. } => line.push_str("empty"),
     }
@@ -172,7 +174,7 @@ pub fn inner(node: &Node) -> &[Node] {
         | Node::Service { items, .. }
         | Node::Oneof { items, .. }
         | Node::Extend { items, .. }
-        | Node::Rpc { items, .. } => items.as_slice(),
+        | Node::Rpc { items, .. } => items.get().as_slice(),
         _ => &[],
     }
 }

@@ -2,9 +2,9 @@
 use Rattle.std.specs.Prelude.{◌≡◌, ℕ, ◌≤◌, Bool, false, String, List, Option, Some, None}
 use Rattle.std.specs.List.{list_any}
 use Rattle.std.specs.Str.{bytes_eq}
-use Rattle.std.specs.BTreeSet.{BTreeSet, contains, contains_text}
-use Rattle.std.specs.HashSet.{HashSet, contains_by}
+use Rattle.std.specs.BTreeSet.{BTreeSet, contains, contains_by, contains_text}
 use Rattle.std.specs.Ordering.{nat_cmp}
+use Rattle.std.specs.Cmp.Lexicographic.{slice_cmp}
 use Rattle.std.specs.declared.alloc.Global.{Global}
 use Rattle.file_facts.specs.declared.part.Member.{Member}
 use Rattle.file_facts.specs.declared.part.ReservedName.{ReservedName}
@@ -24,8 +24,8 @@ abbrev pub AreNames : List ReservedName → BTreeSet (String Global) → Type 0
 AreNames names s = (q : List ℕ) → contains_text s q ≡ list_any (λ e. bytes_eq e.text q) names
 
 -- the set has a name of these bytes
-abbrev pub has_name : {S : Type 0} → HashSet (Bor (List ℕ)) S → List ℕ → Bool
-has_name s name = contains_by (λ k. bytes_eq name k.now) s
+abbrev pub has_name : BTreeSet (Bor (List ℕ)) → List ℕ → Bool
+has_name s name = contains_by (λ k. slice_cmp nat_cmp name k.now) s
 
 -- none of these fields or values has a number from here on
 abbrev pub AreBelow : List Member → ℕ → Type 0

@@ -245,13 +245,13 @@ pub fn add_statement_diags(
     ensures { OnOk result (diags.new ≡ diags.old ++ spec.statement_diags source.entry.text.now node.now) }
 {
     match node {
-        Node::Message { items, .. } => add_message_diags(source, items.as_slice(), diags),
+        Node::Message { items, .. } => add_message_diags(source, items.get().as_slice(), diags),
         Node::EnumDef { name, items, .. } => {
-            add_enum_diags(source, *name, items.as_slice(), diags)
+            add_enum_diags(source, *name, items.get().as_slice(), diags)
         }
-        Node::Extend { items, .. } => add_extend_diags(source, items.as_slice(), diags),
-        Node::Oneof { items, .. } => add_all_labels(items.as_slice(), diags),
-        Node::MapField(field) => add_map_diags(source.text, field, diags),
+        Node::Extend { items, .. } => add_extend_diags(source, items.get().as_slice(), diags),
+        Node::Oneof { items, .. } => add_all_labels(items.get().as_slice(), diags),
+        Node::MapField(field) => add_map_diags(source.text, field.get(), diags),
         _ => Ok(()),
     }
 }

@@ -134,25 +134,25 @@ pub fn add_decl(
 {
     match node {
         Node::Message { name, items, .. } => {
-            let items = items.as_slice();
+            let items = items.get().as_slice();
             add_scope(DeclKind::Message, *name, items, place, found)
         }
         Node::Service { name, items, .. } => {
-            let items = items.as_slice();
+            let items = items.get().as_slice();
             add_scope(DeclKind::Service, *name, items, place, found)
         }
         Node::EnumDef { name, items, .. } => {
-            let items = items.as_slice();
+            let items = items.get().as_slice();
             add_block(DeclKind::EnumDef, *name, items, place, found)
         }
         Node::Oneof { name, items, .. } => {
-            let items = items.as_slice();
+            let items = items.get().as_slice();
             add_block(DeclKind::Oneof, *name, items, place, found)
         }
-        Node::Extend { items, .. } => add_extensions(items.as_slice(), place, found),
-        Node::Rpc { name, .. } => add_own(DeclKind::Rpc, *name, place, found),
-        Node::Field(field) => add_own(place.members, field.name, place, found),
-        Node::MapField(field) => add_own(place.members, field.name, place, found),
+        Node::Extend { items, .. } => add_extensions(items.get().as_slice(), place, found),
+        Node::Rpc { name, .. } => add_own(DeclKind::Rpc, *name.get(), place, found),
+        Node::Field(field) => add_own(place.members, field.get().name, place, found),
+        Node::MapField(field) => add_own(place.members, field.get().name, place, found),
         Node::Value { name, .. } => add_own(DeclKind::Value, *name, place, found),
         _ => Ok(()),
     }

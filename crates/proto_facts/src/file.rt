@@ -10,13 +10,11 @@ ghost use Rattle.file_facts.specs.Checks as checks;
 
 use crate::checks::{add, diag, diag_if};
 use crate::members::is;
-use crate::seen::note_name;
 use crate::text::{dotted, literal_text};
-use file_facts::{Decl, Diag, ImportFact, PackageFact, Problem, StatedPackage, StatedSyntax};
+use file_facts::{Diag, ImportFact, PackageFact, Problem, StatedPackage, StatedSyntax};
 use proto_lex::Reason;
 use sqlite_items::Items;
 use std::alloc::{AllocError, Global};
-use std::collections::HashSet;
 use syntax_tree::{Fault, Literal, Node, Span, SyntaxProblem, is_too_long};
 
 // ---- bad tokens and statements
@@ -64,7 +62,7 @@ fn add_stated_of(
 {
     match node {
         Node::Syntax { span, value } => {
-            let is_proto3 = says_proto3(alloc, text, value)?;
+            let is_proto3 = says_proto3(alloc, text, value.get())?;
             found.push(StatedSyntax {
                 span: *span,
                 is_proto3,
@@ -120,9 +118,9 @@ fn start_of(node: &Node) -> usize
         Node::Service { span, .. } => span.start,
         Node::Oneof { span, .. } => span.start,
         Node::Extend { span, .. } => span.start,
-        Node::Rpc { span, .. } => span.start,
-        Node::Field(field) => field.span.start,
-        Node::MapField(field) => field.span.start,
+        Node::Rpc { span, .. } => span.get().start,
+        Node::Field(field) => field.get().span.start,
+        Node::MapField(field) => field.get().span.start,
         Node::Value { span, .. } => span.start,
         Node::Reserved { span, .. } => span.start,
         Node::Import { span, .. } => span.start,
@@ -235,8 +233,9 @@ fn add_package_of(
             components,
             ..
         } => {
-            let full_name = dotted(alloc, text, components.as_slice())?;
-            let components = Items::from_slice(alloc, components.as_slice())?;
+            let components = components.get().as_slice();
+            let full_name = dotted(alloc, text, components)?;
+            let components = Items::from_slice(alloc, components)?;
             found.push(StatedPackage {
                 name: *name,
                 fact: PackageFact {
@@ -308,6 +307,7 @@ fn add_import_of(
             path,
             ..
         } => {
+            let path = path.get();
             let value = literal_text(alloc, text, path)?;
             found.push(ImportFact {
                 path: value,
@@ -330,43 +330,6 @@ pub fn add_imports(
 {
     'nodes: for node in nodes {
         add_import_of(alloc, text, node, found)?;
-    }
-    Ok(())
-}
-
-// Adds the imports whose path an earlier one has.
-pub fn add_imported_twice(
-    alloc: Global,
-    imports: &[ImportFact],
-    diags: &mut Items<Diag>,
-) -> Result<(), AllocError>
-    ensures { OnOk result (diags.new ≡ diags.old ++ checks.judged spec.imported_twice imports.now) }
-{
-    let mut seen = HashSet::with_capacity(alloc, imports.len())?;
-    'names: for name in imports {
-        let again = note_name(&mut seen, name.path.as_str())?;
-        add(diag_if(again, Problem::ImportedTwice, name.span), diags)?;
-    }
-    Ok(())
-}
-
-// ---- declarations
-
-// Adds the declarations whose full name an earlier one has.
-pub fn add_declared_twice(
-    alloc: Global,
-    decls: &[Decl],
-    diags: &mut Items<Diag>,
-) -> Result<(), AllocError>
-    ensures { OnOk result (diags.new ≡ diags.old ++ checks.judged spec.declared_twice decls.now) }
-{
-    let mut seen = HashSet::with_capacity(alloc, decls.len())?;
-    'names: for name in decls {
-        let again = note_name(&mut seen, name.full_name.as_str())?;
-        add(
-            diag_if(again, Problem::DeclaredTwice, name.name_span),
-            diags,
-        )?;
     }
     Ok(())
 }

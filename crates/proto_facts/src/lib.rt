@@ -16,6 +16,7 @@ mod reach;
 mod report;
 mod seen;
 mod text;
+mod twice;
 mod walk;
 
 pub use file_facts::{

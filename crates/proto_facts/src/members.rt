@@ -19,7 +19,7 @@ pub fn labels(node: &Node) -> &[Span]
     ensures { result.now ≡ spec.labels node.now }
 {
     match node {
-        Node::Field(field) => field.labels.as_slice(),
+        Node::Field(field) => field.get().labels.as_slice(),
         _ => &[],
     }
 }
@@ -38,12 +38,10 @@ fn add_plain_field(text: &str, node: &Node, found: &mut Items<Member>) -> Result
     ensures { OnOk result (found.new ≡ found.old ++ spec.plain_field_of text.now (out-Node node.now)) }
 {
     match node {
-        Node::Field(field) => found.push(member(
-            Numbering::Fields,
-            text,
-            field.name,
-            plain(field.number),
-        )),
+        Node::Field(field) => {
+            let field = field.get();
+            found.push(member(Numbering::Fields, text, field.name, plain(field.number)))
+        }
         _ => Ok(()),
     }
 }
@@ -67,13 +65,11 @@ fn add_field(text: &str, node: &Node, found: &mut Items<Member>) -> Result<(), A
 {
     match node {
         Node::Field(_) => add_plain_field(text, node, found),
-        Node::MapField(field) => found.push(member(
-            Numbering::Fields,
-            text,
-            field.name,
-            plain(field.number),
-        )),
-        Node::Oneof { items, .. } => add_plain_fields(text, items.as_slice(), found),
+        Node::MapField(field) => {
+            let field = field.get();
+            found.push(member(Numbering::Fields, text, field.name, plain(field.number)))
+        }
+        Node::Oneof { items, .. } => add_plain_fields(text, items.get().as_slice(), found),
         _ => Ok(()),
     }
 }
@@ -93,7 +89,7 @@ fn add_value(text: &str, node: &Node, found: &mut Items<Member>) -> Result<(), A
 {
     match node {
         Node::Value { name, number, .. } => {
-            found.push(member(Numbering::Values, text, *name, *number))
+            found.push(member(Numbering::Values, text, *name, *number.get()))
         }
         _ => Ok(()),
     }
@@ -120,7 +116,7 @@ fn is_alias_option(text: &str, node: &Node) -> bool
 {
     match node {
         Node::OptionDef { name, value, .. } => {
-            is(text_at(text, *name), "allow_alias") && is(text_at(text, *value), "true")
+            is(text_at(text, *name), "allow_alias") && is(text_at(text, *value.get()), "true")
         }
         _ => false,
     }
@@ -137,10 +133,10 @@ pub fn ranges_in(node: &Node) -> &[ReservedRange]
     ensures { result.now ≡ spec.ranges_in (out-Node node.now) }
 {
     match node {
-        Node::Reserved {
-            list: ReservedList::Ranges(ranges),
-            ..
-        } => ranges.as_slice(),
+        Node::Reserved { list, .. } => match list.get() {
+            ReservedList::Ranges(ranges) => ranges.as_slice(),
+            ReservedList::Names(_) => &[],
+        },
         _ => &[],
     }
 }
@@ -149,10 +145,10 @@ pub fn names_in(node: &Node) -> &[Literal]
     ensures { result.now ≡ spec.names_in (out-Node node.now) }
 {
     match node {
-        Node::Reserved {
-            list: ReservedList::Names(names),
-            ..
-        } => names.as_slice(),
+        Node::Reserved { list, .. } => match list.get() {
+            ReservedList::Names(names) => names.as_slice(),
+            ReservedList::Ranges(_) => &[],
+        },
         _ => &[],
     }
 }

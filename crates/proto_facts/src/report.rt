@@ -6,10 +6,11 @@ ghost use Rattle.file_facts.specs.Facts as spec;
 ghost use Rattle.syntax_tree.specs.Read.{value_tree};
 
 use crate::file::{
-    add_declared_twice, add_faults, add_imported_twice, add_imports, add_package_diags,
-    add_packages, add_starts, add_stated, add_syntax_late, first_package, opaque,
+    add_faults, add_imports, add_package_diags, add_packages, add_starts, add_stated,
+    add_syntax_late, first_package, opaque,
 };
 use crate::text::Source;
+use crate::twice::{add_declared_twice, add_imported_twice};
 use crate::walk::add_statements;
 use file_facts::{
     Decl, Diag, FileFacts, ImportFact, StatedPackage, StatedSyntax, SyntaxFact, in_order,

@@ -8,7 +8,7 @@ ghost use Rattle.file_facts.specs.Checks as checks;
 ghost use Rattle.proto_facts.specs.Seen as spec;
 
 use std::alloc::{AllocError, Global};
-use std::collections::{BTreeSet, HashSet};
+use std::collections::BTreeSet;
 
 // Adds a number, and answers whether it was there.
 pub fn note_value(seen: &mut BTreeSet<u32>, value: Option<u32>) -> Result<bool, AllocError>
@@ -31,7 +31,7 @@ pub fn note_text(alloc: Global, seen: &mut BTreeSet<String>, text: &str) -> Resu
 }
 
 // Adds a name, and answers whether an equal one was there. The set only borrows it.
-pub fn note_name<'a>(seen: &mut HashSet<&'a str>, name: &'a str) -> Result<bool, AllocError>
+pub fn note_name<'a>(seen: &mut BTreeSet<&'a str>, name: &'a str) -> Result<bool, AllocError>
     ensures found { IfOk result (λ found. found ≡ spec.has_name seen.old name.now) }
     ensures more { OnOk result ((q : List ℕ) → spec.has_name seen.new q ≡ (bytes_eq name.now q || spec.has_name seen.old q)) }
 {

@@ -66,12 +66,12 @@ fn add_inner_diags(
     ensures { OnOk result (diags.new ≡ diags.old ++ flat_map (checks.statement_diags source.entry.text.now) (spec.all_statements (spec.inside node.now))) }
 {
     match node {
-        Node::Message { items, .. } => add_all_diags(source, items.as_slice(), diags),
-        Node::EnumDef { items, .. } => add_all_diags(source, items.as_slice(), diags),
-        Node::Service { items, .. } => add_all_diags(source, items.as_slice(), diags),
-        Node::Oneof { items, .. } => add_all_diags(source, items.as_slice(), diags),
-        Node::Extend { items, .. } => add_all_diags(source, items.as_slice(), diags),
-        Node::Rpc { items, .. } => add_all_diags(source, items.as_slice(), diags),
+        Node::Message { items, .. } => add_all_diags(source, items.get().as_slice(), diags),
+        Node::EnumDef { items, .. } => add_all_diags(source, items.get().as_slice(), diags),
+        Node::Service { items, .. } => add_all_diags(source, items.get().as_slice(), diags),
+        Node::Oneof { items, .. } => add_all_diags(source, items.get().as_slice(), diags),
+        Node::Extend { items, .. } => add_all_diags(source, items.get().as_slice(), diags),
+        Node::Rpc { items, .. } => add_all_diags(source, items.get().as_slice(), diags),
         _ => Ok(()),
     }
 }

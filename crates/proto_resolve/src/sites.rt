@@ -126,27 +126,27 @@ fn push_names_of(
     match node {
         Node::Message { name, items, .. } => {
             let inside = inner(alloc, text, *name, scopes)?;
-            push_names(alloc, text, items.as_slice(), &inside, found)
+            push_names(alloc, text, items.get().as_slice(), &inside, found)
         }
         Node::Service { name, items, .. } => {
             let inside = inner(alloc, text, *name, scopes)?;
-            push_names(alloc, text, items.as_slice(), &inside, found)
+            push_names(alloc, text, items.get().as_slice(), &inside, found)
         }
-        Node::Oneof { items, .. } => push_names(alloc, text, items.as_slice(), scopes, found),
+        Node::Oneof { items, .. } => push_names(alloc, text, items.get().as_slice(), scopes, found),
         Node::Extend { target, items, .. } => {
-            found.push(site(alloc, text, Needs::Message, target, scopes)?)?;
-            push_names(alloc, text, items.as_slice(), scopes, found)
+            found.push(site(alloc, text, Needs::Message, target.get(), scopes)?)?;
+            push_names(alloc, text, items.get().as_slice(), scopes, found)
         }
         Node::Rpc {
             request,
             response,
             ..
         } => {
-            found.push(site(alloc, text, Needs::Message, request, scopes)?)?;
-            found.push(site(alloc, text, Needs::Message, response, scopes)?)
+            found.push(site(alloc, text, Needs::Message, request.get(), scopes)?)?;
+            found.push(site(alloc, text, Needs::Message, response.get(), scopes)?)
         }
-        Node::Field(field) => push_type(alloc, text, &field.type_name, scopes, found),
-        Node::MapField(field) => push_type(alloc, text, &field.value, scopes, found),
+        Node::Field(field) => push_type(alloc, text, &field.get().type_name, scopes, found),
+        Node::MapField(field) => push_type(alloc, text, &field.get().value, scopes, found),
         _ => Ok(()),
     }
 }

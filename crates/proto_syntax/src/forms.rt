@@ -8,7 +8,7 @@ ghost use Rattle.proto_syntax.specs.Reads.{Reads};
 use crate::cut::ends_in;
 use crate::headers::rpc_header;
 use crate::parts::{TokenReader, Unread, between, is_content, last_of, room_for_one, span_of};
-use sqlite_items::Items;
+use sqlite_items::{Boxed, Items};
 use std::alloc::{AllocError, Global};
 use syntax_tree::{
     Body, Field, Header, Lexeme, Literal, MapField, Node, RangeEnd, ReservedList, ReservedRange,
@@ -28,13 +28,14 @@ fn plain_field(
 {
     let type_name = tokens.type_name(alloc)?;
     let (name, number) = tokens.numbered(alloc)?;
-    Ok(Node::Field(Field {
+    let field = Field {
         span,
         labels,
         type_name,
         name,
         number,
-    }))
+    };
+    Ok(Node::Field(Boxed::new(alloc, field)?))
 }
 
 #[inline(never)]
@@ -54,14 +55,15 @@ fn map_field(
     let value = tokens.type_name(alloc)?;
     tokens.word(Word::Greater)?;
     let (name, number) = tokens.numbered(alloc)?;
-    Ok(Node::MapField(MapField {
+    let field = MapField {
         span,
         labels,
         key,
         value,
         name,
         number,
-    }))
+    };
+    Ok(Node::MapField(Boxed::new(alloc, field)?))
 }
 
 #[tactic(auto, unfolding(syntax_tree::specs::Forms::field))]
@@ -102,7 +104,7 @@ fn syntax_form(alloc: Global, tokens: &mut TokenReader<'_>, span: Span) -> Resul
 {
     tokens.word(Word::Syntax)?;
     tokens.word(Word::Equals)?;
-    let value = tokens.literal(alloc)?;
+    let value = Boxed::new(alloc, tokens.literal(alloc)?)?;
     tokens.word(Word::Semicolon)?;
     Ok(Node::Syntax { span, value })
 }
@@ -114,7 +116,7 @@ fn import_form(alloc: Global, tokens: &mut TokenReader<'_>, span: Span) -> Resul
 {
     tokens.word(Word::Import)?;
     let is_public = !tokens.eat(Word::Weak) && tokens.eat(Word::Public);
-    let path = tokens.literal(alloc)?;
+    let path = Boxed::new(alloc, tokens.literal(alloc)?)?;
     tokens.word(Word::Semicolon)?;
     Ok(Node::Import {
         span,
@@ -134,10 +136,11 @@ fn package_form(alloc: Global, tokens: &mut TokenReader<'_>, span: Span) -> Resu
     let Some(first) = components.as_slice().first() else {
         return Err(Unread::NoForm);
     };
+    let name = between(*first, last_of(*first, components.as_slice()));
     Ok(Node::Package {
         span,
-        name: between(*first, last_of(*first, components.as_slice())),
-        components,
+        name,
+        components: Boxed::new(alloc, components)?,
     })
 }
 
@@ -147,7 +150,7 @@ fn value_form(alloc: Global, tokens: &mut TokenReader<'_>, span: Span) -> Result
 {
     let name = tokens.identifier()?;
     tokens.word(Word::Equals)?;
-    let number = tokens.number(true)?;
+    let number = Boxed::new(alloc, tokens.number(true)?)?;
     tokens.options_end(alloc)?;
     Ok(Node::Value { span, name, number })
 }
@@ -240,7 +243,7 @@ fn reserved_form(
     ensures { Reads (spec.reserved_form may_be_negative span tokens.old.rest.now) result tokens.new.rest.now }
 {
     tokens.word(Word::Reserved)?;
-    let list = reserved_list(alloc, tokens, may_be_negative)?;
+    let list = Boxed::new(alloc, reserved_list(alloc, tokens, may_be_negative)?)?;
     tokens.word(Word::Semicolon)?;
     Ok(Node::Reserved { span, list })
 }
@@ -275,7 +278,7 @@ fn option_parts(alloc: Global, tokens: &mut TokenReader<'_>) -> Result<Items<Spa
 
 // A value, up to the `;` that ends the item.
 #[tactic(auto, unfolding(syntax_tree::specs::Forms::option_value))]
-fn option_value(alloc: Global, tokens: &mut TokenReader<'_>) -> Result<Span, Unread>
+fn option_value(alloc: Global, tokens: &mut TokenReader<'_>) -> Result<Boxed<Span>, Unread>
     ensures { Reads (spec.option_value tokens.old.rest.now) result tokens.new.rest.now }
 {
     if !ends_in(Word::Semicolon, tokens.rest) {
@@ -285,8 +288,9 @@ fn option_value(alloc: Global, tokens: &mut TokenReader<'_>) -> Result<Span, Unr
     if !is_content(alloc, value)? {
         return Err(Unread::NoForm);
     }
+    let span = Boxed::new(alloc, span_of(value))?;
     tokens.rest = &[];
-    Ok(span_of(value))
+    Ok(span)
 }
 
 #[tactic(auto, unfolding(syntax_tree::specs::Forms::option_form))]
@@ -320,11 +324,11 @@ fn rpc_form(alloc: Global, tokens: &mut TokenReader<'_>, span: Span) -> Result<N
             request,
             response,
         } => Ok(Node::Rpc {
-            span,
+            span: Boxed::new(alloc, span)?,
             name,
             request,
             response,
-            items: Items::new(alloc),
+            items: Boxed::new(alloc, Items::new(alloc))?,
         }),
         _ => Err(Unread::NoForm),
     }

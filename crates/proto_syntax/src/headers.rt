@@ -5,6 +5,7 @@ ghost use Rattle.syntax_tree.specs.Forms as spec;
 ghost use Rattle.proto_syntax.specs.Reads.{Reads};
 
 use crate::parts::{TokenReader, Unread};
+use sqlite_items::Boxed;
 use std::alloc::{AllocError, Global};
 use syntax_tree::{Body, Header, Lexeme, Span, Word};
 
@@ -20,7 +21,7 @@ fn extend_header(alloc: Global, tokens: &mut TokenReader<'_>) -> Result<Header, 
     ensures { Reads (spec.extend_header tokens.old.rest.now) result tokens.new.rest.now }
 {
     tokens.word(Word::Extend)?;
-    Ok(Header::Extend(tokens.type_name(alloc)?))
+    Ok(Header::Extend(Boxed::new(alloc, tokens.type_name(alloc)?)?))
 }
 
 #[tactic(auto, unfolding(syntax_tree::specs::Forms::rpc_header))]
@@ -28,7 +29,7 @@ pub fn rpc_header(alloc: Global, tokens: &mut TokenReader<'_>) -> Result<Header,
     ensures { Reads (spec.rpc_header tokens.old.rest.now) result tokens.new.rest.now }
 {
     tokens.word(Word::Rpc)?;
-    let name = tokens.identifier()?;
+    let name = Boxed::new(alloc, tokens.identifier()?)?;
     let request = tokens.in_parentheses(alloc)?;
     tokens.word(Word::Returns)?;
     let response = tokens.in_parentheses(alloc)?;

@@ -14,7 +14,7 @@ mod read;
 mod scan;
 mod skips;
 
-pub use parser::parse;
+pub use parser::{parse, parse_text};
 pub use sqlite_items::Items;
 pub use syntax_tree::{
     Fault, Field, FileTree, Literal, MapField, Node, Number, RangeEnd, ReservedList, ReservedRange,

@@ -7,7 +7,7 @@ ghost use Rattle.syntax_tree.specs.Forms as forms;
 ghost use Rattle.syntax_tree.specs.Cut as cut;
 
 use crate::cut::ends_in;
-use sqlite_items::Items;
+use sqlite_items::{Boxed, Items};
 use std::alloc::{AllocError, Global};
 use syntax_tree::{Lexeme, Literal, Number, Span, TypeName, Word};
 
@@ -232,12 +232,12 @@ impl<'a> TokenReader<'a> {
     }
 
     #[tactic(auto, unfolding(syntax_tree::specs::Forms::in_parentheses))]
-    pub fn in_parentheses(&mut self, alloc: Global) -> Result<TypeName, Unread>
+    pub fn in_parentheses(&mut self, alloc: Global) -> Result<Boxed<TypeName>, Unread>
         ensures { Reads (forms.in_parentheses self.old.rest.now) result self.new.rest.now }
     {
         self.word(Word::OpenParen)?;
         self.eat(Word::Stream);
-        let type_name = self.type_name(alloc)?;
+        let type_name = Boxed::new(alloc, self.type_name(alloc)?)?;
         self.word(Word::CloseParen)?;
         Ok(type_name)
     }

@@ -10,7 +10,7 @@ use crate::forms::statement;
 use crate::headers::{header_and_rest, opens};
 use crate::parts::span_of;
 use crate::skips::{Matched, skips};
-use sqlite_items::Items;
+use sqlite_items::{Boxed, Items};
 use std::alloc::{AllocError, Global};
 use syntax_tree::{Body, Fault, Header, Lexeme, Node, Span, SyntaxProblem, Word};
 
@@ -45,30 +45,36 @@ fn bad(problem: SyntaxProblem, item: &[Lexeme], faults: &mut Items<Fault>) -> Re
     })
 }
 
-fn block_node(span: Span, header: Header, items: Items<Node>) -> Node
-    ensures { result ≡ forms.block_node span header items }
+fn block_node(
+    alloc: Global,
+    span: Span,
+    header: Header,
+    items: Items<Node>,
+) -> Result<Node, AllocError>
+    ensures { IfOk result (λ node. node ≡ forms.block_node span header items) }
 {
+    let items = Boxed::new(alloc, items)?;
     match header {
-        Header::Message(name) => Node::Message { span, name, items },
-        Header::Enum(name) => Node::EnumDef { span, name, items },
-        Header::Service(name) => Node::Service { span, name, items },
-        Header::Oneof(name) => Node::Oneof { span, name, items },
-        Header::Extend(target) => Node::Extend {
+        Header::Message(name) => Ok(Node::Message { span, name, items }),
+        Header::Enum(name) => Ok(Node::EnumDef { span, name, items }),
+        Header::Service(name) => Ok(Node::Service { span, name, items }),
+        Header::Oneof(name) => Ok(Node::Oneof { span, name, items }),
+        Header::Extend(target) => Ok(Node::Extend {
             span,
             target,
             items,
-        },
+        }),
         Header::Rpc {
             name,
             request,
             response,
-        } => Node::Rpc {
-            span,
+        } => Ok(Node::Rpc {
+            span: Boxed::new(alloc, span)?,
             name,
             request,
             response,
             items,
-        },
+        }),
     }
 }
 
@@ -189,7 +195,7 @@ fn form_tree(
                 ..reader
             };
             let items = body_tree(inside, inner, faults)?;
-            nodes.push(block_node(span_of(item.tokens), header, items))
+            nodes.push(block_node(reader.alloc, span_of(item.tokens), header, items)?)
         }
     }
 }

@@ -1,6 +1,6 @@
 // The tree of a text: its statements, and what is wrong with those that aren't read.
 use proto_lex::Reason;
-use sqlite_items::Items;
+use sqlite_items::{Boxed, Items};
 
 /// A stretch of the text: from the byte at `start` up to the byte at `end`, which isn't in it.
 ///
@@ -104,16 +104,18 @@ pub enum Header {
     Enum(Span),
     Service(Span),
     Oneof(Span),
-    Extend(TypeName),
+    Extend(Boxed<TypeName>),
     Rpc {
-        name: Span,
-        request: TypeName,
-        response: TypeName,
+        name: Boxed<Span>,
+        request: Boxed<TypeName>,
+        response: Boxed<TypeName>,
     },
 }
 
 /// A statement that is read. A block holds those between its braces, in order; those that can't be read are left
 /// out.
+///
+/// A long text has many statements, so a node is kept small: what is large in it is boxed.
 ///
 /// In each variant `span` is the whole statement, from its first token to its `;` or `}`. `name` is the identifier, of
 /// a package the full name and of an option its name.
@@ -123,80 +125,80 @@ pub enum Node {
     Message {
         span: Span,
         name: Span,
-        items: Items<Node>,
+        items: Boxed<Items<Node>>,
     },
     /// `enum E { .. }`
     EnumDef {
         span: Span,
         name: Span,
-        items: Items<Node>,
+        items: Boxed<Items<Node>>,
     },
     /// `service S { .. }`
     Service {
         span: Span,
         name: Span,
-        items: Items<Node>,
+        items: Boxed<Items<Node>>,
     },
     /// `oneof o { .. }`
     Oneof {
         span: Span,
         name: Span,
-        items: Items<Node>,
+        items: Boxed<Items<Node>>,
     },
     /// `extend M { .. }`, where `target` is the message that gets fields.
     Extend {
         span: Span,
-        target: TypeName,
-        items: Items<Node>,
+        target: Boxed<TypeName>,
+        items: Boxed<Items<Node>>,
     },
     /// `rpc Do (Request) returns (Response);`, with or without `stream` before a type. It may have a block in place
     /// of the `;`. Where `;` ends it, `items` is empty.
     Rpc {
-        span: Span,
-        name: Span,
-        request: TypeName,
-        response: TypeName,
-        items: Items<Node>,
+        span: Boxed<Span>,
+        name: Boxed<Span>,
+        request: Boxed<TypeName>,
+        response: Boxed<TypeName>,
+        items: Boxed<Items<Node>>,
     },
     /// `repeated int32 a = 1;`
-    Field(Field),
+    Field(Boxed<Field>),
     /// `map<string, int32> a = 1;`
-    MapField(MapField),
+    MapField(Boxed<MapField>),
     /// `A = 0;` in an enum.
     Value {
         span: Span,
         name: Span,
-        number: Number,
+        number: Boxed<Number>,
     },
     /// `reserved 2, 5 to 9;` or `reserved "a", "b";`
     Reserved {
         span: Span,
-        list: ReservedList,
+        list: Boxed<ReservedList>,
     },
     /// `import "a.proto";`, with `public` before the path where `is_public` holds. An import with `weak` isn't
     /// public.
     Import {
         span: Span,
         is_public: bool,
-        path: Literal,
+        path: Boxed<Literal>,
     },
     /// `package a.b;`, where `name` is the whole `a.b` and the components are its identifiers in order.
     Package {
         span: Span,
         name: Span,
-        components: Items<Span>,
+        components: Boxed<Items<Span>>,
     },
     /// `option (a).b = { x: 1 };`, where `name` has the tokens between `option` and `=`, and `value` those between
     /// `=` and the `;`.
     OptionDef {
         span: Span,
         name: Span,
-        value: Span,
+        value: Boxed<Span>,
     },
     /// `syntax = "proto3";`, with any string without a backslash.
     Syntax {
         span: Span,
-        value: Literal,
+        value: Boxed<Literal>,
     },
     /// A lone `;`
     Empty {

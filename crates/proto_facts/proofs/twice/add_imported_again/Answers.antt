@@ -7,7 +7,7 @@ use Rattle.file_facts.specs.Facts.{imported_twice}
 use Rattle.file_facts.specs.declared.problem.Problem.TheVariants as m
 use Rattle.file_facts.specs.declared.fact.ImportFact.{ImportFact}
 use Rattle.proto_facts.proofs.Places.{diags-next, judged-end, any-next}
-use Rattle.proto_facts.proofs.file.add_imported_twice.Goals as goal
+use Rattle.proto_facts.proofs.twice.add_imported_again.Goals as goal
 
 pub names-preserved : goal.names-preserved
 names-preserved c =

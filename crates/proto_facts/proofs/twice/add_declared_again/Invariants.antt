@@ -4,7 +4,7 @@ use Rattle.std.specs.Str.{bytes_eq}
 use Rattle.proto_facts.specs.Seen.{has_name}
 use Rattle.file_facts.specs.Checks.{judged, judged_at}
 use Rattle.file_facts.specs.Facts.{declared_twice}
-use Rattle.proto_facts.proofs.file.add_declared_twice.Given as goal
+use Rattle.proto_facts.proofs.twice.add_declared_again.Given as goal
 
 abbrev pub invariant-names : goal.invariant-names
 invariant-names l = record {
