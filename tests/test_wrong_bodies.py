@@ -129,10 +129,16 @@ class Planted(unittest.TestCase):
         self.assertIn("planted: 3 edits, 1 tried", ran.stdout)
         self.assertEqual({*found.values()}, {"REFUSED"}, ran.stdout)
 
-        # A crate that isn't proved says nothing of its edits.
-        write(self.crate / "src/lib.rt", SOURCE.replace("let two = high(n);", "let two = high(n) + 2;"))
+        # What another function does is no reason to try an edit of one function again; what it promises is.
+        write(self.crate / "src/lib.rt", SOURCE.replace("let same = n;", "let same = n; let _ = same;"))
         ran, found = self.run_tool()
-        self.assertEqual({*found.values()}, {"UNPROVED", "BAD EDIT"}, ran.stdout)
+        self.assertIn("planted: 3 edits, 1 tried", ran.stdout)
+        self.assertEqual({*found.values()}, {"REFUSED"}, ran.stdout)
+
+        # A crate that isn't proved says nothing of its edits.
+        write(self.crate / "src/lib.rt", SOURCE.replace("ensures { result ≡ n + 1 }", "ensures { result ≡ n + 3 }"))
+        ran, found = self.run_tool()
+        self.assertEqual({*found.values()}, {"UNPROVED"}, ran.stdout)
         self.assertEqual(ran.returncode, 1)
 
 
@@ -232,6 +238,20 @@ class Read(unittest.TestCase):
                 ("a::b::hidden", True, True),
             ],
         )
+
+    def test_the_function_with_some_texts(self):
+        source = rattle_source.Source("src/lib.rt", SOURCE)
+        self.assertEqual(source.function_with([b"let more = n + 1;"]).name, "low")
+        self.assertIsNone(source.function_with([b"let more = n + 1;", b"let same = n;"]))
+        self.assertIsNone(source.function_with([b"ensures { result"]))
+        self.assertIsNone(source.function_with([b"let there_is_none = 1;"]))
+
+    def test_words_outside(self):
+        words = rattle_source.Source("src/a/b.rt", self.TEXT).words_outside()
+        self.assertIn("hidden", words)
+        self.assertEqual(words.count("inner"), 1)
+        self.assertIn("2", words)
+        self.assertNotIn("1", words)
 
     def test_words_for_others(self):
         words = rattle_source.Source("src/a/b.rt", self.TEXT).words_for_others()

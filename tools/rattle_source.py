@@ -205,6 +205,26 @@ class Source:
         """Its tokens as text, so that comments and layout don't count; where it can't be read, its bytes."""
         return [token[4] for token in self.tokens] if self.tokens is not None else [self.data.decode(errors="replace")]
 
+    def words_in(self, function):
+        """The tokens of a function's body."""
+        first, last = function.body
+        return [text for _, start, _, _, text in self.tokens if first <= start < last]
+
+    def words_outside(self):
+        """Its tokens without the bodies that no caller sees: what else of the file a proof of one of its functions rests on."""
+        if self.functions is None:
+            return self.words()
+        hidden = [it.body for it in self.functions if it.is_plain]
+        return [text for _, start, _, _, text in self.tokens if not any(first <= start < last for first, last in hidden)]
+
+    def function_with(self, texts):
+        """The function in whose body all these texts stand, each once in the file and where no caller sees it; None where there is none."""
+        places = [(self.data.find(it), len(it)) for it in texts]
+        if self.functions is None or any(at < 0 for at, _ in places):
+            return None
+        inside = [it for it in self.functions if it.is_plain and all(it.body[0] < at and at + size < it.body[1] for at, size in places)]
+        return inside[0] if inside else None
+
     def words_for_others(self):
         """The same as far as other crates see it: without private functions, and without bodies."""
         if self.functions is None:

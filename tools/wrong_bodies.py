@@ -11,9 +11,10 @@ file. Its verdict is
   BAD EDIT     it can't be applied, or what it makes can't be read
   UNPROVED     the crate itself isn't proved, so nothing was tried
 
-What is refused is kept in crates/NAME/wrong-bodies/verdicts.json, under a sum of the edit, the crate's sources, what it can see of the crates below it
-(the definitions that it cites, the sources without bodies and private functions) and the kit. Comments, layout and an edit's description don't count. What is current isn't
-tried again; --anew tries all. --must-fail takes the edits of must-fail/ in the same way, and keeps their verdicts in the crate's out/. --gate also fails where verdicts.json names an edit that isn't there. --alone tries each edit in a check of its own.
+What is refused is kept in crates/NAME/wrong-bodies/verdicts.json, under a sum of all that it rests on: the edit, the edited function with its own
+proof files, the crate's definitions, lemmas and sources but for the bodies of other functions, what the crate sees of those below it (the definitions
+that it cites, the sources without bodies and private functions) and the kit. Comments, layout and an edit's description don't count. What is current
+isn't tried again; --anew tries all. --must-fail takes the edits of must-fail/ in the same way, and keeps their verdicts in the crate's out/. --gate also fails where verdicts.json names an edit that isn't there. --alone tries each edit in a check of its own.
 
 The status is 0 if each edit is refused, else 1. The last line is `N refused, M not; ..`.
 
@@ -50,7 +51,7 @@ FLAGS = ["--jobs", "1"]
 # The most edits in one check: more would take longer to sort out where one of them can't be read.
 MOST = 24
 # A change here makes every recorded verdict old.
-FORM = "1"
+FORM = "2"
 
 LOCATED = re.compile(r"(note: )?(?:\./)?((?:src|specs|proofs)/\S+?):(\d+):\d+: (.*)")
 STATUS = re.compile(r"(fn|struct|enum|union|impl|trait|const|static) (\S+): (.*)")
@@ -58,6 +59,8 @@ STATUS = re.compile(r"(fn|struct|enum|union|impl|trait|const|static) (\S+): (.*)
 SECOND_HAND = re.compile(r"was rejected|was not admitted|were not checked|was not checked|is not proved|are not proved|could not be read")
 NAMES_ONLY = re.compile(r"has no field|is not in scope|has no `|was not admitted")
 ONLY_CALLEES = re.compile(r"(not proved|no proof)[:;] it calls .*")
+# The proof files of one function.
+OWN_PROOFS = ("/Answers.antt", "/Invariants.antt")
 EDIT_NAME = re.compile(r"[A-Za-z0-9_-][A-Za-z0-9_.-]*\.edit")
 CITED = re.compile(r"Rattle\.(\w+)\.(specs|proofs)\.([\w.]+)")
 
@@ -90,10 +93,17 @@ def sources_of(crate):
     return {str(it.relative_to(crate.folder)): it.read_text(encoding="utf-8", errors="replace") for it in files_below(crate.folder, "src", ".rt")}
 
 
-def own_text(crate):
-    src = [(path, Source(path, text).words()) for path, text in sources_of(crate).items()]
-    rest = [(str(it.relative_to(crate.folder)), antt_text(it)) for part in ("specs", "proofs") for it in files_below(crate.folder, part, ".antt")]
-    return src + rest
+def definitions_of(crate):
+    """The crate's own definitions and proofs by their paths in it."""
+    return {str(it.relative_to(crate.folder)): antt_text(it) for part in ("specs", "proofs") for it in files_below(crate.folder, part, ".antt")}
+
+
+def edited_function(edit, sources):
+    """The source and the function whose body holds all that an edit replaces, where no caller sees that body; else None."""
+    lines = edit_text(edit.file)
+    source = sources.get(next((it[len("file:") :].strip() for it in lines if it.startswith("file:")), ""))
+    function = source and source.function_with([it[len("old:") :].strip().encode() for it in lines if it.startswith("old:")])
+    return (source, function) if function else None
 
 
 def cited_definitions(crate):
@@ -300,6 +310,7 @@ class Trial:
         self.recorded = pathlib.Path(self.folder if given.folder == FOLDER else f"{crate.folder}/out", RECORD)
         self.checks, self.log, self.verdicts, self.keys, self.writing = 0, [], {}, {}, threading.Lock()
         self.sources = {path: Source(path, text) for path, text in sources_of(crate).items()}
+        self.definitions = definitions_of(crate)
 
     def record(self):
         try:
@@ -316,10 +327,22 @@ class Trial:
                 self.recorded.write_text(text)
 
     def key(self):
+        """What the verdict of each edit of the crate rests on."""
         below = [(it.name, self.surfaces.of(it)) for it in self.crate.below()]
         cited = [(os.path.relpath(file, kit.ROOT if self.given.root is None else self.given.root), text) for file, text in cited_definitions(self.crate)]
         kit_id = kit.rtlib.text_of(f"{kit.rt.KIT}/KIT-ID").strip()
-        return sum_of(FORM, kit_id, sorted(self.crate.of_kit), own_text(self.crate), cited, below)
+        outside = [(path, source.words_outside()) for path, source in self.sources.items()]
+        rest = [(path, text) for path, text in self.definitions.items() if not path.endswith(OWN_PROOFS)]
+        return sum_of(FORM, kit_id, sorted(self.crate.of_kit), outside, rest, cited, below)
+
+    def own_key(self, edit):
+        """What else that of this one rests on: the edited function, or all functions where it isn't one alone."""
+        found = edited_function(edit, self.sources)
+        if found is None:
+            return sum_of([(path, source.words()) for path, source in self.sources.items()], self.definitions, edit_text(edit.file))
+        source, function = found
+        proofs = [(path, text) for path, text in self.definitions.items() if path.endswith(OWN_PROOFS) and function.owns_file(path)]
+        return sum_of(source.words_in(function), proofs, edit_text(edit.file))
 
     def check(self, texts, kept):
         with self.slots:
@@ -423,7 +446,7 @@ class Trial:
         good, bad = edits_in(self.folder)
         self.verdicts = {it: (BAD, "an edit stands right in its folder, with a plain name that ends in .edit") for it in bad}
         record, key = self.record(), self.key()
-        self.keys = keys = {it: sum_of(key, edit_text(it.file)) for it in good}
+        self.keys = keys = {it: sum_of(key, self.own_key(it)) for it in good}
         texts = {}
         for edit in good:
             row = record.get(edit.name)

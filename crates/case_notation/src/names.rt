@@ -1,4 +1,6 @@
 // Pieces of a line that stand for longer ones.
+ghost use Rattle.std.specs.Prelude.{◌≡◌};
+
 use std::alloc::{AllocError, Global};
 
 /// Pieces that have names.
@@ -15,6 +17,13 @@ impl Names {
             alloc,
             pieces: Vec::new(alloc),
         }
+    }
+
+    /// The allocator of the names.
+    pub fn alloc(&self) -> Global
+        ensures { result ≡ self.now.alloc }
+    {
+        self.alloc
     }
 
     /// Gives a piece a name.

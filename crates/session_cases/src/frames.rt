@@ -5,28 +5,21 @@ use lsp_frame::{ByteSink, Frame, FrameReader, MemSink, MemSource, ToWrite, write
 use std::alloc::{AllocError, Global};
 
 /// Writes the answer to a call on frames. The first field is the settings.
-pub fn answer(
-    alloc: Global,
-    names: &Names,
-    line: &mut String,
-    call: &str,
-    fields: &[&str],
-) -> Answer<()> {
+pub fn answer(names: &Names, line: &mut String, call: &str, fields: &[&str]) -> Answer<()> {
     match call {
         "frames" | "cut frames" => {
             let settings = Settings::of(field(fields, 0))?;
-            let bytes = bytes_of(alloc, field(fields, 1))?;
-            answer_stream(alloc, names, line, call, settings, bytes.as_slice())
+            let bytes = bytes_of(names.alloc(), field(fields, 1))?;
+            answer_stream(names, line, call, settings, bytes.as_slice())
         }
-        "long frame" => long_frame(alloc, names, line, fields),
-        "write" => write_frames(alloc, line, fields),
-        "std write" => write_to_std(alloc, line, fields),
+        "long frame" => long_frame(names, line, fields),
+        "write" => write_frames(names.alloc(), line, fields),
+        "std write" => write_to_std(names.alloc(), line, fields),
         _ => Err(Trouble::Unknown("no such call")),
     }
 }
 
 fn answer_stream(
-    alloc: Global,
     names: &Names,
     line: &mut String,
     call: &str,
@@ -34,14 +27,14 @@ fn answer_stream(
     bytes: &[u8],
 ) -> Answer<()> {
     match call {
-        "frames" => frames(alloc, names, line, settings, bytes),
-        _ => cut_frames(alloc, names, line, settings, bytes),
+        "frames" => frames(names, line, settings, bytes),
+        _ => cut_frames(names, line, settings, bytes),
     }
 }
 
 /// Writes a body by its name, if it has one, else itself.
-pub fn push_body(alloc: Global, names: &Names, line: &mut String, body: &[u8]) -> Answer<()> {
-    let text = bytes_shown(alloc, body)?;
+pub fn push_body(names: &Names, line: &mut String, body: &[u8]) -> Answer<()> {
+    let text = bytes_shown(names.alloc(), body)?;
     match names.name_of(text.as_str()) {
         None => line.push_str(text.as_str())?,
         Some(name) => write!(line, "⟦{name}⟧")?,
@@ -50,22 +43,21 @@ pub fn push_body(alloc: Global, names: &Names, line: &mut String, body: &[u8]) -
 }
 
 // Writes a body of a frame.
-fn write_body(alloc: Global, names: &Names, line: &mut String, body: &[u8]) -> Answer<()> {
+fn write_body(names: &Names, line: &mut String, body: &[u8]) -> Answer<()> {
     line.push('<')?;
-    push_body(alloc, names, line, body)?;
+    push_body(names, line, body)?;
     Ok(line.push_str("> ")?)
 }
 
 // Writes the next answer of a reader, and says whether it was a frame.
 fn write_next(
-    alloc: Global,
     names: &Names,
     line: &mut String,
     reader: &mut FrameReader<MemSource>,
 ) -> Answer<bool> {
     match reader.read_frame() {
         Ok(Frame::Body(body)) => {
-            write_body(alloc, names, line, body.as_slice())?;
+            write_body(names, line, body.as_slice())?;
             Ok(true)
         }
         Ok(Frame::End) => {
@@ -81,45 +73,28 @@ fn write_next(
 }
 
 // The bodies of a stream, and the end or the fault behind them twice.
-fn write_all(
-    alloc: Global,
-    names: &Names,
-    line: &mut String,
-    reader: &mut FrameReader<MemSource>,
-) -> Answer<()> {
+fn write_all(names: &Names, line: &mut String, reader: &mut FrameReader<MemSource>) -> Answer<()> {
     for _ in 0..1000 {
-        if !write_next(alloc, names, line, reader)? {
+        if !write_next(names, line, reader)? {
             break;
         }
     }
-    write_next(alloc, names, line, reader)?;
+    write_next(names, line, reader)?;
     Ok(())
 }
 
 // What a stream in pieces of one size has.
-fn stream(
-    alloc: Global,
-    names: &Names,
-    settings: Settings<'_>,
-    size: &str,
-    bytes: &[u8],
-) -> Answer<String> {
-    let mut reader = FrameReader::new(alloc, settings.source(alloc, size, bytes)?);
-    let mut line = String::new(alloc);
-    write_all(alloc, names, &mut line, &mut reader)?;
+fn stream(names: &Names, settings: Settings<'_>, size: &str, bytes: &[u8]) -> Answer<String> {
+    let mut reader = FrameReader::new(names.alloc(), settings.source(names.alloc(), size, bytes)?);
+    let mut line = String::new(names.alloc());
+    write_all(names, &mut line, &mut reader)?;
     Ok(line)
 }
 
 // The bytes of a stream.
-fn frames(
-    alloc: Global,
-    names: &Names,
-    line: &mut String,
-    settings: Settings<'_>,
-    bytes: &[u8],
-) -> Answer<()> {
+fn frames(names: &Names, line: &mut String, settings: Settings<'_>, bytes: &[u8]) -> Answer<()> {
     for size in settings.sizes.split(' ') {
-        let answer = stream(alloc, names, settings, size, bytes)?;
+        let answer = stream(names, settings, size, bytes)?;
         note(line, size, answer.as_str())?;
     }
     Ok(())
@@ -127,7 +102,6 @@ fn frames(
 
 // The settings with one size, and the bytes of a stream: all parts of the stream from its start to before its end.
 fn cut_frames(
-    alloc: Global,
     names: &Names,
     line: &mut String,
     settings: Settings<'_>,
@@ -136,7 +110,7 @@ fn cut_frames(
     let size = settings.sizes;
     for count in 0..bytes.len() {
         let part = bytes.get(..count).unwrap_or(&[]);
-        let answer = stream(alloc, names, settings, size, part)?;
+        let answer = stream(names, settings, size, part)?;
         note(line, size, answer.as_str())?;
     }
     let count = bytes.len();
@@ -173,35 +147,27 @@ fn has_body(reader: &mut FrameReader<MemSource>, body: &[u8]) -> bool {
 
 // Whether the first frame of a stream in pieces of one size has this body, and what is behind it.
 fn first_frame(
-    alloc: Global,
     names: &Names,
     settings: Settings<'_>,
     size: &str,
     stream: &[u8],
     body: &[u8],
 ) -> Answer<String> {
-    let mut reader = FrameReader::new(alloc, settings.source(alloc, size, stream)?);
+    let mut reader = FrameReader::new(names.alloc(), settings.source(names.alloc(), size, stream)?);
     let is_same = has_body(&mut reader, body);
-    let mut line = format!(in alloc; "{is_same} ")?;
-    write_all(alloc, names, &mut line, &mut reader)?;
+    let mut line = format!(in names.alloc(); "{is_same} ")?;
+    write_all(names, &mut line, &mut reader)?;
     Ok(line)
 }
 
 // The settings, the length of a body with many values, which is in the first frame of a stream, and the bytes behind it.
-fn long_frame(alloc: Global, names: &Names, line: &mut String, fields: &[&str]) -> Answer<()> {
+fn long_frame(names: &Names, line: &mut String, fields: &[&str]) -> Answer<()> {
     let settings = Settings::of(field(fields, 0))?;
-    let body = long_body(alloc, field(fields, 1).parse::<usize>()?)?;
-    let behind = bytes_of(alloc, field(fields, 2))?;
-    let stream = framed(alloc, body.as_slice(), behind.as_slice())?;
+    let body = long_body(names.alloc(), field(fields, 1).parse::<usize>()?)?;
+    let behind = bytes_of(names.alloc(), field(fields, 2))?;
+    let stream = framed(names.alloc(), body.as_slice(), behind.as_slice())?;
     for size in settings.sizes.split(' ') {
-        let answer = first_frame(
-            alloc,
-            names,
-            settings,
-            size,
-            stream.as_slice(),
-            body.as_slice(),
-        )?;
+        let answer = first_frame(names, settings, size, stream.as_slice(), body.as_slice())?;
         note(line, size, answer.as_str())?;
     }
     Ok(())

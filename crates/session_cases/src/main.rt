@@ -17,26 +17,24 @@ use std::sync::Wait;
 // Writes the answer to a call on some fields.
 fn answer<R: Wait>(
     rt: &R,
-    alloc: Global,
     names: &Names,
     line: &mut String,
     call: &str,
     fields: &[&str],
 ) -> Answer<()> {
     match call {
-        "source" | "sink" | "fails once" => devices::answer(alloc, line, call, fields),
-        "serve" => streams::serve_stream(rt, alloc, line, fields),
-        "check" => streams::check_files(alloc, line, fields),
-        "config" => configs::answer(alloc, line, fields),
-        "session" | "core" | "codes" => sessions::answer(alloc, names, line, call, fields),
-        _ => frames::answer(alloc, names, line, call, fields),
+        "source" | "sink" | "fails once" => devices::answer(names.alloc(), line, call, fields),
+        "serve" => streams::serve_stream(rt, names.alloc(), line, fields),
+        "check" => streams::check_files(names.alloc(), line, fields),
+        "config" => configs::answer(names.alloc(), line, fields),
+        "session" | "core" | "codes" => sessions::answer(names, line, call, fields),
+        _ => frames::answer(names, line, call, fields),
     }
 }
 
 // Writes the answer to a line that is written out, or gives a piece a name.
 fn answer_fields<R: Wait>(
     rt: &R,
-    alloc: Global,
     names: &mut Names,
     line: &mut String,
     given: &str,
@@ -46,47 +44,30 @@ fn answer_fields<R: Wait>(
         return Ok(());
     };
     let Some(name) = call.strip_prefix("let ") else {
-        return answer(rt, alloc, names, line, call, rest);
+        return answer(rt, names, line, call, rest);
     };
     names.add(name, behind(given))?;
     Ok(write!(line, "let {name}")?)
 }
 
-fn answer_whole<R: Wait>(
-    rt: &R,
-    alloc: Global,
-    names: &mut Names,
-    line: &mut String,
-    given: &str,
-) -> Answer<()> {
-    let fields = fields_of(alloc, given)?;
-    answer_fields(rt, alloc, names, line, given, fields.as_slice())
+fn answer_whole<R: Wait>(rt: &R, names: &mut Names, line: &mut String, given: &str) -> Answer<()> {
+    let fields = fields_of(names.alloc(), given)?;
+    answer_fields(rt, names, line, given, fields.as_slice())
 }
 
 // Writes the answer to a line. A remark and an empty line are answered by themselves.
-fn answer_line<R: Wait>(
-    rt: &R,
-    alloc: Global,
-    names: &mut Names,
-    line: &mut String,
-    given: &str,
-) -> Answer<()> {
+fn answer_line<R: Wait>(rt: &R, names: &mut Names, line: &mut String, given: &str) -> Answer<()> {
     if given.is_empty() || given.starts_with('#') {
         return Ok(line.push_str(given)?);
     }
     let whole = names.expanded(given)?;
-    answer_whole(rt, alloc, names, line, whole.as_str())
+    answer_whole(rt, names, line, whole.as_str())
 }
 
 // The answer to a line, and to one that can't be read what is wrong.
-fn print_answer<R: Wait + Print>(
-    rt: &R,
-    alloc: Global,
-    names: &mut Names,
-    given: &str,
-) -> io::Result<()> {
-    let mut line = String::new(alloc);
-    match answer_line(rt, alloc, names, &mut line, given) {
+fn print_answer<R: Wait + Print>(rt: &R, names: &mut Names, given: &str) -> io::Result<()> {
+    let mut line = String::new(names.alloc());
+    match answer_line(rt, names, &mut line, given) {
         Ok(()) => {
             let answer = line.as_str().trim_end();
             println!(rt; "{answer}")
@@ -99,7 +80,7 @@ fn main(rt: HostRuntime) -> io::Result<()> {
     let alloc = rt.alloc();
     let mut names = Names::new(alloc);
     for line in BufReader::new(alloc, rt.reader())?.lines(alloc) {
-        print_answer(&rt, alloc, &mut names, line?.as_str())?;
+        print_answer(&rt, &mut names, line?.as_str())?;
     }
     Ok(())
 }

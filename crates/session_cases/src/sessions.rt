@@ -7,16 +7,10 @@ use lsp_session::{Config, Core, CoreEvent, CoreFault, CoreRun, Reply, ServeFault
 use std::alloc::{AllocError, Global};
 
 /// Writes the answer to a call on a session. The fields are the files on disk, and what comes, which has `> ` at the front.
-pub fn answer(
-    alloc: Global,
-    names: &Names,
-    line: &mut String,
-    call: &str,
-    fields: &[&str],
-) -> Answer<()> {
+pub fn answer(names: &Names, line: &mut String, call: &str, fields: &[&str]) -> Answer<()> {
     match call {
-        "session" => session(alloc, names, line, fields),
-        "core" => core(alloc, names, line, fields),
+        "session" => session(names, line, fields),
+        "core" => core(names, line, fields),
         _ => {
             let core = CoreFault::Memory.code();
             let serve = ServeFault::Memory.code();
@@ -25,10 +19,10 @@ pub fn answer(
     }
 }
 
-fn write_replies(alloc: Global, names: &Names, line: &mut String, replies: &[Reply]) -> Answer<()> {
+fn write_replies(names: &Names, line: &mut String, replies: &[Reply]) -> Answer<()> {
     for reply in replies {
         line.push(' ')?;
-        push_body(alloc, names, line, reply.as_bytes())?;
+        push_body(names, line, reply.as_bytes())?;
     }
     Ok(())
 }
@@ -53,13 +47,13 @@ fn run(alloc: Global, config: Config, events: Vec<CoreEvent>) -> Answer<CoreRun>
 }
 
 // How many messages were processed, how many verdicts there were, and the replies.
-fn session(alloc: Global, names: &Names, line: &mut String, fields: &[&str]) -> Answer<()> {
-    let events = events(alloc, fields)?;
-    let run = run(alloc, config_of(alloc, fields)?, events)?;
+fn session(names: &Names, line: &mut String, fields: &[&str]) -> Answer<()> {
+    let events = events(names.alloc(), fields)?;
+    let run = run(names.alloc(), config_of(names.alloc(), fields)?, events)?;
     let processed = run.processed;
     let verdicts = run.verdicts.len();
     write!(line, "{processed} processed, {verdicts} verdicts:")?;
-    write_replies(alloc, names, line, run.replies.as_slice())
+    write_replies(names, line, run.replies.as_slice())
 }
 
 fn core_of(alloc: Global, config: Config) -> Answer<Core> {
@@ -70,13 +64,13 @@ fn core_of(alloc: Global, config: Config) -> Answer<Core> {
 }
 
 // Messages, and advances: the replies to each advance, and whether a message waits after each step.
-fn core(alloc: Global, names: &Names, line: &mut String, fields: &[&str]) -> Answer<()> {
-    let mut core = core_of(alloc, config_of(alloc, fields)?)?;
+fn core(names: &Names, line: &mut String, fields: &[&str]) -> Answer<()> {
+    let mut core = core_of(names.alloc(), config_of(names.alloc(), fields)?)?;
     let waits = core.waits();
     write!(line, "{waits}")?;
     for field in fields {
         if let Some(body) = field.strip_prefix("> ") {
-            step(alloc, names, line, &mut core, body)?;
+            step(names, line, &mut core, body)?;
         }
         let waits = core.waits();
         write!(line, " {waits}")?;
@@ -84,26 +78,20 @@ fn core(alloc: Global, names: &Names, line: &mut String, fields: &[&str]) -> Ans
     Ok(())
 }
 
-fn step(
-    alloc: Global,
-    names: &Names,
-    line: &mut String,
-    core: &mut Core,
-    body: &str,
-) -> Answer<()> {
+fn step(names: &Names, line: &mut String, core: &mut Core, body: &str) -> Answer<()> {
     if body == "advance" {
-        return advance(alloc, names, line, core);
+        return advance(names, line, core);
     }
-    let body = bytes_of(alloc, body)?;
+    let body = bytes_of(names.alloc(), body)?;
     match core.message(body.as_slice()) {
         Ok(()) => Ok(()),
         Err(fault) => Err(Trouble::Fault(fault.code())),
     }
 }
 
-fn advance(alloc: Global, names: &Names, line: &mut String, core: &mut Core) -> Answer<()> {
+fn advance(names: &Names, line: &mut String, core: &mut Core) -> Answer<()> {
     match core.advance() {
-        Ok(replies) => write_replies(alloc, names, line, replies.as_slice()),
+        Ok(replies) => write_replies(names, line, replies.as_slice()),
         Err(fault) => Err(Trouble::Fault(fault.code())),
     }
 }

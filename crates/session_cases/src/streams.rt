@@ -2,7 +2,7 @@
 use crate::configs::{config_of, write_fault};
 use crate::settings::{Settings, bytes_of, note, push_bytes};
 use case_notation::{Answer, field};
-use lsp_frame::{FrameReader, MemSink};
+use lsp_frame::{FrameReader, MemSink, MemSource};
 use lsp_session::{Ended, ServeFault, check, serve};
 use std::alloc::{AllocError, Global};
 use std::sync::Wait;
@@ -20,17 +20,14 @@ fn write_sent(line: &mut String, sink: &MemSink) -> Answer<()> {
     push_bytes(line, sink.written())
 }
 
-// How a session without files ends over a stream in pieces of one size, and what went out.
+// How a session without files ends over a stream, and what went out.
 fn serve_with<R: Wait>(
     rt: &R,
     alloc: Global,
-    settings: Settings<'_>,
-    size: &str,
-    room: &str,
-    bytes: &[u8],
+    source: MemSource,
+    mut sink: MemSink,
 ) -> Answer<String> {
-    let mut sink = settings.sink(alloc, size, room)?;
-    let mut reader = FrameReader::new(alloc, settings.source(alloc, size, bytes)?);
+    let mut reader = FrameReader::new(alloc, source);
     let ended = serve(rt, alloc, &mut reader, &mut sink, config_of(alloc, &[])?);
     let mut line = String::new(alloc);
     write_ended(&mut line, ended)?;
@@ -48,14 +45,9 @@ pub fn serve_stream<R: Wait>(
     let settings = Settings::of(field(fields, 0))?;
     let bytes = bytes_of(alloc, field(fields, 2))?;
     for size in settings.sizes.split(' ') {
-        let answer = serve_with(
-            rt,
-            alloc,
-            settings,
-            size,
-            field(fields, 1),
-            bytes.as_slice(),
-        )?;
+        let source = settings.source(alloc, size, bytes.as_slice())?;
+        let sink = settings.sink(alloc, size, field(fields, 1))?;
+        let answer = serve_with(rt, alloc, source, sink)?;
         note(line, size, answer.as_str())?;
     }
     Ok(())
