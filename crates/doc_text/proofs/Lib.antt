@@ -3,6 +3,7 @@ mod Changes
 mod Cuts
 mod Leads
 mod LineOffsets
+mod Places
 mod Runs
 mod Steps
 mod Trips

@@ -1,11 +1,11 @@
 -- What the definitions of lines, positions and changes come to, in the protocol's own words.
-use Rattle.std.specs.Prelude.{◌≡◌, ◌≢◌, ◌⊎◌, ℕ, ◌+◌, ◌-◌, ◌<◌, ◌≤◌, List, [], ◌∷◌, ◌++◌, length, take, drop, slice_index, Option, Some, None, IsUtf8, IsCharBoundary}
+use Rattle.std.specs.Prelude.{◌≡◌, ◌≢◌, ◌⊎◌, ℕ, ◌+◌, ◌-◌, ◌<◌, ◌≤◌, List, [], ◌∷◌, ◌++◌, length, take, drop, slice_index, slice_index_or, Option, Some, None, IsUtf8, IsCharBoundary}
 use Rattle.std.specs.List.{concat}
 use Rattle.std.specs.Str.{NonePass, chars}
 use Rattle.doc_text.specs.declared.encoding.Encoding.{Encoding}
 use Rattle.doc_text.specs.declared.position.Position.{Position}
 use Rattle.doc_text.specs.declared.position.Range.{Range}
-use Rattle.doc_text.specs.Lines.{is_lf_or_cr, lines}
+use Rattle.doc_text.specs.Lines.{content, is_lf_or_cr, lines}
 use Rattle.doc_text.specs.Positions.{units, fitting, offset_of, position_of}
 use Rattle.doc_text.specs.Edits.{replaced}
 
@@ -62,6 +62,14 @@ IsInsideLineEnd text offset = (0 < offset) × (slice_index text (offset - 1) ≡
 abbrev pub PositionsComeBack : Type 0
 PositionsComeBack = (e : Encoding) (text : List ℕ) (offset : ℕ) → IsUtf8 text → IsCharBoundary text offset → (IsInsideLineEnd text offset → ⊥)
     → offset_of e (position_of e text offset) text ≡ offset
+
+-- the text has the line, and the line has as many units or more before its line end
+abbrev pub IsInTheText : Encoding → Position → List ℕ → Type 0
+IsInTheText e p text = let ls = lines (chars text) in (p.line < length ls) × (p.character ≤ units e (content (slice_index_or ls p.line [])))
+
+-- the position of any offset lies in the text
+abbrev pub PositionsAreInTheText : Type 0
+PositionsAreInTheText = (e : Encoding) (text : List ℕ) (offset : ℕ) → IsInTheText e (position_of e text offset) text
 
 -- a position past the last line has the text's end
 abbrev pub PositionsPastAreTheEnd : Type 0

@@ -1,5 +1,5 @@
 // Laws of the definitions that the contracts cite. Each is a function with nothing to do, whose clause is the law.
-ghost use Rattle.doc_text.specs.Laws.{LinesAreTheCut, LinesJoinedAreTheText, FittingIsLongest, PositionsComeBack, PositionsPastAreTheEnd, OffsetsPastAreTheEnd, OffsetsGoBack, OffsetsInLineEnds, ChangesKeepTheRest, ChangesOfTheWhole, RangesTurnedRound, ChangesKeepUtf8};
+ghost use Rattle.doc_text.specs.Laws.{LinesAreTheCut, LinesJoinedAreTheText, FittingIsLongest, PositionsComeBack, PositionsAreInTheText, PositionsPastAreTheEnd, OffsetsPastAreTheEnd, OffsetsGoBack, OffsetsInLineEnds, ChangesKeepTheRest, ChangesOfTheWhole, RangesTurnedRound, ChangesKeepUtf8};
 
 /// A law: a text is cut in one way into lines, each but the last ended by `\r\n`, by `\n`, or by a `\r` without a
 /// `\n` after it.
@@ -21,6 +21,12 @@ pub fn longest_runs()
 /// between the bytes of a line end.
 pub fn round_trips()
     ensures { PositionsComeBack }
+{}
+
+/// A law: the position of an offset lies in the text. Its line exists, and its character is at most the line's length, its line
+/// end left out.
+pub fn positions_in_the_text()
+    ensures { PositionsAreInTheText }
 {}
 
 /// A law: a position on a line past the last one is the text's end.

@@ -22,7 +22,7 @@ pub use encoding::Encoding;
 pub use laws::{
     changes_keep_the_rest, changes_keep_utf8, changes_of_the_whole, line_cuts, lines_joined,
     longest_runs, offsets_in_characters, offsets_in_line_ends, offsets_past_the_end,
-    positions_past_the_end, ranges_turned_round, round_trips,
+    positions_in_the_text, positions_past_the_end, ranges_turned_round, round_trips,
 };
 pub use position::{Position, Range};
 pub use text::Text;
