@@ -5,3 +5,6 @@ pub mod ReplyLemmas
 pub mod ParamsLemmas
 pub mod TextLemmas
 pub mod MessageLemmas
+pub mod ListLemmas
+pub mod SymbolLemmas
+pub mod SymbolTexts

@@ -61,7 +61,7 @@ later_items f x [] = refl
 later_items f x (d ∷ ds) =
     ap (λ s. x ++ 44 ∷ s) (later_items f (compact_text (f d)) ds) ∙ sym (append_assoc x (44 ∷ join_with_byte 44 (compact_text (f d) ∷ map (λ e. compact_text (f e)) ds)) (93 ∷ []))
 
-joined_items : {T : Type 0} (f : T → Data) (ds : List T) → items_text false (items_of (map f ds)) ≡ join_with_byte 44 (map (λ d. compact_text (f d)) ds) ++ 93 ∷ []
+pub joined_items : {T : Type 0} (f : T → Data) (ds : List T) → items_text false (items_of (map f ds)) ≡ join_with_byte 44 (map (λ d. compact_text (f d)) ds) ++ 93 ∷ []
 joined_items f [] = refl
 joined_items f (d ∷ ds) = later_items f (compact_text (f d)) ds
 

@@ -1,5 +1,5 @@
 -- What the definitions of messages and replies come to, in the words of the standards.
-use Rattle.std.specs.Prelude.{◌≡◌, ◌↔◌, true, false, ℕ, List, ◌++◌, Option, Some, None, map, codes, decimal}
+use Rattle.std.specs.Prelude.{◌≡◌, ◌↔◌, true, false, ℕ, List, [], ◌∷◌, ◌++◌, Option, Some, None, map, codes, decimal}
 use Rattle.std.specs.Fmt.{signed_decimal}
 use Rattle.std.specs.List.{join_with_byte}
 use Rattle.json.specs.Print.{quoted}
@@ -11,6 +11,10 @@ use Rattle.lsp_rpc.specs.Reply.{id_value, id_or_null, result_reply, error_row, e
 use Rattle.lsp_rpc.specs.Initialize.{initialize_result}
 use Rattle.lsp_rpc.specs.Diagnostic.{DiagnosticData, range_value, severity_number, diagnostic_value, report_value}
 use Rattle.lsp_rpc.specs.Workspace.{DocumentData, version_value, document_value, workspace_value}
+use Rattle.lsp_rpc.specs.Location.{LocationData, location_value, locations_value}
+use Rattle.lsp_rpc.specs.Symbol.{SymbolData, kind_number, symbol_value, symbols_value}
+use Rattle.doc_text.specs.declared.position.Position.{Position}
+use Rattle.doc_text.specs.declared.position.Range.{Range}
 use Rattle.lsp_rpc.specs.declared.method.Method.{Method}
 use Rattle.lsp_rpc.specs.declared.error_code.ErrorCode.{ErrorCode}
 
@@ -82,3 +86,32 @@ document_text r =
 -- the reports' texts stand in order, with commas between them
 abbrev pub WorkspaceText : Type 0
 WorkspaceText = (rs : List DocumentData) → compact_text (workspace_value rs) ≡ codes "{\"items\":[" ++ join_with_byte 44 (map document_text rs) ++ codes "]}"
+
+-- ---- places and declarations
+
+abbrev pub position_text : Position → List ℕ
+position_text p = codes "{\"character\":" ++ decimal p.character ++ codes ",\"line\":" ++ decimal p.line ++ codes "}"
+
+abbrev pub range_text : Range → List ℕ
+range_text r = codes "{\"end\":" ++ position_text r.end ++ codes ",\"start\":" ++ position_text r.start ++ codes "}"
+
+abbrev pub location_text : LocationData → List ℕ
+location_text l = codes "{\"range\":" ++ range_text l.range ++ codes ",\"uri\":" ++ quoted l.uri ++ codes "}"
+
+-- the places' texts stand in order, with commas between them
+abbrev pub LocationsText : Type 0
+LocationsText = (ls : List LocationData) → compact_text (locations_value ls) ≡ codes "[" ++ join_with_byte 44 (map location_text ls) ++ codes "]"
+
+-- the member for the scope, unless that is empty
+abbrev pub container_text : List ℕ → List ℕ
+container_text [] = []
+container_text (c ∷ cs) = codes "\"containerName\":" ++ quoted (c ∷ cs) ++ codes ","
+
+abbrev pub symbol_text : SymbolData → List ℕ
+symbol_text s =
+    codes "{" ++ container_text s.container ++ codes "\"kind\":" ++ decimal (kind_number s.kind) ++ codes ",\"location\":" ++ location_text s.location
+    ++ codes ",\"name\":" ++ quoted s.name ++ codes "}"
+
+-- the declarations' texts stand in order, with commas between them
+abbrev pub SymbolsText : Type 0
+SymbolsText = (ss : List SymbolData) → compact_text (symbols_value ss) ≡ codes "[" ++ join_with_byte 44 (map symbol_text ss) ++ codes "]"

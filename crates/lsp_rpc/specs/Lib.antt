@@ -2,8 +2,11 @@ pub mod Body
 pub mod Method
 pub mod Message
 pub mod Params
+pub mod RequestParams
 pub mod Diagnostic
 pub mod Workspace
+pub mod Location
+pub mod Symbol
 pub mod Initialize
 pub mod Reply
 pub mod Writing

@@ -2,9 +2,9 @@
 use Rattle.std.specs.Prelude.{ℕ, List, [], ◌∷◌, Option, codes, bytes_eq}
 use Rattle.std.specs.Map.{lookup}
 use Rattle.lsp_rpc.specs.declared.method.Method.{Method}
-use Rattle.lsp_rpc.specs.declared.method.Method.TheVariants.{Initialize, Shutdown, Exit, DidOpen, DidChange, DidSave, DidClose, DocumentDiagnostic, WorkspaceDiagnostic}
+use Rattle.lsp_rpc.specs.declared.method.Method.TheVariants.{Initialize, Shutdown, Exit, DidOpen, DidChange, DidSave, DidClose, DocumentDiagnostic, WorkspaceDiagnostic, WorkspaceSymbol, Definition, References}
 
--- each name with its method: the server's lifecycle, then its documents, then the workspace
+-- each name with its method: the server's lifecycle, then its documents, then what is asked about them
 abbrev pub methods : List (List ℕ × Method)
 methods =
     (codes "initialize", Initialize)
@@ -16,6 +16,9 @@ methods =
     ∷ (codes "textDocument/didClose", DidClose)
     ∷ (codes "textDocument/diagnostic", DocumentDiagnostic)
     ∷ (codes "workspace/diagnostic", WorkspaceDiagnostic)
+    ∷ (codes "workspace/symbol", WorkspaceSymbol)
+    ∷ (codes "textDocument/definition", Definition)
+    ∷ (codes "textDocument/references", References)
     ∷ []
 
 -- the method with this very name

@@ -1,5 +1,6 @@
 -- What a step of a JSON writer leaves.
 use Rattle.std.specs.Prelude.{◌≡◌, List, [], ◌++◌}
+use Rattle.std.specs.List.{flat_map}
 use Rattle.json.specs.Token.{Token}
 use Rattle.json.specs.Tree.{json_tokens}
 use Rattle.json.specs.Written.{Written}
@@ -18,3 +19,7 @@ pub record Appends (old : Written) (ts : List Token) (new : Written) : Type 0 wh
 -- so do those of the value
 abbrev pub Adds : Written → Data → Written → Type 0
 Adds old d new = Appends old (json_tokens (outline d)) new
+
+-- the tokens of some values, one after the other
+abbrev pub values_tokens : List Data → List Token
+values_tokens ds = flat_map (λ d. json_tokens (outline d)) ds

@@ -56,7 +56,8 @@ fn write_position(out: &mut Writer, position: Position) -> Result<(), AllocError
     Ok(())
 }
 
-fn write_range(out: &mut Writer, range: Range) -> Result<(), AllocError>
+// Writes a range.
+pub fn write_range(out: &mut Writer, range: Range) -> Result<(), AllocError>
     ensures { OnOk result (Adds out.old (range_value range) out.new) }
 {
     out.begin_object()?;

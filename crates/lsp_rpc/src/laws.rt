@@ -1,6 +1,6 @@
 // Laws of the definitions that the contracts cite. Each is a function with nothing to do, whose clause
 // is the law.
-ghost use Rattle.lsp_rpc.specs.Laws.{OnlyJsonIsRead, BatchesAreInvalid, RequestsAreCalls, NotificationsHaveNoId, ResultText, ErrorText, InitializeText, DiagnosticText, ReportText, WorkspaceText};
+ghost use Rattle.lsp_rpc.specs.Laws.{OnlyJsonIsRead, BatchesAreInvalid, RequestsAreCalls, NotificationsHaveNoId, ResultText, ErrorText, InitializeText, DiagnosticText, ReportText, WorkspaceText, LocationsText, SymbolsText};
 
 /// A law: what is answered as a parse error is what is no JSON text, and nothing else.
 pub fn parse_errors()
@@ -50,4 +50,14 @@ pub fn report_text()
 /// A law: the bytes of the reports of a workspace.
 pub fn workspace_text()
     ensures { WorkspaceText }
+{}
+
+/// A law: the bytes of the places in documents.
+pub fn locations_text()
+    ensures { LocationsText }
+{}
+
+/// A law: the bytes of declarations, of which one in the empty scope has no `containerName`.
+pub fn symbols_text()
+    ensures { SymbolsText }
 {}

@@ -23,6 +23,12 @@ pub enum Method {
     DocumentDiagnostic,
     /// `workspace/diagnostic`
     WorkspaceDiagnostic,
+    /// `workspace/symbol`
+    WorkspaceSymbol,
+    /// `textDocument/definition`
+    Definition,
+    /// `textDocument/references`
+    References,
 }
 
 impl Method {
@@ -40,6 +46,9 @@ impl Method {
             "textDocument/didClose" => Some(Method::DidClose),
             "textDocument/diagnostic" => Some(Method::DocumentDiagnostic),
             "workspace/diagnostic" => Some(Method::WorkspaceDiagnostic),
+            "workspace/symbol" => Some(Method::WorkspaceSymbol),
+            "textDocument/definition" => Some(Method::Definition),
+            "textDocument/references" => Some(Method::References),
             _ => None,
         }
     }

@@ -200,7 +200,7 @@ fn change_with(mut members: Map<String, Value>) -> Option<Change>
     Some(Change { range, text })
 }
 
-fn position_in(value: &Value) -> Option<Position>
+pub(crate) fn position_in(value: &Value) -> Option<Position>
     ensures { result ≡ position_in (view value.now) }
 {
     let line = natural_member(value, "line")?;

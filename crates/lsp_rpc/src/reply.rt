@@ -7,6 +7,8 @@ ghost use Rattle.lsp_rpc.specs.Message.{id_view};
 ghost use Rattle.lsp_rpc.specs.Writing.{empty, Appends, Adds};
 ghost use Rattle.lsp_rpc.specs.Diagnostic.{report_value, diagnostic_view};
 ghost use Rattle.lsp_rpc.specs.Workspace.{workspace_value, document_view};
+ghost use Rattle.lsp_rpc.specs.Location.{locations_value, all_locations};
+ghost use Rattle.lsp_rpc.specs.Symbol.{symbols_value, all_symbols};
 ghost use Rattle.lsp_rpc.specs.Initialize.{initialize_result};
 ghost use Rattle.lsp_rpc.specs.Reply as reply;
 
@@ -14,6 +16,8 @@ use crate::diagnostic::{Diagnostic, write_report};
 use crate::error_code::ErrorCode;
 use crate::id::Id;
 use crate::initialize::write_initialize_result;
+use crate::location::{DocumentRanges, write_locations};
+use crate::symbol::{DocumentSymbols, write_symbols};
 use crate::workspace::{DocumentReport, write_workspace};
 use json::Writer;
 use std::alloc::{AllocError, Global};
@@ -55,6 +59,36 @@ pub fn workspace_reply(
 {
     let mut out = begin_result(alloc, id)?;
     write_workspace(&mut out, reports)?;
+    out.end_object()?;
+    Ok(out.into_inner())
+}
+
+/// The reply that gives places in documents, in order. An error is want of memory.
+pub fn locations_reply(
+    alloc: Global,
+    id: &Id,
+    places: &[DocumentRanges],
+) -> Result<Vec<u8>, AllocError>
+    ensures { IfOk result (λ b. b.items
+        ≡ compact_text (reply.result_reply (id_view id.now) (locations_value (all_locations places.now)))) }
+{
+    let mut out = begin_result(alloc, id)?;
+    write_locations(&mut out, places)?;
+    out.end_object()?;
+    Ok(out.into_inner())
+}
+
+/// The reply that gives declarations, in order. An error is want of memory.
+pub fn symbols_reply(
+    alloc: Global,
+    id: &Id,
+    symbols: &[DocumentSymbols<'_>],
+) -> Result<Vec<u8>, AllocError>
+    ensures { IfOk result (λ b. b.items
+        ≡ compact_text (reply.result_reply (id_view id.now) (symbols_value (all_symbols symbols.now)))) }
+{
+    let mut out = begin_result(alloc, id)?;
+    write_symbols(&mut out, symbols)?;
     out.end_object()?;
     Ok(out.into_inner())
 }

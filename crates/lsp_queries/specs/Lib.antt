@@ -1,0 +1,4 @@
+pub mod Files
+pub mod Offsets
+pub mod Matching
+pub mod Answers
