@@ -8,7 +8,7 @@ use Rattle.syntax_tree.specs.declared.node.Node.TheFolds.{fold-Node, fold-roll-N
 use Rattle.syntax_tree.specs.declared.node.Span.{Span}
 use Rattle.file_facts.specs.declared.fact.DeclKind.{DeclKind}
 use Rattle.file_facts.specs.declared.fact.DeclKind.TheVariants as kind
-use Rattle.facts_laws.specs.Parents.{name_of, block_of, members_of, is_extend, Declares, by_statement, by_extend, StandsIn, here, deeper}
+use Rattle.facts_laws.specs.Parents.{name_of, block_of, members_of, extensions_of, Declares, by_statement, by_extend, StandsIn, here, deeper}
 
 -- a block's kind and name, or no block
 abbrev pub Block : Type 0
@@ -100,7 +100,7 @@ named-in (Node-F.MapField f) name outer e = first_entry f.name name outer [] e
 named-in (Node-F.Value span it number) name outer e = first_entry it name outer [] e
 named-in _ name outer e = cc
 
-extend-in : (y : Node-F Node) (items : List Node) (outer : Block) (e : Entry) → is_extend y ≡ Some items → Contains (entries_in items outer) e → Contains (layer_entries y outer) e
+extend-in : (y : Node-F Node) (items : List Node) (outer : Block) (e : Entry) → extensions_of y ≡ Some items → Contains (entries_in items outer) e → Contains (layer_entries y outer) e
 extend-in (Node-F.Extend span target its) items outer e is h = subst (λ (l : List Node). Contains (entries_in l outer) e) (sym (inside its items is)) h
 extend-in _ items outer e is h = cc
 
@@ -176,7 +176,7 @@ block-found n k name items outer x o nodes is block members there c = by (cases_
     by (inl same) = own-found n name outer x o nodes is same there
     by (inr later) = inner (sound-body items (nodes_of items) (λ n c. c) (Some (k, name)) x o later)
 
-extend-found : (n : Node) (items : List Known) (outer : Block) (x : Span) (o : Block) (nodes : List Node) → is_extend (out-Node n) ≡ Some (nodes_of items) → members_of (out-Node n) ≡ nodes_of items → Contains nodes n
+extend-found : (n : Node) (items : List Known) (outer : Block) (x : Span) (o : Block) (nodes : List Node) → extensions_of (out-Node n) ≡ Some (nodes_of items) → members_of (out-Node n) ≡ nodes_of items → Contains nodes n
     → Contains (entries_in (nodes_of items) outer) (x, o) → Found nodes x o outer
 extend-found n items outer x o nodes is members there c = inner (sound-body items (nodes_of items) (λ n c. c) outer x o c)
   where
@@ -189,7 +189,7 @@ step-sound (Node-F.Message span name items) n is outer x o c nodes there = block
 step-sound (Node-F.EnumDef span name items) n is outer x o c nodes there = block-found n kind.EnumDef name items outer x o nodes (ap name_of is) (ap block_of is) (ap members_of is) there c
 step-sound (Node-F.Service span name items) n is outer x o c nodes there = block-found n kind.Service name items outer x o nodes (ap name_of is) (ap block_of is) (ap members_of is) there c
 step-sound (Node-F.Oneof span name items) n is outer x o c nodes there = block-found n kind.Oneof name items outer x o nodes (ap name_of is) (ap block_of is) (ap members_of is) there c
-step-sound (Node-F.Extend span target items) n is outer x o c nodes there = extend-found n items outer x o nodes (ap is_extend is) (ap members_of is) there c
+step-sound (Node-F.Extend span target items) n is outer x o c nodes there = extend-found n items outer x o nodes (ap extensions_of is) (ap members_of is) there c
 step-sound (Node-F.Rpc span name request response items) n is outer x o c nodes there = leaf-found n name outer x o nodes (ap name_of is) there c
 step-sound (Node-F.Field f) n is outer x o c nodes there = leaf-found n f.name outer x o nodes (ap name_of is) there c
 step-sound (Node-F.MapField f) n is outer x o c nodes there = leaf-found n f.name outer x o nodes (ap name_of is) there c

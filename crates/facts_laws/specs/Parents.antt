@@ -36,15 +36,16 @@ members_of (Node-F.Oneof span name items) = items
 members_of (Node-F.Extend span target items) = items
 members_of _ = []
 
-abbrev pub is_extend : Node-F Node → Option (List Node)
-is_extend (Node-F.Extend span target items) = Some items
-is_extend _ = None
+-- the statements of an `extend` block
+abbrev pub extensions_of : Node-F Node → Option (List Node)
+extensions_of (Node-F.Extend span target items) = Some items
+extensions_of _ = None
 
 -- The body declares the name itself: by one of its statements, or in an `extend` block that is one. What its other blocks
 -- declare is theirs.
 pub data Declares : List Node → Span → Type 0 where
   by_statement : {body : List Node} {n : Node} {name : Span} → Contains body n → name_of (out-Node n) ≡ Some name → Declares body name
-  by_extend : {body : List Node} {n : Node} {items : List Node} {name : Span} → Contains body n → is_extend (out-Node n) ≡ Some items → Declares items name → Declares body name
+  by_extend : {body : List Node} {n : Node} {items : List Node} {name : Span} → Contains body n → extensions_of (out-Node n) ≡ Some items → Declares items name → Declares body name
 
 -- the statement stands in the body, or in a block in it, at any depth
 pub data StandsIn : List Node → Node → Type 0 where
@@ -58,8 +59,8 @@ pub record Holds (nodes : List Node) (outer inner : Decl) : Type 0 where
   pub is_its : block_of (out-Node block) ≡ Some (outer.kind, outer.name_span)
   pub declares : Declares (members_of (out-Node block)) inner.name_span
 
--- A declaration's parent stands before it and holds it. A declaration that holds it is its parent: so without a parent, none
--- does.
+-- A declaration's parent stands before it and holds it. A declaration that holds it is its parent, so that without a parent none
+-- does; then the file itself declares it.
 pub record ParentsHold (nodes : List Node) (decls : List Decl) : Type 0 where
   pub holds : (i p : ℕ) (d : Decl) → i < length decls → (get_or decls i d).parent ≡ Some p → (p < i) × Holds nodes (get_or decls p d) (get_or decls i d)
   pub only : (i p : ℕ) (d : Decl) → i < length decls → p < length decls → Holds nodes (get_or decls p d) (get_or decls i d) → (get_or decls i d).parent ≡ Some p

@@ -7,6 +7,7 @@ pub mod Exists
 pub mod Floats
 pub mod Fronts
 pub mod Ints
+pub mod Identifiers
 pub mod KindForms
 pub mod LongestFront
 pub mod Numbers

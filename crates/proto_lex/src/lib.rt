@@ -8,6 +8,7 @@
 mod bytes;
 mod comment;
 mod front;
+mod identifier;
 mod laws;
 mod lexer;
 mod number;
@@ -15,6 +16,7 @@ mod scan;
 mod string;
 mod token;
 
+pub use identifier::is_identifier;
 pub use laws::{
     cut_tokens, number_forms, one_token_list, ordered_tokens, single_characters, token_forms,
 };
