@@ -1,8 +1,12 @@
 -- Intervals sorted by their lower bounds, asked by a number.
-use Rattle.std.proofs.Common.{◌≡◌, map, sym, Option, Some, None, Bool, true, false, ◌&&◌, ◌||◌, ℕ, zero, suc, ◌≤◌, List, [], ◌∷◌, length, take, refl, ap, ◌∙◌, arith}
+use Rattle.std.proofs.Common.{◌≡◌, map, sym, drop, get_or, max, add-one, subst, tests, Option, Some, None, Bool, true, false, ◌&&◌, ◌||◌, ℕ, zero, suc, ◌+◌, ◌<◌, ◌≤◌, List, [], ◌∷◌, length, take, refl, ap, ◌∙◌, arith}
 use Rattle.std.specs.Prelude.{nat_le}
-use Rattle.std.specs.List.{list_any, AllWithin}
-use Rattle.proto_facts.specs.Reach.{between, holds, reach_of, is_held}
+use Rattle.std.specs.List.{list_any, AllWithin, AllByRecursion, IsDistinct}
+use Rattle.std.specs.List.Sorted.{IsPermutation}
+use Rattle.std.proofs.lemmas.List.Sorted.{IsPermutation-sym}
+use Rattle.std.proofs.lemmas.Map.Keys.{IsDistinct-head, IsDistinct-tail, IsDistinct-cons, IsDistinct-IsPermutation}
+use Rattle.std.proofs.Math.Seq.{drop-cons}
+use Rattle.proto_facts.specs.Reach.{between, holds, reach_of, is_held, Rise, AreApart}
 use Rattle.file_facts.specs.Checks.{lies_in, overlap}
 use Rattle.file_facts.specs.declared.part.Interval.{Interval}
 use Rattle.proto_facts.specs.declared.reach.Reach.{Reach}
@@ -46,3 +50,63 @@ any-met r [] = refl
 any-met r (x ∷ xs) =
     ap (λ b. b || list_any (between r.high r.low) (map reach_of xs)) (both-turned (nat_le x.low r.high) (nat_le r.low x.high))
     ∙ ap (λ b. overlap r x || b) (any-met r xs)
+
+-- ---- intervals that share no number
+
+abbrev meet : Reach → Reach → Bool
+meet a b = nat_le a.low b.high && nat_le b.low a.high
+
+above : (end : ℕ) (rs : List Reach) → Rise end rs → AllByRecursion (λ r. end ≤ r.low) rs
+above end [] up = tt
+above end (r ∷ rs) up = (up.0, weaker rs (above (max end (r.high + 1)) rs up.1))
+  where
+    weaker : (xs : List Reach) → AllByRecursion (λ y. max end (r.high + 1) ≤ y.low) xs → AllByRecursion (λ y. end ≤ y.low) xs
+    weaker [] all = tt
+    weaker (x ∷ xs) all = (omega (arith, all.0), weaker xs all.1)
+
+behind : (r : Reach) (end : ℕ) (xs : List Reach) → r.high < end → AllByRecursion (λ y. end ≤ y.low) xs → AllByRecursion (λ y. meet r y ≡ false) xs
+behind r end [] lt all = tt
+behind r end (x ∷ xs) lt all = (later x all.0, behind r end xs lt all.1)
+  where
+    later : (y : Reach) → end ≤ y.low → meet r y ≡ false
+    later y le = grind (arith, tests)
+
+rise-apart : (end : ℕ) (rs : List Reach) → Rise end rs → IsDistinct meet rs
+unfolding IsDistinct
+rise-apart end [] up = tt
+rise-apart end (r ∷ rs) up = (behind r (max end (r.high + 1)) rs (omega arith) (above (max end (r.high + 1)) rs up.1), rise-apart (max end (r.high + 1)) rs up.1)
+
+unmapped : (good : List Interval) → IsDistinct meet (map reach_of good) → AreApart good
+unfolding IsDistinct
+unmapped [] apart = tt
+unmapped (x ∷ xs) apart = (each xs apart.0, unmapped xs apart.1)
+  where
+    each : (ys : List Interval) → AllByRecursion (λ y. meet (reach_of x) y ≡ false) (map reach_of ys) → AllByRecursion (λ y. overlap x y ≡ false) ys
+    each [] all = tt
+    each (y ∷ ys) all = (all.0, each ys all.1)
+
+-- sorted in some way, each begins behind those before it
+pub apart-from-rise : (good : List Interval) (rs : List Reach) → IsPermutation (map reach_of good) rs → Rise 0 rs → AreApart good
+apart-from-rise good rs same up =
+    unmapped good
+    (IsDistinct-IsPermutation meet (λ a b. both-turned (nat_le a.low b.high) (nat_le b.low a.high)) rs (map reach_of good) (IsPermutation-sym (map reach_of good) rs same) (rise-apart 0 rs up))
+
+-- one more that begins behind the others
+pub rise-next : (rs : List Reach) (i : ℕ) (d : Reach) (end : ℕ) → i < length rs → end ≤ (get_or rs i d).low → Rise (max end ((get_or rs i d).high + 1)) (drop (i + 1) rs) → Rise end (drop i rs)
+rise-next rs i d end lt le up =
+    let split : drop i rs ≡ get_or rs i d ∷ drop (i + 1) rs = rw add-one (drop-cons rs i d lt) in
+    subst (Rise end) (sym split) (le, up)
+
+-- where no two share a number, none before it does
+pub none-overlap : (good : List Interval) (k : ℕ) (d : Interval) → k < length good → AreApart good → list_any (overlap (get_or good k d)) (take k good) ≡ false
+none-overlap [] k d lt apart = absurd (omega arith)
+none-overlap (x ∷ xs) zero d lt apart = refl
+none-overlap (x ∷ xs) (suc k) d lt apart =
+    let here = get_or xs k d in
+    ap (λ b. b || list_any (overlap here) (take k xs)) (both-turned (nat_le here.low x.high) (nat_le x.low here.high) ∙ placed xs k (omega arith) (IsDistinct-head overlap x xs apart))
+    ∙ none-overlap xs k d (omega arith) (IsDistinct-tail overlap x xs apart)
+  where
+    placed : (ys : List Interval) (j : ℕ) → j < length ys → AllByRecursion (λ y. overlap x y ≡ false) ys → overlap x (get_or ys j d) ≡ false
+    placed [] j lt' all = absurd (omega arith)
+    placed (y ∷ ys) zero lt' all = all.0
+    placed (y ∷ ys) (suc j) lt' all = placed ys j (omega arith) all.1

@@ -60,7 +60,7 @@ module _ {X : Type 0} (judge : List X → X → Option Diag) where
       ap (λ n. filter_map (judged_at judge xs) (drop n (enumerate_from 0 xs))) (sym next)
       ∙ diags-next judge xs i d [] (judged judge xs) [] None (omega arith) (so-far xs d right i (omega arith)) refl (sym (right i (omega arith)))
 
-  judged-none : (xs : List X) → ((k : ℕ) (d : X) → k < length xs → judge (take k xs) (get_or xs k d) ≡ None) → judged judge xs ≡ []
+  pub judged-none : (xs : List X) → ((k : ℕ) (d : X) → k < length xs → judge (take k xs) (get_or xs k d) ≡ None) → judged judge xs ≡ []
   judged-none [] right = refl
   judged-none (x ∷ xs) right =
       let all = x ∷ xs in

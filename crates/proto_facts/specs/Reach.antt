@@ -1,6 +1,6 @@
 -- Intervals by their lower bounds.
-use Rattle.std.specs.Prelude.{◌≡◌, ℕ, ◌+◌, ◌<◌, Bool, false, ◌&&◌, ◌||◌, List, [], ◌∷◌, ◌++◌, Option, Some, None, length, take, slice_index, nat_le, nat_lt}
-use Rattle.std.specs.List.{list_any}
+use Rattle.std.specs.Prelude.{◌≡◌, ℕ, ◌+◌, ◌<◌, ◌≤◌, max, ⊤, Bool, false, ◌&&◌, ◌||◌, List, [], ◌∷◌, ◌++◌, Option, Some, None, length, take, slice_index, nat_le, nat_lt}
+use Rattle.std.specs.List.{list_any, IsDistinct}
 use Rattle.file_facts.specs.declared.part.Interval.{Interval}
 use Rattle.proto_facts.specs.declared.reach.Reach.{Reach}
 use Rattle.file_facts.specs.Checks.{overlap}
@@ -35,3 +35,12 @@ abbrev pub met_also : List Interval → List Interval → List Bool → List Boo
 met_also before [] found = []
 met_also before (r ∷ more) [] = []
 met_also before (r ∷ more) (f ∷ found) = (list_any (overlap r) before || f) ∷ met_also before more found
+
+-- each begins at this end or above it, and behind those before it
+abbrev pub Rise : ℕ → List Reach → Type 0
+Rise end [] = ⊤
+Rise end (r ∷ more) = (end ≤ r.low) × Rise (max end (r.high + 1)) more
+
+-- no two share a number
+abbrev pub AreApart : List Interval → Type 0
+AreApart good = IsDistinct overlap good

@@ -6,7 +6,7 @@ ghost use Rattle.proto_facts.specs.Reach as spec;
 ghost use Rattle.file_facts.specs.Checks as checks;
 
 use crate::checks::{add, diag_if};
-use crate::reach::{FEW, Reach, ends, is_between, sorted_reaches};
+use crate::reach::{FEW, Reach, are_apart, ends, is_between, sorted_reaches};
 use file_facts::{Diag, Interval, Problem};
 use sqlite_items::Items;
 use std::alloc::{AllocError, Global};
@@ -125,6 +125,8 @@ pub fn add_range_twice(
 {
     if good.len() <= FEW {
         add_overlaps(good, diags)
+    } else if are_apart(alloc, good)? {
+        Ok(())
     } else {
         add_by_halves(alloc, good, diags)
     }

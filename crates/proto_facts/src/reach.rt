@@ -1,6 +1,6 @@
 // Reserved numbers, ready to be asked by one number after the other.
 
-ghost use Rattle.std.specs.Prelude.{◌≡◌, ◌+◌, ◌<◌, ℕ, List, IfOk, OnOk, ◌++◌, Some, length, map, take, slice_index, nat_lt, nat_le};
+ghost use Rattle.std.specs.Prelude.{◌≡◌, ◌+◌, ◌<◌, ℕ, List, IfOk, OnOk, IsTrue, ◌++◌, Some, length, map, take, slice_index, nat_lt, nat_le};
 ghost use Rattle.std.specs.List.{list_any, filter_map};
 ghost use Rattle.file_facts.specs.declared.problem.Problem.TheVariants as m;
 ghost use Rattle.std.specs.List.Sorted.{IsNonDecreasingBy};
@@ -66,6 +66,29 @@ pub fn sorted_reaches(alloc: Global, good: &[Interval]) -> Result<Vec<Reach>, Al
     let mut found = reaches(alloc, good)?;
     found.sort_by_key(|reach| reach.low)?;
     Ok(found)
+}
+
+// Whether each of the intervals begins behind those before it.
+fn rise(sorted: &[Reach]) -> bool
+    ensures { IsTrue result → spec.Rise 0 sorted.now }
+{
+    let mut end: u64 = 0;
+    'sorted: for reach in sorted {
+        if u64::from(reach.low) < end {
+            return false;
+        }
+        end = end.max(u64::from(reach.high) + 1);
+    }
+    true
+}
+
+// Whether no two of the intervals share a number, as far as one look at each in order tells.
+pub fn are_apart(alloc: Global, good: &[Interval]) -> Result<bool, AllocError>
+    ensures { IfOk result (λ apart. IsTrue apart → spec.AreApart good.now) }
+{
+    let mut sorted = reaches(alloc, good)?;
+    sorted.sort_by_key(|reach| reach.low)?;
+    Ok(rise(sorted.as_slice()))
 }
 
 fn number_reserved(sorted: &[Reach], ends: &[u64], member: Member) -> Option<Diag>
