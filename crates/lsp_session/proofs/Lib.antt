@@ -4,3 +4,4 @@ mod ReportsLemmas
 mod FilesLemmas
 mod RunLemmas
 mod ServingLemmas
+mod AnswersLemmas

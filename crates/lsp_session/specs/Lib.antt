@@ -1,5 +1,7 @@
 pub mod Diagnostics
 pub mod Reports
+pub mod Answers
+pub mod AnswerViews
 pub mod Session
 pub mod Stream
 pub mod Core

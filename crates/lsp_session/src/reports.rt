@@ -39,7 +39,7 @@ pub fn document_diagnostics(
 }
 
 // The URI of the last open of a file, or else that of the path below the root.
-fn uri_of(
+pub fn uri_of(
     alloc: Global,
     root: &Root,
     path: &str,
@@ -83,21 +83,6 @@ fn report_of(
     })
 }
 
-// The report of a file of the workspace, given its number.
-fn numbered_report(
-    alloc: Global,
-    root: &Root,
-    files: &Files,
-    snapshot: &Snapshot,
-    number: usize,
-    piece: &Piece<FileWork>,
-) -> Result<DocumentReport<'static>, AllocError>
-    requires { number < length snapshot.now }
-    ensures { IfOk result (λ report. document_view report ≡ numbered_report (root_text root.now) (files_view files.now.entries) (analysis snapshot.now) (number, (piece.now.path, piece.now.text))) }
-{
-    report_of(alloc, root, files, piece, snapshot.diagnostics(number))
-}
-
 // The reports of the files of the workspace, which are these.
 fn all_reports(
     alloc: Global,
@@ -112,7 +97,8 @@ fn all_reports(
 {
     let mut reports = Vec::new(alloc);
     for (number, piece) in pieces.iter().enumerate() {
-        reports.push(numbered_report(alloc, root, files, snapshot, number, piece)?)?;
+        let diags = snapshot.diagnostics(number);
+        reports.push(report_of(alloc, root, files, piece, diags)?)?;
     }
     Ok(reports)
 }
