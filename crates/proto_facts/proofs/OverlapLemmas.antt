@@ -2,7 +2,7 @@
 use Rattle.std.proofs.Common.{◌≡◌, Bool, false, ◌||◌, ℕ, zero, suc, ◌+◌, ◌<◌, ◌≤◌, List, [], ◌∷◌, ◌++◌, length, take, drop, get_or, refl, sym, ap, ◌∙◌, arith, append_assoc, append-nil, add-one}
 use Rattle.std.specs.List.{list_any}
 use Rattle.std.proofs.lemmas.List.Folds.{list_any-append}
-use Rattle.std.proofs.lemmas.List.{drop_all}
+use Rattle.std.proofs.lemmas.List.{drop_all, take_more}
 use Rattle.std.proofs.Math.Seq.{drop-cons}
 use Rattle.proto_facts.specs.Reach.{met_after, met_also}
 use Rattle.file_facts.specs.Checks.{overlap}
@@ -37,10 +37,24 @@ pub both-met : (xs ys : List Interval) → met_after [] xs ++ met_also xs ys (me
 both-met xs ys =
     sym (front-met [] xs ys ∙ ap (λ bs. met_after [] xs ++ bs) (ap (λ b. met_after b ys) (sym (append-nil xs)) ∙ back-met xs [] ys))
 
-pub one-met : (xs : List Interval) → 0 < length xs → length xs < 2 → met_after [] xs ≡ false ∷ []
-one-met [] some one = absurd (omega arith)
-one-met (x ∷ []) some one = refl
-one-met (x ∷ y ∷ more) some one = absurd (omega arith)
+-- one more interval, looked at with all before it
+pub pairs-more : (good : List Interval) (i : ℕ) (d : Interval) (found new whole : List Bool) (b : Bool) → i < length good
+    → found ++ met_after (take i good) (drop i good) ≡ whole → b ≡ list_any (overlap (get_or good i d)) (take i good) → new ≡ found ++ b ∷ []
+    → new ++ met_after (take (i + 1) good) (drop (i + 1) good) ≡ whole
+pairs-more good i d found new whole b lt so_far is pushed =
+    let x = get_or good i d in
+    let rest = met_after (take (i + 1) good) (drop (i + 1) good) in
+    let split : drop i good ≡ x ∷ drop (i + 1) good = rw add-one (drop-cons good i d lt) in
+    let more : take (i + 1) good ≡ take i good ++ x ∷ [] = take_more good i d lt in
+    let next : met_after (take i good) (drop i good) ≡ list_any (overlap x) (take i good) ∷ rest =
+    ap (met_after (take i good)) split ∙ ap (λ ys. list_any (overlap x) (take i good) ∷ met_after ys (drop (i + 1) good)) (sym more) in
+    ap (λ bs. bs ++ rest) (pushed ∙ ap (λ c. found ++ c ∷ []) is)
+    ∙ append_assoc found (list_any (overlap x) (take i good) ∷ []) rest
+    ∙ ap (λ bs. found ++ bs) (sym next) ∙ so_far
+
+pub pairs-end : (good : List Interval) (i : ℕ) (found whole : List Bool) → length good ≤ i → found ++ met_after (take i good) (drop i good) ≡ whole → found ≡ whole
+pairs-end good i found whole past so_far =
+    sym (append-nil found) ∙ ap (λ gs. found ++ met_after (take i good) gs) (sym (drop_all i good past)) ∙ so_far
 
 -- one more answer
 pub also-next : (before good : List Interval) (met : List Bool) (i : ℕ) (d : Interval) → i < length good → length met ≡ length good

@@ -40,26 +40,43 @@ fn add_met_also(
     Ok(())
 }
 
-// For each interval, whether it shares a number with one of those before it. Each half is looked at by itself, and then
-// the second half against the first.
+fn overlap(interval: Interval, earlier: Interval) -> bool
+    ensures { result ≡ checks.overlap interval earlier }
+{
+    interval.low <= earlier.high && earlier.low <= interval.high
+}
+
+fn overlaps_one(before: &[Interval], interval: Interval) -> bool
+    ensures { result ≡ list_any (checks.overlap interval) before.now }
+{
+    before.iter().any(|earlier| overlap(interval, *earlier))
+}
+
+// For each interval, whether it shares a number with one of those before it, by a look at each pair.
+fn met_by_pairs(alloc: Global, good: &[Interval]) -> Result<Vec<bool>, AllocError>
+    ensures { IfOk result (λ v. v.items ≡ spec.met_after [] good.now) }
+{
+    let mut found = Vec::with_capacity(alloc, good.len())?;
+    'good: for (i, interval) in good.iter().enumerate() {
+        let again = overlaps_one(&good[..i], *interval);
+        found.push(again)?;
+    }
+    Ok(found)
+}
+
+// For each interval, whether it shares a number with one of those before it. Of many each half is looked at by itself, and
+// then the second half against the first.
 fn met_before(alloc: Global, good: &[Interval]) -> Result<Vec<bool>, AllocError>
     ensures { IfOk result (λ v. v.items ≡ spec.met_after [] good.now) }
 {
-    let mut found = Vec::new(alloc);
-    match good {
-        [] => Ok(found),
-        [_] => {
-            found.push(false)?;
-            Ok(found)
-        }
-        _ => {
-            let (front, back) = good.split_at(good.len() / 2);
-            let mut found = met_before(alloc, front)?;
-            let later = met_before(alloc, back)?;
-            add_met_also(alloc, front, back, later.as_slice(), &mut found)?;
-            Ok(found)
-        }
+    if good.len() <= FEW {
+        return met_by_pairs(alloc, good);
     }
+    let (front, back) = good.split_at(good.len() / 2);
+    let mut found = met_before(alloc, front)?;
+    let later = met_before(alloc, back)?;
+    add_met_also(alloc, front, back, later.as_slice(), &mut found)?;
+    Ok(found)
 }
 
 // Adds the ranges that are met by an earlier one.
@@ -84,18 +101,6 @@ fn add_by_halves(
 {
     let met = met_before(alloc, good)?;
     add_met(good, met.as_slice(), diags)
-}
-
-fn overlap(interval: Interval, earlier: Interval) -> bool
-    ensures { result ≡ checks.overlap interval earlier }
-{
-    interval.low <= earlier.high && earlier.low <= interval.high
-}
-
-fn overlaps_one(before: &[Interval], interval: Interval) -> bool
-    ensures { result ≡ list_any (checks.overlap interval) before.now }
-{
-    before.iter().any(|earlier| overlap(interval, *earlier))
 }
 
 fn range_twice(before: &[Interval], interval: Interval) -> Option<Diag>

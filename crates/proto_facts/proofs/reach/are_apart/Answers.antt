@@ -1,6 +1,6 @@
-use Rattle.std.proofs.Common.{sym, subst, map}
+use Rattle.std.proofs.Common.{subst}
 use Rattle.std.specs.List.Sorted.{IsPermutation}
-use Rattle.proto_facts.specs.Reach.{reach_of, Rise}
+use Rattle.proto_facts.specs.Reach.{Rise}
 use Rattle.proto_facts.proofs.ReachLemmas.{apart-from-rise}
 use Rattle.proto_facts.proofs.reach.are_apart.Goals as goal
 
