@@ -1,13 +1,12 @@
 // The work on one file.
 ghost use Rattle.std.specs.Prelude.{◌≡◌, IfOk};
 ghost use Rattle.file_facts.specs.Facts.{facts_of};
-ghost use Rattle.syntax_tree.specs.Read.{read, value_tree};
+ghost use Rattle.syntax_tree.specs.Read.{value_tree};
 
 use file_facts::FileFacts;
 use piece_collector::{Piece, Work};
 use proto_facts::facts;
-use proto_lex::lex;
-use proto_syntax::parse;
+use proto_syntax::parse_text;
 use std::alloc::{AllocError, Global};
 use syntax_tree::{FileTree, is_too_long};
 
@@ -51,22 +50,14 @@ impl Work for FileWork {
     }
 }
 
-// The tree of a text, of whatever length.
-fn read(alloc: Global, text: &str) -> Result<FileTree, AllocError>
-    ensures { IfOk result (λ tree. tree ≡ read text.now) }
-{
-    let tokens = lex(alloc, text)?;
-    parse(alloc, text, tokens.as_slice())
-}
-
 // The tree of a text. A text that is too long has the tree of the empty text.
 fn tree_of(alloc: Global, text: &str) -> Result<FileTree, AllocError>
     ensures { IfOk result (λ tree. tree ≡ value_tree text.now) }
 {
     if is_too_long(text) {
-        read(alloc, "")
+        parse_text(alloc, "")
     } else {
-        read(alloc, text)
+        parse_text(alloc, text)
     }
 }
 

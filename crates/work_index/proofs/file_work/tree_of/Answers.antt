@@ -12,8 +12,8 @@ unfolding value_tree
 tree-short text short = rw short refl
 
 pub returns-then-is_too_long : goal.returns-then-is_too_long
-returns-then-is_too_long c = IfOk-weaker c.read.result _ _ (λ tree is. is ∙ sym (tree-long c.args.text.now (sym c.is_too_long.ensures ∙ c.if-is_too_long.true))) c.read.ensures
+returns-then-is_too_long c = IfOk-weaker c.parse_text.result _ _ (λ tree is. is ∙ sym (tree-long c.args.text.now (sym c.is_too_long.ensures ∙ c.if-is_too_long.true))) c.parse_text.ensures
 
 pub returns-else-is_too_long : goal.returns-else-is_too_long
 returns-else-is_too_long c =
-    IfOk-weaker c.read-else-is_too_long.result _ _ (λ tree is. is ∙ sym (tree-short c.args.text.now (sym c.is_too_long.ensures ∙ c.if-is_too_long.false))) c.read-else-is_too_long.ensures
+    IfOk-weaker c.parse_text-else-is_too_long.result _ _ (λ tree is. is ∙ sym (tree-short c.args.text.now (sym c.is_too_long.ensures ∙ c.if-is_too_long.false))) c.parse_text-else-is_too_long.ensures
