@@ -44,7 +44,7 @@ pub fn uses_in(analysis: &Analysis, file: FileNo) -> &[NameUse]
     }
 }
 
-// A declaration, if it is there.
+/// A declaration, if it is there. Takes no memory.
 pub fn decl_of(analysis: &Analysis, decl: DeclRef) -> Option<&Decl>
     ensures { option_map (λ d. d.now) result ≡ decl_of analysis.now decl }
 {

@@ -18,6 +18,7 @@ mod searching;
 
 pub use defining::definition;
 pub use file_facts::Diag;
+pub use files::decl_of;
 pub use laws::contains_law;
 pub use place::Place;
 pub use referring::references;

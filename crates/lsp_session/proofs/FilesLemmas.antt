@@ -3,13 +3,16 @@ use Rattle.std.proofs.Common.{◌≡◌, ℕ, List, [], ◌∷◌, Bool, true, f
 use Rattle.serde_json.specs.Data.{Data}
 use Rattle.lsp_rpc.specs.Message.{IdData, MessageData, parse_error, invalid_request, response, request, notification, message_of}
 use Rattle.lsp_rpc.specs.Params.{OpenedDocument, ChangedDocument, opened_of, changed_of}
+use Rattle.std.specs.Prelude.{option_and_then}
+use Rattle.lsp_rpc.specs.RequestParams.{ReferenceData, query_of, place_of, reference_of}
+use Rattle.lsp_session.specs.Answers.{DocumentPlaceData}
 use Rattle.lsp_rpc.specs.declared.method.Method.{Method}
-use Rattle.lsp_rpc.specs.declared.method.Method.TheVariants.{Initialize, Shutdown, Exit, DidOpen, DidChange, DidSave, DidClose, DocumentDiagnostic, WorkspaceDiagnostic}
+use Rattle.lsp_rpc.specs.declared.method.Method.TheVariants.{Initialize, Shutdown, Exit, DidOpen, DidChange, DidSave, DidClose, DocumentDiagnostic, WorkspaceDiagnostic, WorkspaceSymbol, Definition, References}
 use Rattle.workspace_uri.specs.Uri.{path_of}
 use Rattle.lsp_workspace.specs.Files.{Files, AreInPathOrder, KeepsPathOrder, opened_files, changed_files, saved_files, closed_files}
 use Rattle.lsp_workspace.proofs.PathOrder.{from_disk-order, opened_files-order, changed_files-order, saved_files-order, closed_files-order}
 use Rattle.lsp_config.specs.Configuration.{Configuration, in_root_order}
-use Rattle.lsp_session.specs.Session.{State, Run, at_path, path_in, opened, changed, document_in, diagnosed, running_request, first_request, requested, exits, running_notification, notified, received, turn_in, start, next, session}
+use Rattle.lsp_session.specs.Session.{State, Run, at_path, path_in, opened, changed, document_in, diagnosed, place_in, searched, defined, referred, referred_by, running_request, first_request, requested, exits, running_notification, notified, received, turn_in, start, next, session}
 use Rattle.lsp_session.specs.declared.phase.Phase.{Phase}
 use Rattle.lsp_session.specs.declared.phase.Phase.TheVariants.{Uninitialized, Running, Shut, Exited}
 
@@ -36,8 +39,27 @@ diagnosed-files : (s : State) (id : IdData) (document : Option (List ℕ × List
 diagnosed-files s id None = refl
 diagnosed-files s id (Some document) = refl
 
+searched-files : (s : State) (id : IdData) (query : Option (List ℕ)) → (searched s id query).state.files ≡ s.files
+searched-files s id None = refl
+searched-files s id (Some query) = refl
+
+defined-files : (s : State) (id : IdData) (at : Option DocumentPlaceData) → (defined s id at).state.files ≡ s.files
+defined-files s id None = refl
+defined-files s id (Some at) = refl
+
+referred-files : (s : State) (id : IdData) (include : Bool) (at : Option DocumentPlaceData) → (referred s id include at).state.files ≡ s.files
+referred-files s id include None = refl
+referred-files s id include (Some at) = refl
+
+referred_by-files : (s : State) (id : IdData) (r : Option ReferenceData) → (referred_by s id r).state.files ≡ s.files
+referred_by-files s id None = refl
+referred_by-files s id (Some r) = referred-files s id r.include_declaration (place_in s r.place)
+
 running_request-files : (s : State) (id : IdData) (method : Option Method) (params : Data) → (running_request s id method params).state.files ≡ s.files
 running_request-files s id (Some DocumentDiagnostic) params = diagnosed-files s id (document_in s params)
+running_request-files s id (Some WorkspaceSymbol) params = searched-files s id (query_of params)
+running_request-files s id (Some Definition) params = defined-files s id (option_and_then (place_in s) (place_of params))
+running_request-files s id (Some References) params = referred_by-files s id (reference_of params)
 running_request-files s id (Some Initialize) params = refl
 running_request-files s id (Some Shutdown) params = refl
 running_request-files s id (Some WorkspaceDiagnostic) params = refl

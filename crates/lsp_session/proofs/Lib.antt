@@ -2,3 +2,4 @@ mod CoreLemmas
 mod FilesLemmas
 mod RunLemmas
 mod ServingLemmas
+mod AnswersLemmas

@@ -1,3 +1,5 @@
+pub mod Answers
+pub mod AnswerViews
 pub mod Session
 pub mod Stream
 pub mod Core

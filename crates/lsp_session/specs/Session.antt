@@ -1,5 +1,7 @@
 -- The sequential session (Language Server Protocol 3.17): what each message changes, and what is replied to it.
 use Rattle.std.specs.Prelude.{ℕ, List, [], ◌∷◌, ◌++◌, Bool, true, false, Option, Some, None, option_and_then, option_map, map, fold}
+use Rattle.doc_text.specs.Positions.{offset_of}
+use Rattle.doc_text.specs.declared.encoding.Encoding.TheVariants.{Utf16}
 use Rattle.serde_json.specs.Data.{Data, null}
 use Rattle.serde_json.specs.Written.{compact_text}
 use Rattle.lsp_rpc.specs.Diagnostic.{report_value}
@@ -7,15 +9,19 @@ use Rattle.lsp_rpc.specs.Workspace.{workspace_value}
 use Rattle.lsp_rpc.specs.Initialize.{initialize_result}
 use Rattle.lsp_rpc.specs.Message.{IdData, MessageData, parse_error, invalid_request, response, request, notification, message_of}
 use Rattle.lsp_rpc.specs.Params.{OpenedDocument, ChangedDocument, opened_of, changed_of, uri_of}
+use Rattle.lsp_rpc.specs.RequestParams.{PlaceData, ReferenceData, query_of, place_of, reference_of}
+use Rattle.lsp_rpc.specs.Location.{locations_or_null}
+use Rattle.lsp_rpc.specs.Symbol.{symbols_value}
 use Rattle.lsp_rpc.specs.Reply.{result_reply, error_reply}
 use Rattle.lsp_rpc.specs.declared.error_code.ErrorCode.{ErrorCode}
 use Rattle.lsp_rpc.specs.declared.error_code.ErrorCode.TheVariants.{ParseError, InvalidRequest, MethodNotFound, InvalidParams, ServerNotInitialized}
 use Rattle.lsp_rpc.specs.declared.method.Method.{Method}
-use Rattle.lsp_rpc.specs.declared.method.Method.TheVariants.{Initialize, Shutdown, Exit, DidOpen, DidChange, DidSave, DidClose, DocumentDiagnostic, WorkspaceDiagnostic}
+use Rattle.lsp_rpc.specs.declared.method.Method.TheVariants.{Initialize, Shutdown, Exit, DidOpen, DidChange, DidSave, DidClose, DocumentDiagnostic, WorkspaceDiagnostic, WorkspaceSymbol, Definition, References}
 use Rattle.workspace_uri.specs.Uri.{path_of}
 use Rattle.lsp_config.specs.Configuration.{Configuration, files_of}
 use Rattle.lsp_workspace.specs.Reports.{document_diagnostics, workspace_reports, ReportsAreOfDocuments}
-use Rattle.lsp_workspace.specs.Files.{Files, opened_files, changed_files, saved_files, closed_files, text_at, AreInPathOrder, HasTextsOfWorkspace}
+use Rattle.lsp_workspace.specs.Files.{Files, workspace, opened_files, changed_files, saved_files, closed_files, text_at, AreInPathOrder, HasTextsOfWorkspace}
+use Rattle.lsp_session.specs.Answers.{DocumentPlaceData, definition_at, references_at, symbols_for}
 use Rattle.lsp_session.specs.declared.phase.Phase.{Phase}
 use Rattle.lsp_session.specs.declared.phase.Phase.TheVariants.{Uninitialized, Running, Shut, Exited}
 
@@ -82,6 +88,12 @@ abbrev pub diagnosed : State → IdData → Option (List ℕ × List ℕ) → Tu
 diagnosed s id None = refuse s (Some id) InvalidParams
 diagnosed s id (Some document) = answer s id (report_value (document_diagnostics s.files document.0 document.1))
 
+-- the path of a document of the workspace, and the offset of a position in it
+abbrev pub place_in : State → PlaceData → Option DocumentPlaceData
+place_in s p =
+    option_map (λ document. record { path = document.0; offset = offset_of Utf16 p.position document.1 })
+    (option_and_then (λ path. document_at path s.files) (path_of s.roots p.uri))
+
 -- the one root
 abbrev pub root_of : List (List ℕ) → List ℕ
 root_of [] = []
@@ -91,11 +103,33 @@ root_of (root ∷ more) = root
 abbrev pub all_diagnosed : State → IdData → Turn
 all_diagnosed s id = answer s id (workspace_value (workspace_reports (root_of s.roots) s.files))
 
+-- the declarations whose full name contains the query
+abbrev pub searched : State → IdData → Option (List ℕ) → Turn
+searched s id None = refuse s (Some id) InvalidParams
+searched s id (Some query) = answer s id (symbols_value (symbols_for (root_of s.roots) s.files (workspace s.files) query))
+
+-- the declaration that the name at a place stands for
+abbrev pub defined : State → IdData → Option DocumentPlaceData → Turn
+defined s id None = refuse s (Some id) InvalidParams
+defined s id (Some at) = answer s id (locations_or_null (definition_at (root_of s.roots) s.files (workspace s.files) at))
+
+-- where it is used
+abbrev pub referred : State → IdData → Bool → Option DocumentPlaceData → Turn
+referred s id include None = refuse s (Some id) InvalidParams
+referred s id include (Some at) = answer s id (locations_or_null (references_at (root_of s.roots) s.files (workspace s.files) at include))
+
+abbrev pub referred_by : State → IdData → Option ReferenceData → Turn
+referred_by s id None = refuse s (Some id) InvalidParams
+referred_by s id (Some r) = referred s id r.include_declaration (place_in s r.place)
+
 abbrev pub running_request : State → IdData → Option Method → Data → Turn
 running_request s id (Some Initialize) params = refuse s (Some id) InvalidRequest
 running_request s id (Some Shutdown) params = answer (enter Shut s) id null
 running_request s id (Some DocumentDiagnostic) params = diagnosed s id (document_in s params)
 running_request s id (Some WorkspaceDiagnostic) params = all_diagnosed s id
+running_request s id (Some WorkspaceSymbol) params = searched s id (query_of params)
+running_request s id (Some Definition) params = defined s id (option_and_then (place_in s) (place_of params))
+running_request s id (Some References) params = referred_by s id (reference_of params)
 running_request s id _ params = refuse s (Some id) MethodNotFound
 
 abbrev pub first_request : State → IdData → Option Method → Turn

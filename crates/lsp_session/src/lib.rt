@@ -6,6 +6,7 @@
 //! configuration, without an editor.
 #![tactic(auto)]
 
+mod answers;
 mod ended;
 mod laws;
 mod phase;

@@ -1,23 +1,28 @@
 // The session: one message after the other.
-ghost use Rattle.std.specs.Prelude.{◌≡◌, Some, IfOk, OnOk, option_map, map, string_bytes};
+ghost use Rattle.std.specs.Prelude.{◌≡◌, Some, IfOk, OnOk, option_map, option_and_then, map, string_bytes};
 ghost use Rattle.std.specs.Option.{option_to_list};
 ghost use Rattle.serde_json.specs.View.{view};
 ghost use Rattle.serde_json.specs.Written.{compact_text};
 ghost use Rattle.lsp_rpc.specs.Message.{id_view, message_view};
 ghost use Rattle.lsp_rpc.specs.Params.{opened_of, changed_of};
 ghost use Rattle.lsp_rpc.specs.Diagnostic.{diagnostic_view};
+ghost use Rattle.lsp_rpc.specs.RequestParams.{query_of, place_of, reference_of};
+ghost use Rattle.lsp_rpc.specs.RequestParams as wire;
 ghost use Rattle.lsp_workspace.specs.Files.{text_at, workspace};
 ghost use Rattle.lsp_workspace.specs.Reports.{document_diagnostics};
 ghost use Rattle.lsp_rpc.specs.Reply as reply;
+ghost use Rattle.lsp_session.specs.AnswerViews.{place_view};
 ghost use Rattle.lsp_session.specs.Session as spec;
 
+use crate::answers::{DocumentPlace, Known};
 use crate::phase::Phase;
 use crate::reply::Reply;
-use doc_text::Text;
+use doc_text::{Encoding, Text};
 use lsp_config::Config;
 use lsp_rpc::{
-    Diagnostic, DidChangeParams, DidOpenParams, ErrorCode, Id, Message, Method, document_uri,
-    error_reply, initialize_reply, null_reply, report_reply, workspace_reply,
+    Diagnostic, DidChangeParams, DidOpenParams, DocumentPosition, ErrorCode, Id, Message, Method,
+    ReferenceParams, document_uri, error_reply, initialize_reply, null_reply, report_reply,
+    symbol_query, workspace_reply,
 };
 use lsp_workspace::{
     self as files, Files, Snapshot, document_diagnostics, snapshot_of, workspace_reports,
@@ -196,6 +201,119 @@ impl Session {
         Ok(Some(reply))
     }
 
+    // ---- names
+
+    // The path of a document of the workspace, and the offset of a position in it.
+    fn place_in(&self, at: DocumentPosition<'_>) -> Result<Option<DocumentPlace>, AllocError>
+        ensures { IfOk result (λ o. option_map place_view o ≡ spec.place_in (state_of self.now) (wire.place_view at.entry)) }
+    {
+        let Some(path) = self.root.path_of(self.alloc, at.uri)? else {
+            return Ok(None);
+        };
+        match self.open_or_disk_text(path.as_str()) {
+            Some(text) => {
+                let offset = text.offset_of(at.position, Encoding::Utf16);
+                Ok(Some(DocumentPlace { path, offset }))
+            }
+            None => Ok(None),
+        }
+    }
+
+    fn search_for(&mut self, id: &Id, query: &str) -> Result<Option<Reply>, AllocError>
+        ensures state { OnOk result (state_of self.new ≡ state_of self.old) }
+        ensures reply { IfOk result (λ r. option_to_list r ≡ map compact_text
+            (spec.searched (state_of self.old) (id_view id.now) (Some query.now)).replies) }
+    {
+        let snapshot = snapshot_of(self.alloc, self.snapshot.take(), &self.files)?;
+        let known = Known {
+            alloc: self.alloc,
+            root: &self.root,
+            files: &self.files,
+            snapshot: &snapshot,
+        };
+        let body = known.symbols_reply(id, query)?;
+        self.snapshot = Some(snapshot);
+        Ok(Some(Reply::new(body)))
+    }
+
+    fn search(&mut self, id: &Id, params: &Value) -> Result<Option<Reply>, AllocError>
+        ensures state { OnOk result (state_of self.new ≡ state_of self.old) }
+        ensures reply { IfOk result (λ r. option_to_list r ≡ map compact_text
+            (spec.searched (state_of self.old) (id_view id.now) (query_of (view params.now))).replies) }
+    {
+        match symbol_query(params) {
+            Some(query) => self.search_for(id, query),
+            None => self.refuse(Some(id), ErrorCode::InvalidParams),
+        }
+    }
+
+    fn define_at(&mut self, id: &Id, at: &DocumentPlace) -> Result<Option<Reply>, AllocError>
+        ensures state { OnOk result (state_of self.new ≡ state_of self.old) }
+        ensures reply { IfOk result (λ r. option_to_list r ≡ map compact_text
+            (spec.defined (state_of self.old) (id_view id.now) (Some (place_view at.now))).replies) }
+    {
+        let snapshot = snapshot_of(self.alloc, self.snapshot.take(), &self.files)?;
+        let known = Known {
+            alloc: self.alloc,
+            root: &self.root,
+            files: &self.files,
+            snapshot: &snapshot,
+        };
+        let body = known.definition_reply(id, at)?;
+        self.snapshot = Some(snapshot);
+        Ok(Some(Reply::new(body)))
+    }
+
+    fn define(&mut self, id: &Id, params: &Value) -> Result<Option<Reply>, AllocError>
+        ensures state { OnOk result (state_of self.new ≡ state_of self.old) }
+        ensures reply { IfOk result (λ r. option_to_list r ≡ map compact_text
+            (spec.defined (state_of self.old) (id_view id.now) (option_and_then (spec.place_in (state_of self.old)) (place_of (view params.now)))).replies) }
+    {
+        let Some(position) = DocumentPosition::from_value(params) else {
+            return self.refuse(Some(id), ErrorCode::InvalidParams);
+        };
+        match self.place_in(position)? {
+            Some(at) => self.define_at(id, &at),
+            None => self.refuse(Some(id), ErrorCode::InvalidParams),
+        }
+    }
+
+    fn refer_at(
+        &mut self,
+        id: &Id,
+        at: &DocumentPlace,
+        include_declaration: bool,
+    ) -> Result<Option<Reply>, AllocError>
+        ensures state { OnOk result (state_of self.new ≡ state_of self.old) }
+        ensures reply { IfOk result (λ r. option_to_list r ≡ map compact_text
+            (spec.referred (state_of self.old) (id_view id.now) include_declaration (Some (place_view at.now))).replies) }
+    {
+        let snapshot = snapshot_of(self.alloc, self.snapshot.take(), &self.files)?;
+        let known = Known {
+            alloc: self.alloc,
+            root: &self.root,
+            files: &self.files,
+            snapshot: &snapshot,
+        };
+        let body = known.references_reply(id, at, include_declaration)?;
+        self.snapshot = Some(snapshot);
+        Ok(Some(Reply::new(body)))
+    }
+
+    fn refer(&mut self, id: &Id, params: &Value) -> Result<Option<Reply>, AllocError>
+        ensures state { OnOk result (state_of self.new ≡ state_of self.old) }
+        ensures reply { IfOk result (λ r. option_to_list r ≡ map compact_text
+            (spec.referred_by (state_of self.old) (id_view id.now) (reference_of (view params.now))).replies) }
+    {
+        let Some(asked) = ReferenceParams::from_value(params) else {
+            return self.refuse(Some(id), ErrorCode::InvalidParams);
+        };
+        match self.place_in(asked.place)? {
+            Some(at) => self.refer_at(id, &at, asked.include_declaration),
+            None => self.refuse(Some(id), ErrorCode::InvalidParams),
+        }
+    }
+
     // ---- messages
 
     fn request(
@@ -224,6 +342,9 @@ impl Session {
             }
             (Phase::Running, Some(Method::DocumentDiagnostic)) => self.diagnose(id, params),
             (Phase::Running, Some(Method::WorkspaceDiagnostic)) => self.diagnose_all(id),
+            (Phase::Running, Some(Method::WorkspaceSymbol)) => self.search(id, params),
+            (Phase::Running, Some(Method::Definition)) => self.define(id, params),
+            (Phase::Running, Some(Method::References)) => self.refer(id, params),
             (Phase::Running, Some(Method::Initialize)) | (Phase::Shut, _) => {
                 self.refuse(Some(id), ErrorCode::InvalidRequest)
             }

@@ -1,0 +1,105 @@
+-- What is replied about names, by URIs and positions, in a workspace whose files are known.
+use Rattle.std.specs.Prelude.{ℕ, ◌+◌, ◌==◌, List, [], ◌∷◌, Bool, Option, Some, None, length, map, option_map, option_and_then, slice_index_or, position, bytes_eq, if◌then◌else◌}
+use Rattle.std.specs.List.{filter_map}
+use Rattle.std.specs.Option.{option_or}
+use Rattle.doc_text.specs.Positions.{position_of}
+use Rattle.doc_text.specs.declared.encoding.Encoding.TheVariants.{Utf16}
+use Rattle.doc_text.specs.declared.position.Range.{Range}
+use Rattle.file_facts.specs.Text.{text_at}
+use Rattle.file_facts.specs.declared.fact.Decl.{Decl}
+use Rattle.file_facts.specs.declared.fact.DeclKind.{DeclKind}
+use Rattle.file_facts.specs.declared.fact.DeclKind.TheVariants as decl
+use Rattle.lsp_queries.specs.Answers as answers
+use Rattle.lsp_queries.specs.Files.{place, decl_of}
+use Rattle.lsp_queries.specs.declared.place.Place.{Place}
+use Rattle.lsp_rpc.specs.Location.{LocationData}
+use Rattle.lsp_rpc.specs.Symbol.{SymbolData}
+use Rattle.lsp_rpc.specs.declared.symbol.SymbolKind.{SymbolKind}
+use Rattle.lsp_rpc.specs.declared.symbol.SymbolKind.TheVariants as kind
+use Rattle.lsp_workspace.specs.Files.{Files, file_at}
+use Rattle.lsp_workspace.specs.Reports.{uri_of}
+use Rattle.proto_resolve.specs.declared.target.DeclRef.{DeclRef}
+use Rattle.work_index.specs.Workspace.{Workspace, AnalysisData, analysis}
+
+-- a place in a document: its path, and an offset in bytes of its text
+pub record DocumentPlaceData : Type 0 where
+  pub path : List ℕ
+  pub offset : ℕ
+
+-- ---- names and kinds
+
+-- how many bytes stand before the last dot of a full name, if there is one
+abbrev pub last_dot : List ℕ → Option ℕ
+last_dot [] = None
+last_dot (c ∷ rest) = option_or (option_map (λ n. n + 1) (last_dot rest)) (if c == 46 then Some 0 else None)
+
+-- the last component: what stands behind the last dot
+abbrev pub name_behind : List ℕ → Option ℕ → List ℕ
+name_behind full_name None = full_name
+name_behind full_name (Some dot) = text_at full_name (record { start = dot + 1; end = length full_name })
+
+-- the scope: what stands before it
+abbrev pub scope_before : List ℕ → Option ℕ → List ℕ
+scope_before full_name None = []
+scope_before full_name (Some dot) = text_at full_name (record { start = 0; end = dot })
+
+-- what a declaration is in the protocol's words
+abbrev pub kind_of : DeclKind → SymbolKind
+kind_of decl.Message = kind.Struct
+kind_of decl.EnumDef = kind.Enum
+kind_of decl.Service = kind.Interface
+kind_of decl.Rpc = kind.Method
+kind_of decl.Oneof = kind.Property
+kind_of decl.Field = kind.Field
+kind_of decl.Extension = kind.Field
+kind_of decl.Value = kind.EnumMember
+
+-- declarations with the places of their names
+abbrev pub declarations : AnalysisData → List DeclRef → List (Place × Decl)
+declarations a rs = filter_map (λ r. option_map (λ d. (place r.file d.name_span, d)) (decl_of a r)) rs
+
+-- ---- places
+
+-- a file of the workspace, with its text
+abbrev pub file_of : Workspace → ℕ → List ℕ × List ℕ
+file_of w file = slice_index_or w file ([], [])
+
+-- the number of the file with a path
+abbrev pub number_of : Workspace → List ℕ → Option ℕ
+number_of w path = position (λ p. bytes_eq p path) (map (λ f. f.0) w)
+
+abbrev pub range_of : List ℕ → Place → Range
+range_of text p = record { start = position_of Utf16 text p.start; «end» = position_of Utf16 text p.end }
+
+-- a declaration at its place in a text, in the document with a URI
+abbrev pub symbol_with : List ℕ → List ℕ → Place × Decl → SymbolData
+symbol_with uri text d = record {
+  name = name_behind d.1.full_name (last_dot d.1.full_name);
+  container = scope_before d.1.full_name (last_dot d.1.full_name);
+  kind = kind_of d.1.kind;
+  location = record { range = range_of text d.0; uri = uri };
+}
+
+module _ (root : List ℕ) (files : Files) (w : Workspace) where
+  abbrev pub uri_at : ℕ → List ℕ
+  uri_at file = uri_of root (file_of w file).0 (file_at (file_of w file).0 files)
+
+  -- a place, in lines and UTF-16 units of its file's text
+  abbrev pub location_of : Place → LocationData
+  location_of p = record { range = range_of (file_of w p.file).1 p; uri = uri_at p.file }
+
+  -- the declaration that the name at a place stands for: `None` if there is none
+  abbrev pub definition_at : DocumentPlaceData → Option (List LocationData)
+  definition_at at = option_map (λ p. location_of p ∷ []) (option_and_then (λ file. answers.definition (analysis w) file at.offset) (number_of w at.path))
+
+  -- where it is used
+  abbrev pub references_at : DocumentPlaceData → Bool → Option (List LocationData)
+  references_at at include = option_map (map location_of) (option_and_then (λ file. answers.references (analysis w) file at.offset include) (number_of w at.path))
+
+  -- a declaration at its place
+  abbrev pub symbol_of : Place × Decl → SymbolData
+  symbol_of d = symbol_with (uri_at d.0.file) (file_of w d.0.file).1 d
+
+  -- the declarations whose full name contains the query
+  abbrev pub symbols_for : List ℕ → List SymbolData
+  symbols_for query = map symbol_of (declarations (analysis w) (answers.symbols (analysis w) query))

@@ -1,0 +1,486 @@
+// What is replied about names, by functions of the files, the root and the analysis.
+ghost use Rattle.std.specs.Prelude.{◌≡◌, ◌≤◌, ◌<◌, All, length, map, take, option_map, position, bytes_eq, Some, string_bytes, ◌==◌, ◌++◌, ◌+◌, if◌then◌else◌, ℕ, List, IfOk, IfSome, OnOk};
+ghost use Rattle.doc_text.specs.Positions.{position_of};
+ghost use Rattle.lsp_queries.specs.Answers as answers;
+ghost use Rattle.lsp_queries.specs.Files.{place, decl_of};
+ghost use Rattle.serde_json.specs.Written.{compact_text};
+ghost use Rattle.lsp_rpc.specs.Location.{document_locations, all_locations, locations_or_null};
+ghost use Rattle.lsp_rpc.specs.Message.{id_view};
+ghost use Rattle.lsp_rpc.specs.Reply.{result_reply};
+ghost use Rattle.lsp_rpc.specs.Symbol.{symbol_view, document_symbols, all_symbols, symbols_value};
+ghost use Rattle.lsp_workspace.specs.View.{file_view, files_view};
+ghost use Rattle.lsp_workspace.specs.Reports as report;
+ghost use Rattle.work_index.specs.Pieces.{workspace_of};
+ghost use Rattle.work_index.specs.Workspace.{analysis};
+ghost use Rattle.workspace_uri.specs.View.{root_text};
+ghost use Rattle.lsp_session.specs.Answers as spec;
+ghost use Rattle.lsp_session.specs.AnswerViews.{found_view, place_view};
+
+use doc_text::{Encoding, Position, Range, positions_of};
+use file_facts::{Decl, DeclKind, text_at};
+use lsp_queries::{Place, decl_of, definition, references, symbols};
+use lsp_rpc::{
+    DocumentRanges, DocumentSymbols, Id, Symbol, SymbolKind, locations_reply, null_reply,
+    symbols_reply,
+};
+use lsp_workspace::{self as files, FileEntry, Files, Snapshot};
+use proto_resolve::DeclRef;
+use std::alloc::{AllocError, Global};
+use syntax_tree::Span;
+use work_index::Analysis;
+use workspace_uri::Root;
+
+/// A place in a document: its path, and an offset in bytes of its text.
+#[derive(Debug, Drop)]
+pub struct DocumentPlace {
+    pub path: String,
+    pub offset: usize,
+}
+
+// The files of a session with their analysis, of which requests ask.
+#[derive(Clone, Copy)]
+pub struct Known<'s> {
+    pub alloc: Global,
+    pub root: &'s Root,
+    pub files: &'s Files,
+    pub snapshot: &'s Snapshot,
+}
+
+// ---- names and kinds
+
+// How many bytes stand before the last dot of a full name, if there is one.
+fn last_dot(full_name: &[u8]) -> Option<usize>
+    ensures dot { result ≡ spec.last_dot full_name.now }
+    ensures within { IfSome result (λ n. n < length full_name.now) }
+{
+    let mut found = None;
+    for (number, byte) in full_name.iter().enumerate() {
+        found = dot_or(*byte, number, found);
+    }
+    found
+}
+
+// The number of a byte that is a dot, else what was found before.
+fn dot_or(byte: u8, number: usize, found: Option<usize>) -> Option<usize>
+    ensures { result ≡ (if byte == 46 then Some number else found) }
+{
+    if byte == b'.' { Some(number) } else { found }
+}
+
+// The last component of a full name with a dot there.
+fn name_behind(full_name: &str, dot: Option<usize>) -> &str
+    requires { IfSome dot (λ n. n < length full_name.now) }
+    ensures { result.now ≡ spec.name_behind full_name.now dot }
+{
+    match dot {
+        None => full_name,
+        Some(dot) => {
+            let span = Span {
+                start: dot + 1,
+                end: full_name.len(),
+            };
+            text_at(full_name, span)
+        }
+    }
+}
+
+// Its scope.
+fn scope_before(full_name: &str, dot: Option<usize>) -> &str
+    ensures { result.now ≡ spec.scope_before full_name.now dot }
+{
+    match dot {
+        None => "",
+        Some(dot) => text_at(full_name, Span { start: 0, end: dot }),
+    }
+}
+
+fn kind_of(kind: DeclKind) -> SymbolKind
+    ensures { result ≡ spec.kind_of kind }
+{
+    match kind {
+        DeclKind::Message => SymbolKind::Struct,
+        DeclKind::EnumDef => SymbolKind::Enum,
+        DeclKind::Service => SymbolKind::Interface,
+        DeclKind::Rpc => SymbolKind::Method,
+        DeclKind::Oneof => SymbolKind::Property,
+        DeclKind::Field => SymbolKind::Field,
+        DeclKind::Extension => SymbolKind::Field,
+        DeclKind::Value => SymbolKind::EnumMember,
+    }
+}
+
+// A declaration with the place of its name.
+#[derive(Clone, Copy)]
+pub struct FoundDecl<'a> {
+    pub place: Place,
+    pub decl: &'a Decl,
+}
+
+fn found_at(analysis: &Analysis, decl: DeclRef) -> Option<FoundDecl<'_>>
+    ensures { option_map found_view result ≡ option_map (λ d. (place decl.file d.name_span, d)) (decl_of analysis.now decl) }
+{
+    let found = decl_of(analysis, decl)?;
+    let place = Place {
+        file: decl.file,
+        start: found.name_span.start,
+        end: found.name_span.end,
+    };
+    Some(FoundDecl { place, decl: found })
+}
+
+// Declarations with the places of their names.
+fn declarations<'a>(
+    alloc: Global,
+    analysis: &'a Analysis,
+    decls: &[DeclRef],
+) -> Result<Vec<FoundDecl<'a>>, AllocError>
+    ensures { IfOk result (λ found. map found_view found.items ≡ spec.declarations analysis.now decls.now) }
+{
+    let mut found = Vec::with_capacity(alloc, decls.len())?;
+    for decl in decls {
+        if let Some(here) = found_at(analysis, *decl) {
+            found.push(here)?;
+        }
+    }
+    Ok(found)
+}
+
+// ---- places
+
+// The ranges between these positions.
+fn between(
+    alloc: Global,
+    text: &str,
+    places: &[Place],
+    starts: &[Position],
+    ends: &[Position],
+) -> Result<Vec<Range>, AllocError>
+    requires starts { starts.now ≡ map (position_of Encoding.Utf16 text.now) (map (λ p. p.start) places.now) }
+    requires ends { ends.now ≡ map (position_of Encoding.Utf16 text.now) (map (λ p. p.end) places.now) }
+    ensures { IfOk result (λ ranges. ranges.items ≡ map (spec.range_of text.now) places.now) }
+{
+    let mut ranges = Vec::with_capacity(alloc, places.len())?;
+    for i in 0..places.len() {
+        ranges.push(Range {
+            start: starts[i],
+            end: ends[i],
+        })?;
+    }
+    Ok(ranges)
+}
+
+// Some places of a text, in lines and UTF-16 units.
+fn ranges_of(alloc: Global, text: &str, places: &[Place]) -> Result<Vec<Range>, AllocError>
+    ensures { IfOk result (λ ranges. ranges.items ≡ map (spec.range_of text.now) places.now) }
+{
+    let starts: Vec<usize> = places.iter().map(|place| place.start).collect(alloc)?;
+    let ends: Vec<usize> = places.iter().map(|place| place.end).collect(alloc)?;
+    let first = positions_of(alloc, text, starts.as_slice(), Encoding::Utf16)?;
+    let last = positions_of(alloc, text, ends.as_slice(), Encoding::Utf16)?;
+    let ranges = between(alloc, text, places, first.as_slice(), last.as_slice())?;
+    Ok(ranges)
+}
+
+// How many of the first places are in a file.
+fn count_in(places: &[Place], file: usize) -> usize
+    ensures within { result ≤ length places.now }
+    ensures all { All (λ p. p.file ≡ file) (take result places.now) }
+{
+    for (number, place) in places.iter().enumerate() {
+        if place.file != file {
+            return number;
+        }
+    }
+    places.len()
+}
+
+// The same of declarations.
+fn found_in(found: &[FoundDecl<'_>], file: usize) -> usize
+    ensures within { result ≤ length found.now }
+    ensures all { All (λ f. f.place.file ≡ file) (take result found.now) }
+{
+    for (number, here) in found.iter().enumerate() {
+        if here.place.file != file {
+            return number;
+        }
+    }
+    found.len()
+}
+
+// The name, the scope and the kind of a declaration, and a range.
+fn symbol_at(decl: &Decl, range: Range) -> Symbol<'_>
+    ensures name { result.name.now ≡ spec.name_behind decl.now.full_name (spec.last_dot decl.now.full_name) }
+    ensures container { result.container.now ≡ spec.scope_before decl.now.full_name (spec.last_dot decl.now.full_name) }
+    ensures kind { result.kind ≡ spec.kind_of decl.now.kind }
+    ensures range { result.range ≡ range }
+{
+    let full_name = decl.full_name.as_str();
+    let dot = last_dot(full_name.as_bytes());
+    Symbol {
+        name: name_behind(full_name, dot),
+        container: scope_before(full_name, dot),
+        kind: kind_of(decl.kind),
+        range,
+    }
+}
+
+fn places_of(alloc: Global, found: &[FoundDecl<'_>]) -> Result<Vec<Place>, AllocError>
+    ensures { IfOk result (λ places. places.items ≡ map (λ f. f.place) found.now) }
+{
+    found.iter().map(|here| here.place).collect(alloc)
+}
+
+// Declarations of a text with these ranges.
+fn symbols_between<'a>(
+    alloc: Global,
+    text: &str,
+    found: &[FoundDecl<'a>],
+    ranges: &[Range],
+) -> Result<Vec<Symbol<'a>>, AllocError>
+    requires { ranges.now ≡ map (spec.range_of text.now) (map (λ f. f.place) found.now) }
+    ensures { IfOk result (λ symbols. (uri : List ℕ) → map (symbol_view uri) symbols.items ≡ map (spec.symbol_with uri text.now) (map found_view found.now)) }
+{
+    let mut symbols = Vec::with_capacity(alloc, found.len())?;
+    for i in 0..found.len() {
+        symbols.push(symbol_at(found[i].decl, ranges[i]))?;
+    }
+    Ok(symbols)
+}
+
+// The URI of the last open of a file, or else that of the path below the root.
+fn uri_of(
+    alloc: Global,
+    root: &Root,
+    path: &str,
+    file: Option<&FileEntry>,
+) -> Result<String, AllocError>
+    ensures { IfOk result (λ uri. string_bytes uri ≡ report.uri_of (root_text root.now) path.now (option_map (λ f. file_view f.now) file.entry)) }
+{
+    if let Some(file) = file {
+        if let Some(uri) = &file.uri {
+            return String::from_str(alloc, uri.as_str());
+        }
+    }
+    root.uri_of(alloc, path)
+}
+
+// The reply that gives places, or `null` where there is no answer.
+fn places_reply(
+    alloc: Global,
+    id: &Id,
+    found: Option<Vec<DocumentRanges>>,
+) -> Result<Vec<u8>, AllocError>
+    ensures { IfOk result (λ body. body.items ≡ compact_text (result_reply (id_view id.now) (locations_or_null (option_map (λ v. all_locations v.items) found)))) }
+{
+    match found {
+        Some(places) => {
+            let body = locations_reply(alloc, id, places.as_slice())?;
+            Ok(body)
+        }
+        None => {
+            let body = null_reply(alloc, id)?;
+            Ok(body)
+        }
+    }
+}
+
+impl<'s> Known<'s> {
+    // The path of a file.
+    fn path_of(&self, file: usize) -> &'s str
+        ensures { result.now ≡ (spec.file_of self.now.snapshot.now file).0 }
+    {
+        match self.snapshot.pieces().get(file) {
+            Some(piece) => piece.path(),
+            None => "",
+        }
+    }
+
+    // Its text.
+    fn text_of(&self, file: usize) -> &'s str
+        ensures { result.now ≡ (spec.file_of self.now.snapshot.now file).1 }
+    {
+        match self.snapshot.pieces().get(file) {
+            Some(piece) => piece.text(),
+            None => "",
+        }
+    }
+
+    // The number of the file with a path.
+    fn number_of(&self, path: &str) -> Option<usize>
+        ensures { result ≡ spec.number_of self.now.snapshot.now path.now }
+    {
+        self.snapshot
+            .analysis()
+            .files()
+            .iter()
+            .position(|file| file.as_str() == path)
+    }
+
+    fn uri_at(&self, file: usize) -> Result<String, AllocError>
+        ensures { IfOk result (λ uri. string_bytes uri ≡ spec.uri_at (root_text self.now.root.now) (files_view self.now.files.now.entries) self.now.snapshot.now file) }
+    {
+        let path = self.path_of(file);
+        uri_of(self.alloc, self.root, path, files::get(self.files, path))
+    }
+
+    // The ranges of places, which are all in one file.
+    fn ranges_in(&self, file: usize, places: &[Place]) -> Result<DocumentRanges, AllocError>
+        requires { All (λ p. p.file ≡ file) places.now }
+        ensures { IfOk result (λ d. document_locations d ≡ map (spec.location_of (root_text self.now.root.now) (files_view self.now.files.now.entries) self.now.snapshot.now) places.now) }
+    {
+        let ranges = ranges_of(self.alloc, self.text_of(file), places)?;
+        let uri = self.uri_at(file)?;
+        Ok(DocumentRanges { uri, ranges })
+    }
+
+    // The declarations at places, which are all in one file.
+    fn symbols_in<'a>(
+        &self,
+        file: usize,
+        found: &[FoundDecl<'a>],
+    ) -> Result<DocumentSymbols<'a>, AllocError>
+        requires { All (λ f. f.place.file ≡ file) found.now }
+        ensures { IfOk result (λ d. document_symbols d ≡ map (spec.symbol_of (root_text self.now.root.now) (files_view self.now.files.now.entries) self.now.snapshot.now) (map found_view found.now)) }
+    {
+        let text = self.text_of(file);
+        let places = places_of(self.alloc, found)?;
+        let ranges = ranges_of(self.alloc, text, places.as_slice())?;
+        let symbols = symbols_between(self.alloc, text, found, ranges.as_slice())?;
+        let uri = self.uri_at(file)?;
+        Ok(DocumentSymbols { uri, symbols })
+    }
+
+    // Adds the ranges of the first places that are in one file, and says how many they are.
+    fn push_ranges(
+        &self,
+        places: &[Place],
+        documents: &mut Vec<DocumentRanges>,
+    ) -> Result<usize, AllocError>
+        requires { 0 < length places.now }
+        ensures some { IfOk result (λ n. 0 < n) }
+        ensures within { IfOk result (λ n. n ≤ length places.now) }
+        ensures added { IfOk result (λ n. all_locations documents.new.items ≡ all_locations documents.old.items ++ map (spec.location_of (root_text self.now.root.now) (files_view self.now.files.now.entries) self.now.snapshot.now) (take n places.now)) }
+    {
+        let file = places[0].file;
+        let count = 1 + count_in(&places[1..], file);
+        documents.push(self.ranges_in(file, &places[..count])?)?;
+        Ok(count)
+    }
+
+    // The ranges of places, file by file.
+    fn all_ranges(&self, places: &[Place]) -> Result<Vec<DocumentRanges>, AllocError>
+        ensures { IfOk result (λ documents. all_locations documents.items ≡ map (spec.location_of (root_text self.now.root.now) (files_view self.now.files.now.entries) self.now.snapshot.now) places.now) }
+    {
+        let mut documents = Vec::new(self.alloc);
+        let mut done = 0;
+        'places: while done < places.len() {
+            done += self.push_ranges(&places[done..], &mut documents)?;
+        }
+        Ok(documents)
+    }
+
+    // Adds the first declarations that are in one file, and says how many they are.
+    fn push_symbols<'a>(
+        &self,
+        found: &[FoundDecl<'a>],
+        documents: &mut Vec<DocumentSymbols<'a>>,
+    ) -> Result<usize, AllocError>
+        requires { 0 < length found.now }
+        ensures some { IfOk result (λ n. 0 < n) }
+        ensures within { IfOk result (λ n. n ≤ length found.now) }
+        ensures added { IfOk result (λ n. all_symbols documents.new.items ≡ all_symbols documents.old.items ++ map (spec.symbol_of (root_text self.now.root.now) (files_view self.now.files.now.entries) self.now.snapshot.now) (map found_view (take n found.now))) }
+    {
+        let file = found[0].place.file;
+        let count = 1 + found_in(&found[1..], file);
+        documents.push(self.symbols_in(file, &found[..count])?)?;
+        Ok(count)
+    }
+
+    // The declarations, file by file.
+    fn all_symbols<'a>(
+        &self,
+        found: &[FoundDecl<'a>],
+    ) -> Result<Vec<DocumentSymbols<'a>>, AllocError>
+        ensures { IfOk result (λ documents. all_symbols documents.items ≡ map (spec.symbol_of (root_text self.now.root.now) (files_view self.now.files.now.entries) self.now.snapshot.now) (map found_view found.now)) }
+    {
+        let mut documents = Vec::new(self.alloc);
+        let mut done = 0;
+        'found: while done < found.len() {
+            done += self.push_symbols(&found[done..], &mut documents)?;
+        }
+        Ok(documents)
+    }
+
+    // Where the declaration is that the name at a place stands for.
+    fn definition_at(&self, at: &DocumentPlace) -> Result<Option<Vec<DocumentRanges>>, AllocError>
+        ensures { IfOk result (λ found. option_map (λ v. all_locations v.items) found ≡ spec.definition_at (root_text self.now.root.now) (files_view self.now.files.now.entries) self.now.snapshot.now (place_view at.now)) }
+    {
+        let Some(file) = self.number_of(at.path.as_str()) else {
+            return Ok(None);
+        };
+        match definition(self.snapshot.analysis(), file, at.offset) {
+            Some(place) => Ok(Some(self.all_ranges(&[place])?)),
+            None => Ok(None),
+        }
+    }
+
+    // Where it is used.
+    fn references_at(
+        &self,
+        at: &DocumentPlace,
+        include_declaration: bool,
+    ) -> Result<Option<Vec<DocumentRanges>>, AllocError>
+        ensures { IfOk result (λ found. option_map (λ v. all_locations v.items) found ≡ spec.references_at (root_text self.now.root.now) (files_view self.now.files.now.entries) self.now.snapshot.now (place_view at.now) include_declaration) }
+    {
+        let Some(file) = self.number_of(at.path.as_str()) else {
+            return Ok(None);
+        };
+        let analysis = self.snapshot.analysis();
+        match references(self.alloc, analysis, file, at.offset, include_declaration)? {
+            Some(places) => Ok(Some(self.all_ranges(places.as_slice())?)),
+            None => Ok(None),
+        }
+    }
+
+    // The declarations whose full name contains the query.
+    fn symbols_for(&self, query: &str) -> Result<Vec<DocumentSymbols<'s>>, AllocError>
+        ensures { IfOk result (λ found. all_symbols found.items ≡ spec.symbols_for (root_text self.now.root.now) (files_view self.now.files.now.entries) self.now.snapshot.now query.now) }
+    {
+        let analysis = self.snapshot.analysis();
+        let decls = symbols(self.alloc, analysis, query)?;
+        let found = declarations(self.alloc, analysis, decls.as_slice())?;
+        self.all_symbols(found.as_slice())
+    }
+
+    /// The reply to `workspace/symbol`.
+    pub fn symbols_reply(&self, id: &Id, query: &str) -> Result<Vec<u8>, AllocError>
+        ensures { IfOk result (λ body. body.items ≡ compact_text (result_reply (id_view id.now) (symbols_value (spec.symbols_for (root_text self.now.root.now) (files_view self.now.files.now.entries) self.now.snapshot.now query.now)))) }
+    {
+        let found = self.symbols_for(query)?;
+        let body = symbols_reply(self.alloc, id, found.as_slice())?;
+        Ok(body)
+    }
+
+    /// The reply to `textDocument/definition`.
+    pub fn definition_reply(&self, id: &Id, at: &DocumentPlace) -> Result<Vec<u8>, AllocError>
+        ensures { IfOk result (λ body. body.items ≡ compact_text (result_reply (id_view id.now) (locations_or_null (spec.definition_at (root_text self.now.root.now) (files_view self.now.files.now.entries) self.now.snapshot.now (place_view at.now))))) }
+    {
+        let found = self.definition_at(at)?;
+        let body = places_reply(self.alloc, id, found)?;
+        Ok(body)
+    }
+
+    /// The reply to `textDocument/references`.
+    pub fn references_reply(
+        &self,
+        id: &Id,
+        at: &DocumentPlace,
+        include_declaration: bool,
+    ) -> Result<Vec<u8>, AllocError>
+        ensures { IfOk result (λ body. body.items ≡ compact_text (result_reply (id_view id.now) (locations_or_null (spec.references_at (root_text self.now.root.now) (files_view self.now.files.now.entries) self.now.snapshot.now (place_view at.now) include_declaration)))) }
+    {
+        let found = self.references_at(at, include_declaration)?;
+        let body = places_reply(self.alloc, id, found)?;
+        Ok(body)
+    }
+}
