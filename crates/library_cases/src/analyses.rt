@@ -135,8 +135,8 @@ fn write_asked(line: &mut String, found: &Analysis, question: &str) -> Answer<()
     })
 }
 
-// The fields that are no questions.
-fn files_in<'a>(alloc: Global, fields: &[&'a str]) -> Result<Vec<&'a str>, AllocError> {
+/// The fields that are no questions.
+pub fn files_in<'a>(alloc: Global, fields: &[&'a str]) -> Result<Vec<&'a str>, AllocError> {
     let mut files = Vec::new(alloc);
     for field in fields {
         if !field.starts_with("? ") {

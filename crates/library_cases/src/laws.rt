@@ -6,6 +6,7 @@ use facts_laws::{
     problems_in_order,
 };
 use import_graph::{NamedFacts, closure_law, one_view, view_law};
+use lsp_queries::contains_law;
 use proto_resolve::{diagnostic_law, finding_law, scope_law, seen_law, uses_law};
 use std::alloc::Global;
 use syntax_laws::{identifiers_law, names_law, type_names_law};
@@ -43,4 +44,5 @@ fn laws_of_files(files: &[NamedFacts]) {
     names_in_order();
     uses_in_order();
     uses_of_names();
+    contains_law();
 }

@@ -12,6 +12,7 @@ mod laws;
 mod links;
 mod messages;
 mod places;
+mod queries;
 mod replies;
 mod statements;
 mod texts;
@@ -36,6 +37,7 @@ fn answer(alloc: Global, line: &mut String, call: &str, fields: &[&str]) -> Answ
         "board" | "piece" | "refused piece" => boards::answer(alloc, line, call, fields),
         "analysis" => analyses::answer(alloc, line, fields),
         "again" => changes::answer(alloc, line, fields),
+        "queries" => queries::answer(alloc, line, fields),
         "offsets" | "positions" | "edits" => documents::answer(alloc, line, call, fields),
         "path" | "uri" | "root" | "escaped" | "workspace path" => {
             uris::answer(alloc, line, call, fields)

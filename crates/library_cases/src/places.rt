@@ -17,6 +17,15 @@ fn place(text: &str, offset: usize) -> (u32, u32) {
     (line, column)
 }
 
+/// The offset of a line and a column, from 0: the text's length where it has no such line.
+pub fn offset_at(text: &str, line: usize, column: usize) -> usize {
+    let mut before = 0usize;
+    for row in text.split('\n').take(line) {
+        before = before.saturating_add(row.len()).saturating_add(1);
+    }
+    before.saturating_add(column)
+}
+
 /// Writes a place: the line of its start, and the columns of its start and its end.
 pub fn write_place(
     line: &mut String,
