@@ -445,6 +445,196 @@ class Messages(ServeTest):
         self.check_running([OPEN, ask], [REPORT])
 
 
+
+def opened_files(files):
+    """Opens files, each given by its path below a folder `w` of the root and its text."""
+    return [opening(f"file:///w/{path}", text.replace('import "', 'import "w/')) for path, text in files]
+
+
+def asking_at(id_text, method, uri, line, character, more=""):
+    """A request about the name at a position."""
+    return request(id_text, method, '{"textDocument":{"uri":"%s"},"position":{"line":%s,"character":%s}%s}' % (uri, line, character, more))
+
+
+def range_of(start_line, start, end):
+    return '{"end":{"character":%d,"line":%d},"start":{"character":%d,"line":%d}}' % (end, start_line, start, start_line)
+
+
+def places(id_text, *sites):
+    """The reply that gives places: a URI, a line, and where the name begins and ends there."""
+    listed = ",".join('{"range":%s,"uri":"%s"}' % (range_of(*site[1:]), site[0]) for site in sites)
+    return '{"id":%s,"jsonrpc":"2.0","result":[%s]}' % (id_text, listed)
+
+
+def null(id_text):
+    return '{"id":%s,"jsonrpc":"2.0","result":null}' % id_text
+
+
+def symbol(name, container, kind, site):
+    scope = '"containerName":"%s",' % container if container else ""
+    return '{%s"kind":%d,"location":{"range":%s,"uri":"%s"},"name":"%s"}' % (scope, kind, range_of(*site[1:]), site[0], name)
+
+
+def symbols(id_text, *found):
+    return '{"id":%s,"jsonrpc":"2.0","result":[%s]}' % (id_text, ",".join(found))
+
+
+P, Q = "file:///w/p.proto", "file:///w/q.proto"
+OUTER = [
+    ("p.proto", PROTO3 + "package p;\nmessage Outer { message Inner { } }\nmessage Other { Outer.Inner a = 1; }\n"),
+    ("q.proto", PROTO3 + 'import "p.proto";\nmessage Q { .p.Outer.Inner b = 1; p.Outer c = 2; }\n'),
+]
+WITH_DECLARATION = ',"context":{"includeDeclaration":true}'
+
+
+class Names(ServeTest):
+    DEFINITION, REFERENCES = "textDocument/definition", "textDocument/references"
+
+    def test_references_with_the_declaration_and_without(self):
+        uses = [(P, 3, 16, 21), (Q, 2, 15, 20), (Q, 2, 36, 41)]
+        self.check_running(
+            [
+                *opened_files(OUTER),
+                asking_at(2, self.REFERENCES, P, 2, 8, WITH_DECLARATION),
+                asking_at(3, self.REFERENCES, P, 2, 8, ',"context":{"includeDeclaration":false}'),
+                asking_at(4, self.REFERENCES, P, 2, 8, ',"context":{}'),
+                asking_at(5, self.REFERENCES, P, 2, 8),
+                asking_at(6, self.REFERENCES, P, 2, 24),
+                asking_at(7, self.REFERENCES, P, 3, 10),
+            ],
+            [
+                places(2, (P, 2, 8, 13), *uses),
+                *(places(it, *uses) for it in (3, 4, 5)),
+                places(6, (P, 3, 22, 27), (Q, 2, 21, 26)),
+                places(7),
+            ],
+        )
+
+    def test_definitions(self):
+        self.check_running(
+            [
+                *opened_files(OUTER),
+                asking_at(2, self.DEFINITION, P, 3, 24),
+                asking_at(3, self.DEFINITION, Q, 2, 13),
+                asking_at(4, self.DEFINITION, Q, 2, 16),
+                asking_at(5, self.DEFINITION, P, 1, 8),
+                asking_at(6, self.DEFINITION, P, 2, 15),
+            ],
+            [places(2, (P, 2, 24, 29)), null(3), places(4, (P, 2, 8, 13)), null(5), null(6)],
+        )
+
+    def test_symbols(self):
+        outer, inner = (P, 2, 8, 13), (P, 2, 24, 29)
+        self.check_running(
+            [
+                request(2, "workspace/symbol", '{"query":""}'),
+                *opened_files(OUTER),
+                request(3, "workspace/symbol", '{"query":"OUTER"}'),
+                request(4, "workspace/symbol", '{"query":"outer.i","limit":1}'),
+                request(5, "workspace/symbol", '{"query":"\\u0000"}'),
+                request(6, "workspace/symbol", '{"query":"é"}'),
+                request(7, "workspace/symbol", '{"query":"q"}'),
+            ],
+            [
+                symbols(2),
+                symbols(3, symbol("Outer", "p", 23, outer), symbol("Inner", "p.Outer", 23, inner)),
+                symbols(4, symbol("Inner", "p.Outer", 23, inner)),
+                symbols(5),
+                symbols(6),
+                symbols(7, symbol("Q", "", 23, (Q, 2, 8, 9)), symbol("b", "Q", 8, (Q, 2, 27, 28)), symbol("c", "Q", 8, (Q, 2, 42, 43))),
+            ],
+        )
+
+    def test_each_kind_of_symbol(self):
+        text = PROTO3 + "message M { oneof o { M m = 1; } }\nenum E { Z = 0; }\nservice S { rpc Do(M) returns (M); }\nextend M { E x = 3; }\n"
+        self.check_running(
+            [opening(A, text), request(2, "workspace/symbol", '{"query":""}')],
+            [
+                symbols(
+                    2,
+                    symbol("M", "", 23, (A, 1, 8, 9)),
+                    symbol("o", "M", 7, (A, 1, 18, 19)),
+                    symbol("m", "M", 8, (A, 1, 24, 25)),
+                    symbol("E", "", 10, (A, 2, 5, 6)),
+                    symbol("Z", "", 22, (A, 2, 9, 10)),
+                    symbol("S", "", 11, (A, 3, 8, 9)),
+                    symbol("Do", "S", 6, (A, 3, 16, 18)),
+                    symbol("x", "", 8, (A, 4, 13, 14)),
+                )
+            ],
+        )
+
+    def test_bad_params(self):
+        good = '{"textDocument":{"uri":"%s"},"position":{"line":2,"character":8}%s}'
+        each = [
+            ("workspace/symbol", None), ("workspace/symbol", "{}"), ("workspace/symbol", '{"query":null}'), ("workspace/symbol", '{"query":1}'), ("workspace/symbol", "[]"),
+            (self.DEFINITION, None), (self.DEFINITION, "{}"), (self.DEFINITION, '{"textDocument":{"uri":"%s"}}' % P),
+            (self.DEFINITION, '{"position":{"line":2,"character":8}}'), (self.DEFINITION, good % ("not a url", "")), (self.DEFINITION, good % ("file:///w/none.proto", "")),
+            (self.DEFINITION, '{"textDocument":{"uri":"%s"},"position":{"line":-1,"character":8}}' % P),
+            (self.DEFINITION, '{"textDocument":{"uri":"%s"},"position":{"line":2,"character":8.0}}' % P),
+            (self.DEFINITION, '{"textDocument":{"uri":"%s"},"position":{"line":2}}' % P),
+            (self.DEFINITION, '{"textDocument":{"uri":"%s"},"position":[2,8]}' % P),
+            (self.REFERENCES, "{}"), (self.REFERENCES, good % ("file:///w/none.proto", "")), (self.REFERENCES, good % (P, ',"context":null')),
+            (self.REFERENCES, good % (P, ',"context":[]')), (self.REFERENCES, good % (P, ',"context":{"includeDeclaration":null}')),
+            (self.REFERENCES, good % (P, ',"context":{"includeDeclaration":1}')),
+        ]
+        self.check_running(
+            [*opened_files(OUTER), *(request(it + 2, method, params) for it, (method, params) in enumerate(each))],
+            [refusal(-32602, it + 2) for it in range(len(each))],
+        )
+
+    def test_positions_that_are_no_names(self):
+        # The last line has a name at its end; a place behind the end of a line is its end, and one inside a character its start.
+        text = PROTO3 + "/* \U0001F600 */ message M { }\nmessage N { .M"
+        most = 2**64 - 1
+        self.check_running(
+            [
+                opening(A, text),
+                asking_at(2, self.DEFINITION, A, 1, 16), asking_at(3, self.DEFINITION, A, 1, 17), asking_at(4, self.DEFINITION, A, 1, 18), asking_at(5, self.DEFINITION, A, 1, 19),
+                asking_at(6, self.DEFINITION, A, 1, 4), asking_at(7, self.DEFINITION, A, most, most), asking_at(8, self.DEFINITION, A, 2, most), asking_at(9, self.REFERENCES, A, most, 0),
+            ],
+            [null(2), places(3, (A, 1, 17, 18)), places(4, (A, 1, 17, 18)), *(null(it) for it in range(5, 10))],
+        )
+
+    def test_answers_follow_changes_and_closes(self):
+        closing = notification("textDocument/didClose", '{"textDocument":{"uri":"%s"}}' % P)
+        change = notification(
+            "textDocument/didChange",
+            '{"textDocument":{"uri":"%s","version":2},"contentChanges":[{"range":{"start":{"line":2,"character":0},"end":{"line":2,"character":0}},"text":"\\n"}]}' % P,
+        )
+        ask = asking_at(2, self.DEFINITION, Q, 2, 16)
+        self.check_running(
+            [*opened_files(OUTER), ask, change, ask, closing, ask, asking_at(3, self.DEFINITION, P, 2, 8)],
+            [places(2, (P, 2, 8, 13)), places(2, (P, 3, 8, 13)), null(2), refusal(-32602, 3)],
+        )
+
+    def test_documents_outside_the_root(self):
+        text = PROTO3 + "message M { M m = 1; }\n"
+        uri = "untitled:One"
+        self.check_running(
+            [opening(uri, text), asking_at(2, self.REFERENCES, uri, 1, 8, WITH_DECLARATION), request(3, "workspace/symbol", '{"query":"m.M"}')],
+            [places(2, (uri, 1, 8, 9), (uri, 1, 12, 13)), symbols(3, symbol("m", "M", 8, (uri, 1, 14, 15)))],
+        )
+
+    def test_phases(self):
+        asks = [asking_at(2, self.DEFINITION, P, 2, 8), asking_at(3, self.REFERENCES, P, 2, 8), request(4, "workspace/symbol", '{"query":""}')]
+        self.check([*asks], [refusal(-32002, it) for it in (2, 3, 4)])
+        self.check_running([SHUTDOWN, *asks], [SHUT, *(refusal(-32600, it) for it in (2, 3, 4))])
+
+    def test_files_on_disk_count_too(self):
+        with tempfile.TemporaryDirectory() as folder:
+            for path, text in OUTER:
+                with open(os.path.join(folder, path), "w", encoding="utf-8") as it:
+                    it.write(text)
+            root = "file://" + folder + "/"
+            q = root + "q.proto"
+            asked = [INITIALIZE, asking_at(2, self.REFERENCES, root + "p.proto", 2, 24), opening(q, OUTER[1][1]), asking_at(3, self.REFERENCES, q, 2, 16, WITH_DECLARATION)]
+            out, err, ended = run(frames(asked), ("serve", "--root", folder))
+            p = root + "p.proto"
+            replies = [INITIALIZED, places(2, (p, 3, 22, 27), (q, 2, 21, 26)), places(3, (p, 2, 8, 13), (p, 3, 16, 21), (q, 2, 15, 20), (q, 2, 36, 41))]
+            self.assertEqual(([body.decode() for body in split_frames(out)], err, ended), (replies, b"", 1))
+
+
 class Documents(ServeTest):
     def check_text(self, text, *bad_tokens):
         """The diagnostics of a document with this text."""

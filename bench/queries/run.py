@@ -1,0 +1,133 @@
+#!/usr/bin/env python3
+"""Times symbols, definition and references of `protols serve` on trees of 1,000 and 10,000 files (or as many as are named).
+
+The first request makes the analysis and isn't timed. Each other one is asked in one dialogue, and its time is the best of 5. An
+empty request is one that the server doesn't know. The memory is what was resident at most, beside the length of the longest reply.
+
+usage: run.py [FILES..]"""
+import json
+import os
+import pathlib
+import sys
+import tempfile
+import time
+
+HERE = pathlib.Path(__file__).resolve().parent
+sys.path[:0] = [str(HERE.parent), str(HERE.parent.parent / "tests")]
+import lab
+import stream
+import trees
+
+TIMES = 5
+stream.LIMIT = 900
+
+# What may be spent, in seconds.
+RARE, ABOVE_EMPTY = 0.050, 0.001
+
+
+def written(folder, count):
+    """A tree of so many files."""
+    for n in range(count):
+        file = pathlib.Path(folder, trees.path(n))
+        file.parent.mkdir(parents=True, exist_ok=True)
+        file.write_text(trees.ordinary(n))
+
+
+def received(server):
+    """The body of the next frame, read in large pieces."""
+    pipe, header, parts = server.process.stdout.fileno(), b"", []
+    while not header.endswith(stream.SEPARATOR):
+        header += os.read(pipe, 1)
+    left = int(header.split(b":")[1])
+    while left:
+        parts.append(os.read(pipe, left))
+        left -= len(parts[-1])
+    return b"".join(parts)
+
+
+def asked(server, method, params):
+    """The reply to a request, and the seconds that it took."""
+    body = json.dumps({"jsonrpc": "2.0", "id": 2, "method": method, "params": params})
+    start = time.perf_counter()
+    server.send_bytes(stream.frame(body))
+    reply = received(server)
+    return reply, time.perf_counter() - start
+
+
+def best(server, method, params):
+    replies = [asked(server, method, params) for _ in range(TIMES)]
+    return replies[0][0], min(seconds for _, seconds in replies)
+
+
+def peak(server):
+    status = pathlib.Path(f"/proc/{server.process.pid}/status").read_text()
+    return next(int(line.split()[1]) for line in status.splitlines() if line.startswith("VmHWM:"))
+
+
+def resident(server):
+    status = pathlib.Path(f"/proc/{server.process.pid}/status").read_text()
+    return next(int(line.split()[1]) for line in status.splitlines() if line.startswith("VmRSS:"))
+
+
+def place_of(text, word, folder, path):
+    """The params that name the place of a word in a file."""
+    at = text.index(word)
+    line = text.count("\n", 0, at)
+    return {"textDocument": {"uri": f"file://{folder}/{path}"}, "position": {"line": line, "character": at - (text.rfind("\n", 0, at) + 1)}}
+
+
+def count_in(reply):
+    found = json.loads(reply)
+    return len(found["result"] or []) if "result" in found else 0
+
+
+def queries(folder, count):
+    """The requests that are timed: their names, methods and params."""
+    n = count // 2
+    text, path = trees.ordinary(n), trees.path(n)
+    declared = place_of(text, f"Order{n}M0", folder, path)
+    used = place_of(text, "Item.Kind one", folder, path)
+    return [
+        ("empty", "$/nothing", {}),
+        ("definition", "textDocument/definition", used),
+        ("references", "textDocument/references", {**declared, "context": {"includeDeclaration": True}}),
+        ("symbols, one", "workspace/symbol", {"query": f"ORDER{n}M3.ITEM.KIND_ONE"}),
+        ("symbols, none", "workspace/symbol", {"query": "no.such.name"}),
+        ("symbols, long", "workspace/symbol", {"query": "x" * 100}),
+        ("symbols, all", "workspace/symbol", {"query": ""}),
+    ]
+
+
+def measured(count):
+    """The times of one tree, and whether they are within what may be spent."""
+    with tempfile.TemporaryDirectory() as folder:
+        written(folder, count)
+        with stream.Server(("serve", "--root", folder)) as server:
+            server.send_bytes(stream.frame(json.dumps({"jsonrpc": "2.0", "id": 1, "method": "initialize", "params": {}})))
+            received(server)
+            _, first = asked(server, "workspace/symbol", {"query": "no.such.name"})
+            print(f"{count:>7,} files: the analysis {first:.1f} s, {resident(server) / 1024:,.0f} MB resident", flush=True)
+            before, kept, empty = resident(server), True, 0.0
+            for name, method, params in queries(folder, count):
+                reply, seconds = best(server, method, params)
+                empty = seconds if name == "empty" else empty
+                if name == "definition":
+                    kept = kept and seconds - empty <= ABOVE_EMPTY
+                if name in ("symbols, one", "symbols, none") and count <= 10_000:
+                    kept = kept and seconds <= RARE
+                print(f"{name:>16} {seconds * 1000:>9.2f} ms {count_in(reply):>9,} answers {len(reply):>12,} bytes", flush=True)
+            more = (peak(server) - before) * 1024
+            print(f"{'':>16} the longest reply took {more / max(len(reply), 1):.2f} times its size in memory", flush=True)
+            kept = kept and more <= 3 * len(reply)
+    return kept
+
+
+def main():
+    print(lab.machine())
+    kept = all([measured(int(count)) for count in sys.argv[1:] or ("1000", "10000")])
+    print("kept" if kept else "NOT kept")
+    return 0 if kept else 1
+
+
+if __name__ == "__main__":
+    sys.exit(main())
