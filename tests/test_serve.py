@@ -447,8 +447,8 @@ class Messages(ServeTest):
 
 
 def opened_files(files):
-    """Opens files, each given by its path below the root and its text."""
-    return [opening(f"file:///w/{path}", text) for path, text in files]
+    """Opens files, each given by its path below a folder `w` of the root and its text."""
+    return [opening(f"file:///w/{path}", text.replace('import "', 'import "w/')) for path, text in files]
 
 
 def asking_at(id_text, method, uri, line, character, more=""):

@@ -6,6 +6,7 @@ empty request is one that the server doesn't know. The memory is what was reside
 
 usage: run.py [FILES..]"""
 import json
+import os
 import pathlib
 import sys
 import tempfile
@@ -32,12 +33,24 @@ def written(folder, count):
         file.write_text(trees.ordinary(n))
 
 
+def received(server):
+    """The body of the next frame, read in large pieces."""
+    pipe, header, parts = server.process.stdout.fileno(), b"", []
+    while not header.endswith(stream.SEPARATOR):
+        header += os.read(pipe, 1)
+    left = int(header.split(b":")[1])
+    while left:
+        parts.append(os.read(pipe, left))
+        left -= len(parts[-1])
+    return b"".join(parts)
+
+
 def asked(server, method, params):
     """The reply to a request, and the seconds that it took."""
     body = json.dumps({"jsonrpc": "2.0", "id": 2, "method": method, "params": params})
     start = time.perf_counter()
     server.send_bytes(stream.frame(body))
-    reply = server.receive()
+    reply = received(server)
     return reply, time.perf_counter() - start
 
 
@@ -91,7 +104,7 @@ def measured(count):
         written(folder, count)
         with stream.Server(("serve", "--root", folder)) as server:
             server.send_bytes(stream.frame(json.dumps({"jsonrpc": "2.0", "id": 1, "method": "initialize", "params": {}})))
-            server.receive()
+            received(server)
             _, first = asked(server, "workspace/symbol", {"query": "no.such.name"})
             print(f"{count:>7,} files: the analysis {first:.1f} s, {resident(server) / 1024:,.0f} MB resident", flush=True)
             before, kept, empty = resident(server), True, 0.0
