@@ -96,10 +96,9 @@ fn send_and_judge<K: ByteSink>(
 /// Checks the files of a configuration: writes a line for each diagnostic, and answers whether one is an error.
 ///
 /// A line is `path:line:column: number message`, with line and column from 1 and columns in UTF-16 units, and ends with a
-/// line feed. The lines come by path, and those of a file by start, end, number and words; those of one file are in memory at
-/// a time. The only faults are `Write`
-/// where the sink failed, and `Memory` where memory was refused. Whatever it ends with, what was written is a prefix of
-/// the lines, and all of them where no fault came.
+/// line feed. The lines come by path, and those of a file by start, end, number and words. Those of one file are in memory
+/// at a time. The only faults are `Write` where the sink failed, and `Memory` where memory was refused. Whatever it ends
+/// with, what was written is a prefix of the lines, and all of them where no fault came.
 pub fn check<K: ByteSink>(alloc: Global, writer: &mut K, config: Config) -> Result<bool, ServeFault>
     // At every return what was written is a prefix of the lines, and all of them at `Ok`.
     ensures prefix { SendsPrefix (K.written writer.old) (K.written writer.new) (listing (workspace (files_of config))) }
