@@ -49,3 +49,14 @@ def same_name(n):
     """A file that refers to `M`, which it declares itself or imports."""
     messages = "".join(f"message A{n}M{m} {{ message M {{ }} .M m = 1; M n = 2; }}\n" for m in range(MESSAGES))
     return f'syntax = "proto3";\n{imports(n)}{"" if n % 2 else "message M { }"}\n{messages}'
+
+
+# A file with a name that each file of its tree uses.
+ONE_NAME = "money.proto"
+ONE_NAME_TEXT = 'syntax = "proto3";\npackage shop;\nmessage Money { int64 units = 1; }\n'
+
+
+def user_of_one_name(n):
+    """A file that uses that name ten times."""
+    fields = "".join(f"  shop.Money price{k} = {k};\n" for k in range(1, 11))
+    return f'syntax = "proto3";\npackage {package(n)};\nimport "{ONE_NAME}";\nmessage Order{n} {{\n{fields}}}\n'

@@ -635,6 +635,110 @@ class Names(ServeTest):
             self.assertEqual(([body.decode() for body in split_frames(out)], err, ended), (replies, b"", 1))
 
 
+def edits(id_text, new_name, *documents):
+    """The reply that gives a name to places: for each URI a line, and where the name begins and ends there, for each of them."""
+    listed = ",".join(
+        '"%s":[%s]' % (uri, ",".join('{"newText":"%s","range":%s}' % (new_name, range_of(*site)) for site in sites)) for uri, sites in documents
+    )
+    return '{"id":%s,"jsonrpc":"2.0","result":{"changes":{%s}}}' % (id_text, listed)
+
+
+def refused(id_text, number):
+    """The reply that refuses a rename."""
+    return '{"error":{"code":-32803,"message":"rename refused: %s"},"id":%s,"jsonrpc":"2.0"}' % (number, id_text)
+
+
+def edited(text, changes):
+    """A text of single-byte characters with the edits of a document made in it, the last one first."""
+    lines = text.split("\n")
+    for edit in reversed(changes):
+        start, end = edit["range"]["start"], edit["range"]["end"]
+        assert start["line"] == end["line"]
+        line = lines[start["line"]]
+        lines[start["line"]] = line[: start["character"]] + edit["newText"] + line[end["character"] :]
+    return "\n".join(lines)
+
+
+class Renames(ServeTest):
+    RENAME = "textDocument/rename"
+    SITES = [(2, 8, 13), (3, 16, 21)], [(2, 15, 20), (2, 36, 41)]
+
+    def renaming(self, id_text, uri, line, character, new_name):
+        return asking_at(id_text, self.RENAME, uri, line, character, ',"newName":"%s"' % new_name)
+
+    def test_edits_and_refusals(self):
+        p, q = self.SITES
+        self.check_running(
+            [
+                *opened_files([*OUTER, ("r.proto", PROTO3 + "package p.Zed;\n")]),
+                self.renaming(2, P, 2, 8, "Big"),
+                self.renaming(3, Q, 2, 38, "Outer"),
+                self.renaming(4, P, 2, 8, "message"),
+                self.renaming(5, P, 2, 24, "Other"),
+                self.renaming(6, P, 2, 8, "Other"),
+                self.renaming(7, P, 2, 8, "Zed"),
+                self.renaming(8, P, 2, 8, "9x"),
+                self.renaming(9, P, 2, 8, ""),
+                self.renaming(10, P, 2, 8, "a.b"),
+                self.renaming(11, P, 2, 8, "é"),
+                self.renaming(12, P, 1, 8, "Big"),
+                self.renaming(13, P, 1, 8, "9x"),
+                self.renaming(14, P, 2, 15, "Big"),
+                self.renaming(15, P, 2, 15, "9x"),
+            ],
+            [
+                edits(2, "Big", (P, p), (Q, q)),
+                edits(3, "Outer", (P, p), (Q, q)),
+                edits(4, "message", (P, p), (Q, q)),
+                edits(5, "Other", (P, [(2, 24, 29), (3, 22, 27)]), (Q, [(2, 21, 26)])),
+                refused(6, 704),
+                refused(7, 704),
+                *(refused(it, 703) for it in range(8, 12)),
+                refused(12, 702),
+                refused(13, 702),
+                refused(14, 701),
+                refused(15, 701),
+            ],
+        )
+
+    def test_bad_params(self):
+        good = '{"textDocument":{"uri":"%s"},"position":{"line":2,"character":8}%s}'
+        each = ["{}", "[]", good % (P, ""), good % (P, ',"newName":null'), good % (P, ',"newName":1'), good % ("file:///w/none.proto", ',"newName":"Big"'), good % ("not a url", ',"newName":"Big"'), '{"newName":"Big"}']
+        self.check_running(
+            [*opened_files(OUTER), *(request(it + 2, self.RENAME, params) for it, params in enumerate(each))],
+            [refusal(-32602, it + 2) for it in range(len(each))],
+        )
+
+    def test_phases(self):
+        ask = self.renaming(2, P, 2, 8, "Big")
+        self.check([ask], [refusal(-32002, 2)])
+        self.check_running([SHUTDOWN, ask], [SHUT, refusal(-32600, 2)])
+
+    def test_files_that_are_not_open_are_edited_too(self):
+        with tempfile.TemporaryDirectory() as folder:
+            files = [*OUTER, ("r.proto", PROTO3 + "package p.Zed;\n")]
+            for path, text in files:
+                with open(os.path.join(folder, path), "w", encoding="utf-8") as it:
+                    it.write(text)
+            root = "file://" + folder + "/"
+            p, q = root + "p.proto", root + "q.proto"
+            asked = [INITIALIZE, opening(p, OUTER[0][1]), self.renaming(2, p, 2, 8, "Outer"), self.renaming(3, p, 2, 8, "Zed"), self.renaming(4, p, 2, 8, "Big")]
+            out, err, ended = run(frames(asked), ("serve", "--root", folder))
+            replies = [INITIALIZED, edits(2, "Outer", (p, self.SITES[0]), (q, self.SITES[1])), refused(3, 704), edits(4, "Big", (p, self.SITES[0]), (q, self.SITES[1]))]
+            self.assertEqual(([body.decode() for body in split_frames(out)], err, ended), (replies, b"", 1))
+            # With the edits made, the tree is as good as before, and the name is found where it was.
+            changes = json.loads(replies[3])["result"]["changes"]
+            for path, text in OUTER:
+                with open(os.path.join(folder, path), "w", encoding="utf-8") as it:
+                    it.write(edited(text, changes[root + path]))
+            listed = subprocess.run([stream.PROGRAM, "check", "--root", folder], stdout=subprocess.PIPE, stderr=subprocess.PIPE, check=False)
+            self.assertEqual((listed.stdout, listed.stderr, listed.returncode), (b"", b"", 0))
+            out, err, ended = run(frames([INITIALIZE, request(2, "workspace/symbol", '{"query":"p.big"}'), asking_at(3, "textDocument/references", q, 2, 15)]), ("serve", "--root", folder))
+            found = [symbol("Big", "p", 23, (p, 2, 8, 11)), symbol("Inner", "p.Big", 23, (p, 2, 22, 27))]
+            uses = [(p, 3, 16, 19), (q, 2, 15, 18), (q, 2, 34, 37)]
+            self.assertEqual(([body.decode() for body in split_frames(out)], err, ended), ([INITIALIZED, symbols(2, *found), places(3, *uses)], b"", 1))
+
+
 class Documents(ServeTest):
     def check_text(self, text, *bad_tokens):
         """The diagnostics of a document with this text."""

@@ -189,6 +189,18 @@ class Judged(unittest.TestCase):
         said = "fn planted::top: no proof: `search` did not prove `returns`\nfn planted::high: no proof: `search` did not prove `returns`"
         self.assertIsNone(self.judged(said, "low", "high"))
 
+    def test_a_cycle_of_calls_with_a_callee(self):
+        said = "fn planted::low: no proof: `search` did not prove `returns`\nfn planted::top: no proof: in `planted::apart`, of this cycle of calls: it calls `planted::low`, which is not proved"
+        self.assertEqual(self.judged(said, "low", "high"), {"low"})
+
+    def test_a_goal_of_a_ring(self):
+        words = "no proof: expected answers in ./proofs/+all/Answers.antt; `search` did not prove `high-returns`"
+        self.assertEqual(self.judged(f"fn planted::top: {words}\nfn planted::high: {words}; it calls `planted::low`, which is not proved", "low", "high"), {"high"})
+
+    def test_a_goal_of_a_ring_that_is_nobodys(self):
+        words = "no proof: expected answers in ./proofs/+all/Answers.antt; `search` did not prove `high-returns`, `top-returns`"
+        self.assertIsNone(self.judged(f"fn planted::top: {words}\nfn planted::high: {words}", "low", "high"))
+
     def test_an_undecided_function(self):
         said = "fn planted::high: could not tell\nnote: src/lib.rt:21:5: it is not proved that x (`y`)"
         self.assertEqual(self.judged(said, "low", "high"), set())
@@ -238,6 +250,10 @@ class Read(unittest.TestCase):
                 ("a::b::hidden", True, True),
             ],
         )
+
+    def test_the_lines_of_a_function(self):
+        functions = rattle_source.Source("src/lib.rt", "fn one() -> [u8; 0] { [] }\n// Two.\n#[cycle(all)]\n#[must_use]\npub fn two() { }").functions
+        self.assertEqual([(it.first, it.last) for it in functions], [(1, 1), (3, 5)])
 
     def test_the_function_with_some_texts(self):
         source = rattle_source.Source("src/lib.rt", SOURCE)

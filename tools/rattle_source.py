@@ -155,6 +155,17 @@ class Reader:
         self.pending = []
         self.at += 1
 
+    def above_attributes(self, at):
+        """The place where the attributes begin that stand before this one."""
+        while at and self.word(at - 1) == "]":
+            open_at = at - 1
+            while open_at and self.balanced(open_at) != at - 1:
+                open_at -= 1
+            if not open_at or self.word(open_at - 1) != "#":
+                break
+            at = open_at - 1
+        return at
+
     def read_function(self):
         at, name, end = self.at, self.word(self.at + 1), self.at + 2
         while end < len(self.code) and self.word(end) not in ("{", ";"):
@@ -169,7 +180,7 @@ class Reader:
             path = "::".join([*self.modules, *[it for it in self.above if it not in ("", "?trait")], name])
             is_public = "pub" in head and head[head.index("pub") + 1] != "("
             is_private = is_plain and not is_public and not any(self.of_traits)
-            lines, body = (self.code[begin][0], self.code[close][0]), (self.code[end][1], self.code[close][2])
+            lines, body = (self.code[self.above_attributes(begin)][0], self.code[close][0]), (self.code[end][1], self.code[close][2])
             self.functions.append(Function(path, name, self.code[begin][1], lines, body, is_plain, is_private))
             end = close
         self.at, self.pending = end + 1, []

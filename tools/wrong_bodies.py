@@ -23,7 +23,8 @@ How edits share a check
   - An edit may share a check if it changes one function's body and nothing else, and others don't see that body. Edits of one function, of functions
     that may call each other in a ring, and of functions whose proofs cite each other stay apart.
   - In a shared check an edit counts as refused only if a goal of its own function failed: in the function's line, at a line of its text, or in its own
-    proof files. That a callee isn't proved is no reason. If an error is nobody's, the whole check says nothing.
+    proof files. That a callee isn't proved is no reason. A goal of functions that call each other in a ring is said of each of them, and counts
+    for the one that it names. If an error is nobody's, the whole check says nothing.
   - What a shared check leaves open is tried again with the others that are left, and at last alone, as `rt must-fail` does it.
 """
 import argparse
@@ -58,7 +59,9 @@ STATUS = re.compile(r"(fn|struct|enum|union|impl|trait|const|static) (\S+): (.*)
 # What is said where another declaration or file failed, and not this one.
 SECOND_HAND = re.compile(r"was rejected|was not admitted|were not checked|was not checked|is not proved|are not proved|could not be read")
 NAMES_ONLY = re.compile(r"has no field|is not in scope|has no `|was not admitted")
-ONLY_CALLEES = re.compile(r"(not proved|no proof)[:;] it calls .*")
+ONLY_CALLEES = re.compile(r"(not proved|no proof)[:;] (in `[^`]+`, of this cycle of calls: )?it calls .*")
+# The goals of functions that call each other in a ring stand in one file, each behind the name of its function, and are said of every one of them.
+OF_A_RING = re.compile(r"no proof: expected answers in \./proofs/(?:\S+/)?\+\w+/Answers\.antt; `search` did not prove ((?:`[\w-]+`(?:, )?)+)(?:; it calls .*)?")
 # The proof files of one function.
 OWN_PROOFS = ("/Answers.antt", "/Invariants.antt")
 EDIT_NAME = re.compile(r"[A-Za-z0-9_-][A-Za-z0-9_.-]*\.edit")
@@ -266,6 +269,12 @@ class Said:
         return {path for (kind, path), said in self.status.items() if kind == "fn" and re.match(r"proved\b", said)}
 
 
+def names_of_ring(words):
+    """The functions whose goals failed, where this is said of a function of a ring; else None."""
+    found = OF_A_RING.fullmatch(words)
+    return {it.partition("-")[0] for it in re.findall(r"`([\w-]+)`", found[1])} if found else None
+
+
 def judge(said, group, placed):
     """The refused edits of a group with the line that says so, or None where an error is nobody's, so that nothing can be told.
 
@@ -278,7 +287,15 @@ def judge(said, group, placed):
     reasons = {it: [] for it in group}
     for (kind, path), words in said.unproved().items():
         edit = next((it for it in group if kind == "fn" and placed[it].owns(path)), None)
-        if edit is None:
+        names = names_of_ring(words)
+        if names is not None:
+            module = path.rpartition("::")[0]
+            owners = {placed[it].name: it for it in group if placed[it].path.rpartition("::")[0] == module}
+            if not names <= owners.keys():
+                return None
+            for name in names:
+                reasons[owners[name]].append((True, f"fn {path}: {words}"))
+        elif edit is None:
             # a function that nobody edited may be unproved for its callees alone
             if kind != "fn" or not ONLY_CALLEES.fullmatch(words):
                 return None

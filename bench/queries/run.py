@@ -1,8 +1,9 @@
 #!/usr/bin/env python3
-"""Times symbols, definition and references of `protols serve` on trees of 1,000 and 10,000 files (or as many as are named).
+"""Times symbols, definition, references and rename of `protols serve` on trees of 1,000 and 10,000 files (or as many as are named).
 
 The first request makes the analysis and isn't timed. Each other one is asked in one dialogue, and its time is the best of 5. An
 empty request is one that the server doesn't know. The memory is what was resident at most, beside the length of the longest reply.
+In a tree of its own each file uses the same name ten times: the references of that name, and another name for it, are timed beside each other.
 
 usage: run.py [FILES..]"""
 import json
@@ -23,14 +24,16 @@ stream.LIMIT = 900
 
 # What may be spent, in seconds.
 RARE, ABOVE_EMPTY = 0.050, 0.001
+# And how many times the time of a name's references a rename of it may take.
+OF_REFERENCES = 2
 
 
-def written(folder, count):
+def written(folder, count, text_of):
     """A tree of so many files."""
     for n in range(count):
         file = pathlib.Path(folder, trees.path(n))
         file.parent.mkdir(parents=True, exist_ok=True)
-        file.write_text(trees.ordinary(n))
+        file.write_text(text_of(n))
 
 
 def received(server):
@@ -98,15 +101,20 @@ def queries(folder, count):
     ]
 
 
+def began(server, count):
+    """Waits for the analysis of the tree."""
+    server.send_bytes(stream.frame(json.dumps({"jsonrpc": "2.0", "id": 1, "method": "initialize", "params": {}})))
+    received(server)
+    _, first = asked(server, "workspace/symbol", {"query": "no.such.name"})
+    print(f"{count:>7,} files: the analysis {first:.1f} s, {resident(server) / 1024:,.0f} MB resident", flush=True)
+
+
 def measured(count):
     """The times of one tree, and whether they are within what may be spent."""
     with tempfile.TemporaryDirectory() as folder:
-        written(folder, count)
+        written(folder, count, trees.ordinary)
         with stream.Server(("serve", "--root", folder)) as server:
-            server.send_bytes(stream.frame(json.dumps({"jsonrpc": "2.0", "id": 1, "method": "initialize", "params": {}})))
-            received(server)
-            _, first = asked(server, "workspace/symbol", {"query": "no.such.name"})
-            print(f"{count:>7,} files: the analysis {first:.1f} s, {resident(server) / 1024:,.0f} MB resident", flush=True)
+            began(server, count)
             before, kept, empty = resident(server), True, 0.0
             for name, method, params in queries(folder, count):
                 reply, seconds = best(server, method, params)
@@ -122,9 +130,30 @@ def measured(count):
     return kept
 
 
+def renamed(count):
+    """The times of the references of one name in all files of a tree, and of another name for it; whether the second is within what may be spent."""
+    with tempfile.TemporaryDirectory() as folder:
+        written(folder, count, trees.user_of_one_name)
+        file = pathlib.Path(folder, trees.ONE_NAME)
+        file.write_text(trees.ONE_NAME_TEXT)
+        with stream.Server(("serve", "--root", folder)) as server:
+            began(server, count)
+            place = place_of(trees.ONE_NAME_TEXT, "Money", folder, trees.ONE_NAME)
+            before = resident(server)
+            reply, seconds = best(server, "textDocument/rename", {**place, "newName": "Amount"})
+            edits = sum(len(it) for it in json.loads(reply)["result"]["changes"].values())
+            more = (peak(server) - before) * 1024
+            print(f"{'rename':>16} {seconds * 1000:>9.2f} ms {edits:>9,} edits   {len(reply):>12,} bytes, {more / len(reply):.2f} times that in memory", flush=True)
+            reply, references = best(server, "textDocument/references", {**place, "context": {"includeDeclaration": True}})
+            print(f"{'references':>16} {references * 1000:>9.2f} ms {count_in(reply):>9,} answers {len(reply):>12,} bytes", flush=True)
+            print(f"{'':>16} the rename took {seconds / references:.2f} times as long as the references", flush=True)
+    return seconds <= OF_REFERENCES * references
+
+
 def main():
     print(lab.machine())
-    kept = all([measured(int(count)) for count in sys.argv[1:] or ("1000", "10000")])
+    counts = [int(count) for count in sys.argv[1:] or ("1000", "10000")]
+    kept = all([*map(measured, counts), *map(renamed, counts)])
     print("kept" if kept else "NOT kept")
     return 0 if kept else 1
 

@@ -2,7 +2,7 @@
 use crate::analyses::{files_in, pieces_at};
 use crate::places::{offset_at, write_diagnostics, write_place};
 use case_notation::{Answer, Trouble, first_word, plain};
-use lsp_queries::{Place, definition, references, report, symbols};
+use lsp_queries::{Place, definition, references, rename, report, symbols};
 use piece_collector::Piece;
 use proto_resolve::DeclRef;
 use std::alloc::{AllocError, Global};
@@ -81,6 +81,33 @@ fn write_references(
     }
 }
 
+// The places that get the new name, or the number of the refusal.
+fn write_rename(
+    alloc: Global,
+    line: &mut String,
+    asked: Asked<'_>,
+    at: (usize, usize),
+    new_name: &str,
+) -> Answer<()> {
+    match rename(alloc, asked.analysis, at.0, at.1, new_name) {
+        Ok(edits) => {
+            let name = edits.new_name.as_str();
+            write!(line, " {name}")?;
+            write_sites(line, asked, edits.places.as_slice())
+        }
+        Err(fault) => {
+            let code = fault.code();
+            Ok(write!(line, " {code}")?)
+        }
+    }
+}
+
+// A new name, and where the name stands that it is for.
+fn write_renamed(alloc: Global, line: &mut String, asked: Asked<'_>, words: &str) -> Answer<()> {
+    let (new_name, place) = first_word(words);
+    write_rename(alloc, line, asked, place_asked(asked, place)?, new_name)
+}
+
 // The number of the file at a path.
 fn number_of(asked: Asked<'_>, path: &str) -> Answer<usize> {
     for (number, piece) in asked.pieces.iter().enumerate() {
@@ -129,6 +156,7 @@ fn write_asked(alloc: Global, line: &mut String, asked: Asked<'_>, question: &st
         }
         "references" => write_references(alloc, line, asked, place_asked(asked, words)?, false),
         "references+" => write_references(alloc, line, asked, place_asked(asked, words)?, true),
+        "rename" => write_renamed(alloc, line, asked, words),
         "report" => write_report(line, asked, words),
         _ => Err(Trouble::Unknown("no such question")),
     }

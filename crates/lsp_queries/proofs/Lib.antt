@@ -1,1 +1,4 @@
+pub mod FirstByteLemmas
 pub mod MatchingLemmas
+pub mod RenamingLemmas
+pub mod TakenLemmas

@@ -1,5 +1,5 @@
 -- What an analysis knows of a file, if there is such a file.
-use Rattle.std.specs.Prelude.{ℕ, List, [], Option, Some, None, length, nat_lt, option_map, if◌then◌else◌}
+use Rattle.std.specs.Prelude.{ℕ, List, [], Option, Some, None, length, nat_lt, option_and_then, option_map, if◌then◌else◌}
 use Rattle.std.specs.List.{slice_get}
 use Rattle.std.specs.Option.{option_map_or}
 use Rattle.syntax_tree.specs.declared.node.Span.{Span}
@@ -27,9 +27,12 @@ module _ (a : AnalysisData) where
   abbrev pub links_in : ℕ → Option Links
   links_in file = if nat_lt file (length a.paths) then slice_get a.links file else None
 
-  -- its declarations, the components of its package, and the uses of names in it, each by offset
+  -- its declarations, its package and the components of that, and the uses of names in it, each by offset
   abbrev pub decls_in : ℕ → List Decl
   decls_in file = option_map_or (λ facts. facts.decls) (facts_in file) []
+
+  abbrev pub package_in : ℕ → Option PackageFact
+  package_in file = option_and_then (λ facts. facts.«package») (facts_in file)
 
   abbrev pub components_in : ℕ → List Span
   components_in file = option_map_or (λ facts. components_of facts.«package») (facts_in file) []

@@ -2,10 +2,10 @@
 ghost use Rattle.std.specs.Prelude.{◌≡◌, ◌≤◌, length, IfOk};
 ghost use Rattle.lsp_queries.specs.Matching.{begins, contains};
 
-use memchr::memmem;
+use memchr::{memchr2, memmem};
 use std::alloc::{AllocError, Global};
 
-// How long a query is that is compared at each byte of a name.
+// How long a query may be that is compared in place.
 const SHORT: usize = 64;
 
 // Whether a text begins with the query.
@@ -15,16 +15,24 @@ fn begins(text: &[u8], query: &[u8]) -> bool
     query.len() <= text.len() && text[..query.len()].eq_ignore_ascii_case(query)
 }
 
-// Whether a text contains the query, which is compared at each byte.
+// Whether a text contains the query, which is compared wherever its first byte stands, in either case.
 fn contains_short(text: &[u8], query: &[u8]) -> bool
     ensures { result ≡ contains query.now text.now }
 {
-    for start in 0..text.len() {
+    let [first, ..] = query else {
+        return true;
+    };
+    let lower = first.to_ascii_lowercase();
+    let upper = first.to_ascii_uppercase();
+    let mut start = 0;
+    'text: while let Some(skipped) = memchr2(lower, upper, &text[start..]) {
+        start += skipped;
         if begins(&text[start..], query) {
             return true;
         }
+        start += 1;
     }
-    query.is_empty()
+    false
 }
 
 // Whether a text contains the query: both are copied in lower case, and searched in linear time.

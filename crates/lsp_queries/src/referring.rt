@@ -92,7 +92,7 @@ fn sites_in(
 }
 
 // Where all files have it.
-fn sites_of(
+pub fn sites_of(
     alloc: Global,
     analysis: &Analysis,
     decl: DeclRef,

@@ -8,3 +8,6 @@ pub mod MessageLemmas
 pub mod ListLemmas
 pub mod SymbolLemmas
 pub mod SymbolTexts
+pub mod EditLemmas
+pub mod EditTexts
+pub mod MergeLemmas

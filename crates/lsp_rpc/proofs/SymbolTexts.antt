@@ -9,8 +9,8 @@ use Rattle.serde_json.specs.View.{items_of}
 use Rattle.serde_json.specs.Written.{compact_text, items_text}
 use Rattle.serde_json.proofs.OnLiterals.{serde_json_on_literals}
 use Rattle.lsp_rpc.specs.Diagnostic.{position_value, range_value}
-use Rattle.lsp_rpc.specs.Location.{LocationData, location_value, locations_value}
-use Rattle.lsp_rpc.specs.Symbol.{SymbolData, kind_number, with_container, symbol_value, symbols_value}
+use Rattle.lsp_rpc.specs.Location.{LocationData, location_value}
+use Rattle.lsp_rpc.specs.Symbol.{SymbolData, kind_number, with_container, symbol_value}
 use Rattle.lsp_rpc.specs.Laws.{position_text, range_text, location_text, LocationsText, container_text, symbol_text, SymbolsText}
 use Rattle.lsp_rpc.proofs.TextLemmas.{joined_items}
 
@@ -29,7 +29,7 @@ range_spelled : (end' start : Data) → compact_text (object (member (codes "end
 unfolding serde_json_on_literals
 range_spelled end' start = simp append_assoc
 
-range_is : (r : Range) → compact_text (range_value r) ≡ range_text r
+pub range_is : (r : Range) → compact_text (range_value r) ≡ range_text r
 range_is r =
     range_spelled (position_value r.end) (position_value r.start)
     ∙ ap₂ (λ e s. codes "{\"end\":" ++ e ++ codes ",\"start\":" ++ s ++ codes "}") (position_is r.end) (position_is r.start)
@@ -54,7 +54,7 @@ texts_are : {A : Type 0} (f g : A → List ℕ) → ((a : A) → f a ≡ g a) �
 texts_are f g same [] = refl
 texts_are f g same (x ∷ xs) = ap₂ ◌∷◌ (same x) (texts_are f g same xs)
 
-array_is : {A : Type 0} (value : A → Data) (text : A → List ℕ) → ((a : A) → compact_text (value a) ≡ text a) → (xs : List A)
+pub array_is : {A : Type 0} (value : A → Data) (text : A → List ℕ) → ((a : A) → compact_text (value a) ≡ text a) → (xs : List A)
     → compact_text (array (items_of (map value xs))) ≡ codes "[" ++ join_with_byte 44 (map text xs) ++ codes "]"
 array_is value text same xs =
     listed (items_of (map value xs))

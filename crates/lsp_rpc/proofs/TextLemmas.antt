@@ -7,11 +7,12 @@ use Rattle.serde_json.specs.View.{items_of}
 use Rattle.serde_json.specs.Written.{compact_text, items_text}
 use Rattle.serde_json.proofs.OnLiterals.{serde_json_on_literals}
 use Rattle.lsp_rpc.specs.Reply.{id_or_null, error_value}
-use Rattle.lsp_rpc.specs.Diagnostic.{DiagnosticData, range_value, severity_number, diagnostic_value}
-use Rattle.lsp_rpc.specs.Workspace.{DocumentData, version_value, document_value, workspace_value}
+use Rattle.lsp_rpc.specs.Diagnostic.{range_value, severity_number, diagnostic_value}
+use Rattle.lsp_rpc.specs.Workspace.{DocumentData, version_value, document_value}
 use Rattle.lsp_rpc.specs.Laws.{ResultText, error_object_text, ErrorText, InitializeText, DiagnosticText, ReportText, document_text, WorkspaceText}
 use Rattle.lsp_rpc.specs.declared.error_code.ErrorCode.{ErrorCode}
-use Rattle.lsp_rpc.specs.declared.error_code.ErrorCode.TheVariants.{ParseError, InvalidRequest, MethodNotFound, InvalidParams, ServerNotInitialized}
+use Rattle.lsp_rpc.specs.declared.error_code.ErrorCode.TheVariants.{ParseError, InvalidRequest, MethodNotFound, InvalidParams, ServerNotInitialized, RenameRefused}
+use Rattle.lsp_rpc.specs.declared.error_code.RenameRefusal.TheVariants.{NoSymbol, NotRenamable, BadName, NameTaken}
 
 pub result_text : ResultText
 unfolding serde_json_on_literals
@@ -30,6 +31,10 @@ error_value_text InvalidRequest = refl
 error_value_text MethodNotFound = refl
 error_value_text InvalidParams = refl
 error_value_text ServerNotInitialized = refl
+error_value_text (RenameRefused NoSymbol) = refl
+error_value_text (RenameRefused NotRenamable) = refl
+error_value_text (RenameRefused BadName) = refl
+error_value_text (RenameRefused NameTaken) = refl
 
 error_spelled : (id error : Data)
     → compact_text (object (member (codes "error") error (member (codes "id") id (member (codes "jsonrpc") (string (codes "2.0")) no_members))))

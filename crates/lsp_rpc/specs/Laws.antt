@@ -1,7 +1,11 @@
 -- What the definitions of messages and replies come to, in the words of the standards.
-use Rattle.std.specs.Prelude.{◌≡◌, ◌↔◌, true, false, ℕ, List, [], ◌∷◌, ◌++◌, Option, Some, None, map, codes, decimal}
+use Rattle.std.specs.Prelude.{◌≡◌, ◌↔◌, true, false, ℕ, List, [], ◌∷◌, ◌++◌, Option, Some, None, map, codes, decimal, bytes_eq}
 use Rattle.std.specs.Fmt.{signed_decimal}
-use Rattle.std.specs.List.{join_with_byte}
+use Rattle.std.specs.List.{fold, filter, join_with_byte}
+use Rattle.std.specs.List.Sorted.{IsStrictlySortedBy}
+use Rattle.std.specs.Cmp.Lexicographic.{slice_cmp}
+use Rattle.std.specs.Map.{keys_of}
+use Rattle.std.specs.Ordering.{nat_cmp}
 use Rattle.json.specs.Print.{quoted}
 use Rattle.serde_json.specs.Data.{Data, Items, array}
 use Rattle.serde_json.specs.Written.{compact_text}
@@ -10,9 +14,10 @@ use Rattle.lsp_rpc.specs.Message.{IdData, message_of, parse_error, invalid_reque
 use Rattle.lsp_rpc.specs.Reply.{id_value, id_or_null, result_reply, error_row, error_reply}
 use Rattle.lsp_rpc.specs.Initialize.{initialize_result}
 use Rattle.lsp_rpc.specs.Diagnostic.{DiagnosticData, range_value, severity_number, diagnostic_value, report_value}
-use Rattle.lsp_rpc.specs.Workspace.{DocumentData, version_value, document_value, workspace_value}
-use Rattle.lsp_rpc.specs.Location.{LocationData, location_value, locations_value}
-use Rattle.lsp_rpc.specs.Symbol.{SymbolData, kind_number, symbol_value, symbols_value}
+use Rattle.lsp_rpc.specs.Workspace.{DocumentData, version_value, workspace_value}
+use Rattle.lsp_rpc.specs.Location.{LocationData, locations_value}
+use Rattle.lsp_rpc.specs.Symbol.{SymbolData, kind_number, symbols_value}
+use Rattle.lsp_rpc.specs.WorkspaceEdit.{Changes, further, ranges_at, merged, workspace_edit_value}
 use Rattle.doc_text.specs.declared.position.Position.{Position}
 use Rattle.doc_text.specs.declared.position.Range.{Range}
 use Rattle.lsp_rpc.specs.declared.method.Method.{Method}
@@ -115,3 +120,26 @@ symbol_text s =
 -- the declarations' texts stand in order, with commas between them
 abbrev pub SymbolsText : Type 0
 SymbolsText = (ss : List SymbolData) → compact_text (symbols_value ss) ≡ codes "[" ++ join_with_byte 44 (map symbol_text ss) ++ codes "]"
+
+-- ---- edits
+
+abbrev pub UrisStandOnce : Type 0
+UrisStandOnce = (documents : Changes) → IsStrictlySortedBy (slice_cmp nat_cmp) (keys_of (merged documents))
+
+-- a URI has the ranges of all documents that have it, in order, and no others; one that an earlier document has is left out
+abbrev pub RangesAreKept : Type 0
+RangesAreKept =
+    (uri : List ℕ) (documents : Changes) → ranges_at uri (merged documents)
+    ≡ fold (λ before d. before ++ further before d.1) [] (filter (λ d. bytes_eq uri d.0) documents)
+
+abbrev pub edit_text : List ℕ → Range → List ℕ
+edit_text text r = codes "{\"newText\":" ++ quoted text ++ codes ",\"range\":" ++ range_text r ++ codes "}"
+
+abbrev pub change_text : List ℕ → List ℕ × List Range → List ℕ
+change_text text c = quoted c.0 ++ codes ":[" ++ join_with_byte 44 (map (edit_text text) c.1) ++ codes "]"
+
+-- the URIs stand in the order of bytes, and the edits of each in theirs, with commas between them
+abbrev pub WorkspaceEditText : Type 0
+WorkspaceEditText =
+    (text : List ℕ) (documents : Changes) → compact_text (workspace_edit_value text documents)
+    ≡ codes "{\"changes\":{" ++ join_with_byte 44 (map (change_text text) (merged documents)) ++ codes "}}"

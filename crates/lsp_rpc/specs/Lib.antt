@@ -7,6 +7,7 @@ pub mod Diagnostic
 pub mod Workspace
 pub mod Location
 pub mod Symbol
+pub mod WorkspaceEdit
 pub mod Initialize
 pub mod Reply
 pub mod Writing

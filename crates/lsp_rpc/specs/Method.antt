@@ -2,7 +2,7 @@
 use Rattle.std.specs.Prelude.{ℕ, List, [], ◌∷◌, Option, codes, bytes_eq}
 use Rattle.std.specs.Map.{lookup}
 use Rattle.lsp_rpc.specs.declared.method.Method.{Method}
-use Rattle.lsp_rpc.specs.declared.method.Method.TheVariants.{Initialize, Shutdown, Exit, DidOpen, DidChange, DidSave, DidClose, DocumentDiagnostic, WorkspaceDiagnostic, WorkspaceSymbol, Definition, References}
+use Rattle.lsp_rpc.specs.declared.method.Method.TheVariants.{Initialize, Shutdown, Exit, DidOpen, DidChange, DidSave, DidClose, DocumentDiagnostic, WorkspaceDiagnostic, WorkspaceSymbol, Definition, References, Rename}
 
 -- each name with its method: the server's lifecycle, then its documents, then what is asked about them
 abbrev pub methods : List (List ℕ × Method)
@@ -19,6 +19,7 @@ methods =
     ∷ (codes "workspace/symbol", WorkspaceSymbol)
     ∷ (codes "textDocument/definition", Definition)
     ∷ (codes "textDocument/references", References)
+    ∷ (codes "textDocument/rename", Rename)
     ∷ []
 
 -- the method with this very name

@@ -8,7 +8,9 @@ use Rattle.json.specs.Token.{Token}
 use Rattle.json.specs.Tree.{json_tokens}
 use Rattle.lsp_rpc.specs.Message.{IdData, number_id, text_id}
 use Rattle.lsp_rpc.specs.declared.error_code.ErrorCode.{ErrorCode}
-use Rattle.lsp_rpc.specs.declared.error_code.ErrorCode.TheVariants.{ParseError, InvalidRequest, MethodNotFound, InvalidParams, ServerNotInitialized}
+use Rattle.lsp_rpc.specs.declared.error_code.ErrorCode.TheVariants.{ParseError, InvalidRequest, MethodNotFound, InvalidParams, ServerNotInitialized, RenameRefused}
+use Rattle.lsp_rpc.specs.declared.error_code.RenameRefusal.{RenameRefusal}
+use Rattle.lsp_rpc.specs.declared.error_code.RenameRefusal.TheVariants.{NoSymbol, NotRenamable, BadName, NameTaken}
 
 abbrev pub id_value : IdData → Data
 id_value (number_id n) = number (of_integer n)
@@ -27,6 +29,13 @@ result_reply id result =
 
 -- ---- errors
 
+-- each refusal of a rename with its number
+abbrev pub refusal_text : RenameRefusal → List ℕ
+refusal_text NoSymbol = codes "rename refused: 701"
+refusal_text NotRenamable = codes "rename refused: 702"
+refusal_text BadName = codes "rename refused: 703"
+refusal_text NameTaken = codes "rename refused: 704"
+
 -- the number of an error, and its message
 abbrev pub error_row : ErrorCode → ℤ × List ℕ
 error_row ParseError = (pos 0 -ℤ pos 32700, codes "parse error")
@@ -34,6 +43,7 @@ error_row InvalidRequest = (pos 0 -ℤ pos 32600, codes "invalid request")
 error_row MethodNotFound = (pos 0 -ℤ pos 32601, codes "method not found")
 error_row InvalidParams = (pos 0 -ℤ pos 32602, codes "invalid params")
 error_row ServerNotInitialized = (pos 0 -ℤ pos 32002, codes "server not initialized")
+error_row (RenameRefused refusal) = (pos 0 -ℤ pos 32803, refusal_text refusal)
 
 abbrev pub error_value : ErrorCode → Data
 error_value code =

@@ -7,6 +7,7 @@ use Rattle.lsp_rpc.specs.Body.{member_or_null, text_member}
 use Rattle.lsp_rpc.specs.Params.{uri_of, position_in}
 use Rattle.lsp_rpc.specs.declared.request_params.DocumentPosition.{DocumentPosition}
 use Rattle.lsp_rpc.specs.declared.request_params.ReferenceParams.{ReferenceParams}
+use Rattle.lsp_rpc.specs.declared.request_params.RenameParams.{RenameParams}
 
 -- `query`, what a name has to contain
 abbrev pub query_of : Data → Option (List ℕ)
@@ -46,6 +47,18 @@ reference_of params =
     (includes_in (get (codes "context") params)))
     (place_of params)
 
+-- a place, and `newName`, the name that is to stand there
+pub record RenameData : Type 0 where
+  pub place : PlaceData
+  pub new_name : List ℕ
+
+abbrev pub rename_of : Data → Option RenameData
+rename_of params =
+    option_and_then (λ place.
+    option_map (λ name. record { place = place; new_name = name })
+    (text_member (codes "newName") params))
+    (place_of params)
+
 -- ---- the Rust types beside these
 
 abbrev pub place_view : DocumentPosition → PlaceData
@@ -53,3 +66,6 @@ place_view p = record { uri = p.uri.now; position = p.position }
 
 abbrev pub reference_view : ReferenceParams → ReferenceData
 reference_view p = record { place = place_view p.place; include_declaration = p.include_declaration }
+
+abbrev pub rename_view : RenameParams → RenameData
+rename_view p = record { place = place_view p.place; new_name = p.new_name.now }

@@ -1,6 +1,33 @@
 // The errors that a request is answered with.
 ghost use Rattle.std.specs.Prelude.{◌≡◌};
-ghost use Rattle.lsp_rpc.specs.Reply.{error_row};
+ghost use Rattle.lsp_rpc.specs.Reply.{refusal_text, error_row};
+
+/// Why a rename is refused.
+#[derive(Clone, Copy, Debug, PartialEq, Eq)]
+pub enum RenameRefusal {
+    /// 701: no symbol stands at the place.
+    NoSymbol,
+    /// 702: what stands there is a package.
+    NotRenamable,
+    /// 703: the new name isn't an identifier.
+    BadName,
+    /// 704: the new name is taken.
+    NameTaken,
+}
+
+impl RenameRefusal {
+    // The text of the refusal.
+    fn message(self) -> &'static str
+        ensures { result.now ≡ refusal_text self }
+    {
+        match self {
+            RenameRefusal::NoSymbol => "rename refused: 701",
+            RenameRefusal::NotRenamable => "rename refused: 702",
+            RenameRefusal::BadName => "rename refused: 703",
+            RenameRefusal::NameTaken => "rename refused: 704",
+        }
+    }
+}
 
 /// Why a message is answered with an error (JSON-RPC 2.0, section 5.1, and Language Server Protocol
 /// 3.17, "ErrorCodes").
@@ -16,6 +43,8 @@ pub enum ErrorCode {
     InvalidParams,
     /// -32002: a request came before `initialize`.
     ServerNotInitialized,
+    /// -32803, "RequestFailed": a rename is refused.
+    RenameRefused(RenameRefusal),
 }
 
 impl ErrorCode {
@@ -29,6 +58,7 @@ impl ErrorCode {
             ErrorCode::MethodNotFound => -32601,
             ErrorCode::InvalidParams => -32602,
             ErrorCode::ServerNotInitialized => -32002,
+            ErrorCode::RenameRefused(_) => -32803,
         }
     }
 
@@ -42,6 +72,7 @@ impl ErrorCode {
             ErrorCode::MethodNotFound => "method not found",
             ErrorCode::InvalidParams => "invalid params",
             ErrorCode::ServerNotInitialized => "server not initialized",
+            ErrorCode::RenameRefused(refusal) => refusal.message(),
         }
     }
 }

@@ -1,6 +1,6 @@
 // Laws of the definitions that the contracts cite. Each is a function with nothing to do, whose clause
 // is the law.
-ghost use Rattle.lsp_rpc.specs.Laws.{OnlyJsonIsRead, BatchesAreInvalid, RequestsAreCalls, NotificationsHaveNoId, ResultText, ErrorText, InitializeText, DiagnosticText, ReportText, WorkspaceText, LocationsText, SymbolsText};
+ghost use Rattle.lsp_rpc.specs.Laws.{OnlyJsonIsRead, BatchesAreInvalid, RequestsAreCalls, NotificationsHaveNoId, ResultText, ErrorText, InitializeText, DiagnosticText, ReportText, WorkspaceText, LocationsText, SymbolsText, UrisStandOnce, RangesAreKept, WorkspaceEditText};
 
 /// A law: what is answered as a parse error is what is no JSON text, and nothing else.
 pub fn parse_errors()
@@ -60,4 +60,19 @@ pub fn locations_text()
 /// A law: the bytes of declarations, of which one in the empty scope has no `containerName`.
 pub fn symbols_text()
     ensures { SymbolsText }
+{}
+
+/// A law: the URIs of edits stand in the order of their bytes, each once.
+pub fn edit_uris()
+    ensures { UrisStandOnce }
+{}
+
+/// A law: a URI has the ranges of all documents that have it, in order, but for those that an earlier one has.
+pub fn edit_ranges()
+    ensures { RangesAreKept }
+{}
+
+/// A law: the bytes of edits.
+pub fn workspace_edit_text()
+    ensures { WorkspaceEditText }
 {}

@@ -19,22 +19,24 @@ mod reply;
 mod request_params;
 mod symbol;
 mod workspace;
+mod workspace_edit;
 
 pub use diagnostic::{Diagnostic, Severity};
-pub use error_code::ErrorCode;
+pub use error_code::{ErrorCode, RenameRefusal};
 pub use id::Id;
 pub use laws::{
-    batches, diagnostic_text, error_text, initialize_text, locations_text, notifications,
-    parse_errors, report_text, requests, result_text, symbols_text, workspace_text,
+    batches, diagnostic_text, edit_ranges, edit_uris, error_text, initialize_text, locations_text,
+    notifications, parse_errors, report_text, requests, result_text, symbols_text,
+    workspace_edit_text, workspace_text,
 };
 pub use location::DocumentRanges;
 pub use message::Message;
 pub use method::Method;
 pub use params::{DidChangeParams, DidOpenParams, VersionedDocument, document_uri};
 pub use reply::{
-    error_reply, initialize_reply, locations_reply, null_reply, report_reply, symbols_reply,
-    workspace_reply,
+    error_reply, initialize_reply, locations_reply, null_reply, rename_reply, report_reply,
+    symbols_reply, workspace_reply,
 };
-pub use request_params::{DocumentPosition, ReferenceParams, symbol_query};
+pub use request_params::{DocumentPosition, ReferenceParams, RenameParams, symbol_query};
 pub use symbol::{DocumentSymbols, Symbol, SymbolKind};
 pub use workspace::DocumentReport;

@@ -29,6 +29,8 @@ pub enum Method {
     Definition,
     /// `textDocument/references`
     References,
+    /// `textDocument/rename`
+    Rename,
 }
 
 impl Method {
@@ -49,6 +51,7 @@ impl Method {
             "workspace/symbol" => Some(Method::WorkspaceSymbol),
             "textDocument/definition" => Some(Method::Definition),
             "textDocument/references" => Some(Method::References),
+            "textDocument/rename" => Some(Method::Rename),
             _ => None,
         }
     }

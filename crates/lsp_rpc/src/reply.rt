@@ -8,6 +8,7 @@ ghost use Rattle.lsp_rpc.specs.Writing.{empty, Appends, Adds};
 ghost use Rattle.lsp_rpc.specs.Diagnostic.{report_value, diagnostic_view};
 ghost use Rattle.lsp_rpc.specs.Workspace.{workspace_value, document_view};
 ghost use Rattle.lsp_rpc.specs.Location.{locations_value, all_locations};
+ghost use Rattle.lsp_rpc.specs.WorkspaceEdit.{workspace_edit_value, document_ranges};
 ghost use Rattle.lsp_rpc.specs.Symbol.{symbols_value, all_symbols};
 ghost use Rattle.lsp_rpc.specs.Initialize.{initialize_result};
 ghost use Rattle.lsp_rpc.specs.Reply as reply;
@@ -19,6 +20,7 @@ use crate::initialize::write_initialize_result;
 use crate::location::{DocumentRanges, write_locations};
 use crate::symbol::{DocumentSymbols, write_symbols};
 use crate::workspace::{DocumentReport, write_workspace};
+use crate::workspace_edit::write_workspace_edit;
 use json::Writer;
 use std::alloc::{AllocError, Global};
 
@@ -74,6 +76,23 @@ pub fn locations_reply(
 {
     let mut out = begin_result(alloc, id)?;
     write_locations(&mut out, places)?;
+    out.end_object()?;
+    Ok(out.into_inner())
+}
+
+/// The reply that gives the edits by which a text comes to stand in the place of some ranges of documents, each URI once, in the
+/// order of bytes; documents with one URI share a list. An error is want of memory.
+pub fn rename_reply(
+    alloc: Global,
+    id: &Id,
+    documents: Vec<DocumentRanges>,
+    new_text: &str,
+) -> Result<Vec<u8>, AllocError>
+    ensures { IfOk result (λ b. b.items
+        ≡ compact_text (reply.result_reply (id_view id.now) (workspace_edit_value new_text.now (map document_ranges documents.items)))) }
+{
+    let mut out = begin_result(alloc, id)?;
+    write_workspace_edit(alloc, &mut out, documents, new_text)?;
     out.end_object()?;
     Ok(out.into_inner())
 }

@@ -1,7 +1,7 @@
 // The params of requests about names.
 ghost use Rattle.std.specs.Prelude.{◌≡◌, option_map};
 ghost use Rattle.serde_json.specs.View.{view};
-ghost use Rattle.lsp_rpc.specs.RequestParams.{query_of, place_of, flag_in, includes_in, reference_of, place_view, reference_view};
+ghost use Rattle.lsp_rpc.specs.RequestParams.{query_of, place_of, flag_in, includes_in, reference_of, rename_of, place_view, reference_view, rename_view};
 
 use crate::body::text_member;
 use crate::params::{document_uri, position_in};
@@ -55,6 +55,26 @@ impl ReferenceParams<'_> {
             place,
             include_declaration,
         })
+    }
+}
+
+/// The params of `textDocument/rename` (Language Server Protocol 3.17, "RenameParams").
+#[derive(Clone, Copy, Debug)]
+pub struct RenameParams<'v> {
+    /// Where the name stands.
+    pub place: DocumentPosition<'v>,
+    /// The name that is to stand in its place.
+    pub new_name: &'v str,
+}
+
+impl RenameParams<'_> {
+    /// The params, or `None` where one of them is missing or ill-typed.
+    pub fn from_value(params: &Value) -> Option<RenameParams<'_>>
+        ensures { option_map rename_view result ≡ rename_of (view params.now) }
+    {
+        let place = DocumentPosition::from_value(params)?;
+        let new_name = text_member(params, "newName")?;
+        Some(RenameParams { place, new_name })
     }
 }
 

@@ -4,15 +4,15 @@ use Rattle.serde_json.specs.Data.{Data}
 use Rattle.lsp_rpc.specs.Message.{IdData, MessageData, parse_error, invalid_request, response, request, notification, message_of}
 use Rattle.lsp_rpc.specs.Params.{OpenedDocument, ChangedDocument, opened_of, changed_of}
 use Rattle.std.specs.Prelude.{option_and_then}
-use Rattle.lsp_rpc.specs.RequestParams.{ReferenceData, query_of, place_of, reference_of}
+use Rattle.lsp_rpc.specs.RequestParams.{ReferenceData, RenameData, query_of, place_of, reference_of, rename_of}
 use Rattle.lsp_session.specs.Answers.{DocumentPlaceData}
 use Rattle.lsp_rpc.specs.declared.method.Method.{Method}
-use Rattle.lsp_rpc.specs.declared.method.Method.TheVariants.{Initialize, Shutdown, Exit, DidOpen, DidChange, DidSave, DidClose, DocumentDiagnostic, WorkspaceDiagnostic, WorkspaceSymbol, Definition, References}
+use Rattle.lsp_rpc.specs.declared.method.Method.TheVariants.{Initialize, Shutdown, Exit, DidOpen, DidChange, DidSave, DidClose, DocumentDiagnostic, WorkspaceDiagnostic, WorkspaceSymbol, Definition, References, Rename}
 use Rattle.workspace_uri.specs.Uri.{path_of}
 use Rattle.lsp_workspace.specs.Files.{OpenDocument, Files, AreInPathOrder, KeepsPathOrder, opened_files, changed_files, saved_files, closed_files}
 use Rattle.lsp_workspace.proofs.PathOrder.{from_disk-order, opened_files-order, changed_files-order, saved_files-order, closed_files-order}
 use Rattle.lsp_config.specs.Configuration.{Configuration, in_root_order}
-use Rattle.lsp_session.specs.Session.{State, Run, at_path, path_in, opened, changed, document_in, diagnosed, place_in, searched, defined, referred, referred_by, running_request, first_request, requested, exits, running_notification, notified, received, turn_in, start, next, session}
+use Rattle.lsp_session.specs.Session.{State, Run, at_path, path_in, opened, changed, document_in, diagnosed, place_in, searched, defined, referred, referred_by, renamed, renamed_by, running_request, first_request, requested, exits, running_notification, notified, received, turn_in, start, next, session}
 use Rattle.lsp_session.specs.declared.phase.Phase.{Phase}
 use Rattle.lsp_session.specs.declared.phase.Phase.TheVariants.{Uninitialized, Running, Shut, Exited}
 
@@ -57,11 +57,20 @@ referred_by-files : (s : State) (id : IdData) (r : Option ReferenceData) → (re
 referred_by-files s id None = refl
 referred_by-files s id (Some r) = referred-files s id r.include_declaration (place_in s r.place)
 
+renamed-files : (s : State) (id : IdData) (new_name : List ℕ) (at : Option DocumentPlaceData) → (renamed s id new_name at).state.files ≡ s.files
+renamed-files s id new_name None = refl
+renamed-files s id new_name (Some at) = refl
+
+renamed_by-files : (s : State) (id : IdData) (r : Option RenameData) → (renamed_by s id r).state.files ≡ s.files
+renamed_by-files s id None = refl
+renamed_by-files s id (Some r) = renamed-files s id r.new_name (place_in s r.place)
+
 running_request-files : (s : State) (id : IdData) (method : Option Method) (params : Data) → (running_request s id method params).state.files ≡ s.files
 running_request-files s id (Some DocumentDiagnostic) params = diagnosed-files s id (document_in s params)
 running_request-files s id (Some WorkspaceSymbol) params = searched-files s id (query_of params)
 running_request-files s id (Some Definition) params = defined-files s id (option_and_then (place_in s) (place_of params))
 running_request-files s id (Some References) params = referred_by-files s id (reference_of params)
+running_request-files s id (Some Rename) params = renamed_by-files s id (rename_of params)
 running_request-files s id (Some Initialize) params = refl
 running_request-files s id (Some Shutdown) params = refl
 running_request-files s id (Some WorkspaceDiagnostic) params = refl

@@ -5,3 +5,5 @@ mod FilesLemmas
 mod RunLemmas
 mod ServingLemmas
 mod AnswersLemmas
+mod KnownLemmas
+mod ByFileLemmas

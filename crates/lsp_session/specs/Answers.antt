@@ -1,7 +1,8 @@
 -- What is replied about names, by URIs and positions, in a workspace whose files are known.
-use Rattle.std.specs.Prelude.{ℕ, ◌+◌, ◌==◌, List, [], ◌∷◌, Bool, Option, Some, None, length, map, option_map, option_and_then, slice_index_or, position, bytes_eq, if◌then◌else◌}
+use Rattle.std.specs.Prelude.{ℕ, ◌+◌, ◌==◌, List, [], ◌∷◌, Bool, Option, Some, None, Result, Ok, Err, length, map, option_map, option_and_then, slice_index_or, position, bytes_eq, if◌then◌else◌}
 use Rattle.std.specs.List.{filter_map}
-use Rattle.std.specs.Option.{option_or}
+use Rattle.std.specs.Option.{option_or, option_map_or}
+use Rattle.serde_json.specs.Data.{Data}
 use Rattle.doc_text.specs.Positions.{position_of}
 use Rattle.doc_text.specs.declared.encoding.Encoding.TheVariants.{Utf16}
 use Rattle.doc_text.specs.declared.position.Range.{Range}
@@ -12,7 +13,16 @@ use Rattle.file_facts.specs.declared.fact.DeclKind.TheVariants as decl
 use Rattle.lsp_queries.specs.Answers as answers
 use Rattle.lsp_queries.specs.Files.{place, decl_of}
 use Rattle.lsp_queries.specs.declared.place.Place.{Place}
+use Rattle.lsp_queries.specs.Renaming.{renamed}
+use Rattle.lsp_queries.specs.declared.fault.RenameFault.{RenameFault}
+use Rattle.lsp_queries.specs.declared.fault.RenameFault.TheVariants as fault
 use Rattle.lsp_rpc.specs.Location.{LocationData}
+use Rattle.lsp_rpc.specs.Message.{IdData}
+use Rattle.lsp_rpc.specs.Reply.{result_reply, error_reply}
+use Rattle.lsp_rpc.specs.WorkspaceEdit.{workspace_edit_value}
+use Rattle.lsp_rpc.specs.declared.error_code.ErrorCode.TheVariants.{RenameRefused}
+use Rattle.lsp_rpc.specs.declared.error_code.RenameRefusal.{RenameRefusal}
+use Rattle.lsp_rpc.specs.declared.error_code.RenameRefusal.TheVariants as refusal
 use Rattle.lsp_rpc.specs.Symbol.{SymbolData}
 use Rattle.lsp_rpc.specs.declared.symbol.SymbolKind.{SymbolKind}
 use Rattle.lsp_rpc.specs.declared.symbol.SymbolKind.TheVariants as kind
@@ -71,6 +81,19 @@ number_of w path = position (λ p. bytes_eq p path) (map (λ f. f.0) w)
 abbrev pub range_of : List ℕ → Place → Range
 range_of text p = record { start = position_of Utf16 text p.start; «end» = position_of Utf16 text p.end }
 
+-- places file by file, neighbours in one file together: what stands behind a place in its own file, and in the files after that
+abbrev pub behind : ℕ → List (ℕ × List Place) → List Place
+behind file [] = []
+behind file (g ∷ gs) = if g.0 == file then g.1 else []
+
+abbrev pub later : ℕ → List (ℕ × List Place) → List (ℕ × List Place)
+later file [] = []
+later file (g ∷ gs) = if g.0 == file then gs else g ∷ gs
+
+abbrev pub by_file : List Place → List (ℕ × List Place)
+by_file [] = []
+by_file (p ∷ ps) = (p.file, p ∷ behind p.file (by_file ps)) ∷ later p.file (by_file ps)
+
 -- a declaration at its place in a text, in the document with a URI
 abbrev pub symbol_with : List ℕ → List ℕ → Place × Decl → SymbolData
 symbol_with uri text d = record {
@@ -88,6 +111,13 @@ module _ (root : List ℕ) (files : Files) (w : Workspace) where
   abbrev pub location_of : Place → LocationData
   location_of p = record { range = range_of (file_of w p.file).1 p; uri = uri_at p.file }
 
+  -- the places in a file, as ranges of its document
+  abbrev pub document_of : ℕ × List Place → List ℕ × List Range
+  document_of g = (uri_at g.0, map (range_of (file_of w g.0).1) g.1)
+
+  abbrev pub documents_of : List Place → List (List ℕ × List Range)
+  documents_of places = map document_of (by_file places)
+
   -- the declaration that the name at a place stands for: `None` if there is none
   abbrev pub definition_at : DocumentPlaceData → Option (List LocationData)
   definition_at at = option_map (λ p. location_of p ∷ []) (option_and_then (λ file. answers.definition (analysis w) file at.offset) (number_of w at.path))
@@ -103,3 +133,30 @@ module _ (root : List ℕ) (files : Files) (w : Workspace) where
   -- the declarations whose full name contains the query
   abbrev pub symbols_for : List ℕ → List SymbolData
   symbols_for query = map symbol_of (declarations (analysis w) (answers.symbols (analysis w) query))
+
+  -- the ranges that get another name, document by document, or why the rename is refused
+  abbrev pub edits_of : Result (List Place) RenameFault → Result (List (List ℕ × List Range)) RenameFault
+  edits_of (Ok places) = Ok (documents_of places)
+  edits_of (Err fault) = Err fault
+
+  -- the same for what the name at a place stands for
+  abbrev pub edits_at : DocumentPlaceData → List ℕ → Result (List (List ℕ × List Range)) RenameFault
+  edits_at at new_name = edits_of (option_map_or (λ file. renamed (analysis w) file at.offset new_name) (number_of w at.path) (Err fault.NoSymbol))
+
+-- ---- renames
+
+-- want of memory is no refusal
+abbrev pub refusal_of : RenameFault → Option RenameRefusal
+refusal_of fault.NoSymbol = Some refusal.NoSymbol
+refusal_of fault.NotRenamable = Some refusal.NotRenamable
+refusal_of fault.BadName = Some refusal.BadName
+refusal_of fault.NameTaken = Some refusal.NameTaken
+refusal_of fault.Memory = None
+
+abbrev pub refused_rename : IdData → RenameFault → Option Data
+refused_rename id fault = option_map (λ refusal. error_reply (Some id) (RenameRefused refusal)) (refusal_of fault)
+
+-- the reply that gives the edits, or says why there are none
+abbrev pub rename_reply : IdData → List ℕ → Result (List (List ℕ × List Range)) RenameFault → Option Data
+rename_reply id new_name (Ok documents) = Some (result_reply id (workspace_edit_value new_name documents))
+rename_reply id new_name (Err fault) = refused_rename id fault

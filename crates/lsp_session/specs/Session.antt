@@ -1,5 +1,6 @@
 -- The sequential session (Language Server Protocol 3.17): what each message changes, and what is replied to it.
 use Rattle.std.specs.Prelude.{ℕ, List, [], ◌∷◌, ◌++◌, Bool, true, false, Option, Some, None, option_and_then, option_map, map, fold}
+use Rattle.std.specs.Option.{option_to_list}
 use Rattle.doc_text.specs.Positions.{offset_of}
 use Rattle.doc_text.specs.declared.encoding.Encoding.TheVariants.{Utf16}
 use Rattle.serde_json.specs.Data.{Data, null}
@@ -9,19 +10,19 @@ use Rattle.lsp_rpc.specs.Workspace.{workspace_value}
 use Rattle.lsp_rpc.specs.Initialize.{initialize_result}
 use Rattle.lsp_rpc.specs.Message.{IdData, MessageData, parse_error, invalid_request, response, request, notification, message_of}
 use Rattle.lsp_rpc.specs.Params.{OpenedDocument, ChangedDocument, opened_of, changed_of, uri_of}
-use Rattle.lsp_rpc.specs.RequestParams.{PlaceData, ReferenceData, query_of, place_of, reference_of}
+use Rattle.lsp_rpc.specs.RequestParams.{PlaceData, ReferenceData, RenameData, query_of, place_of, reference_of, rename_of}
 use Rattle.lsp_rpc.specs.Location.{locations_or_null}
 use Rattle.lsp_rpc.specs.Symbol.{symbols_value}
 use Rattle.lsp_rpc.specs.Reply.{result_reply, error_reply}
 use Rattle.lsp_rpc.specs.declared.error_code.ErrorCode.{ErrorCode}
 use Rattle.lsp_rpc.specs.declared.error_code.ErrorCode.TheVariants.{ParseError, InvalidRequest, MethodNotFound, InvalidParams, ServerNotInitialized}
 use Rattle.lsp_rpc.specs.declared.method.Method.{Method}
-use Rattle.lsp_rpc.specs.declared.method.Method.TheVariants.{Initialize, Shutdown, Exit, DidOpen, DidChange, DidSave, DidClose, DocumentDiagnostic, WorkspaceDiagnostic, WorkspaceSymbol, Definition, References}
+use Rattle.lsp_rpc.specs.declared.method.Method.TheVariants.{Initialize, Shutdown, Exit, DidOpen, DidChange, DidSave, DidClose, DocumentDiagnostic, WorkspaceDiagnostic, WorkspaceSymbol, Definition, References, Rename}
 use Rattle.workspace_uri.specs.Uri.{path_of}
 use Rattle.lsp_config.specs.Configuration.{Configuration, files_of}
 use Rattle.lsp_session.specs.Reports.{document_diagnostics, workspace_reports, ReportsAreOfDocuments}
 use Rattle.lsp_workspace.specs.Files.{Files, workspace, opened_files, changed_files, saved_files, closed_files, text_at, AreInPathOrder, HasTextsOfWorkspace}
-use Rattle.lsp_session.specs.Answers.{DocumentPlaceData, definition_at, references_at, symbols_for}
+use Rattle.lsp_session.specs.Answers.{DocumentPlaceData, definition_at, references_at, symbols_for, edits_at, rename_reply}
 use Rattle.lsp_session.specs.declared.phase.Phase.{Phase}
 use Rattle.lsp_session.specs.declared.phase.Phase.TheVariants.{Uninitialized, Running, Shut, Exited}
 
@@ -122,6 +123,18 @@ abbrev pub referred_by : State → IdData → Option ReferenceData → Turn
 referred_by s id None = refuse s (Some id) InvalidParams
 referred_by s id (Some r) = referred s id r.include_declaration (place_in s r.place)
 
+-- another name for what the name at a place stands for
+abbrev pub renamed : State → IdData → List ℕ → Option DocumentPlaceData → Turn
+renamed s id new_name None = refuse s (Some id) InvalidParams
+renamed s id new_name (Some at) = record {
+  state = s;
+  replies = option_to_list (rename_reply id new_name (edits_at (root_of s.roots) s.files (workspace s.files) at new_name));
+}
+
+abbrev pub renamed_by : State → IdData → Option RenameData → Turn
+renamed_by s id None = refuse s (Some id) InvalidParams
+renamed_by s id (Some r) = renamed s id r.new_name (place_in s r.place)
+
 abbrev pub running_request : State → IdData → Option Method → Data → Turn
 running_request s id (Some Initialize) params = refuse s (Some id) InvalidRequest
 running_request s id (Some Shutdown) params = answer (enter Shut s) id null
@@ -130,6 +143,7 @@ running_request s id (Some WorkspaceDiagnostic) params = all_diagnosed s id
 running_request s id (Some WorkspaceSymbol) params = searched s id (query_of params)
 running_request s id (Some Definition) params = defined s id (option_and_then (place_in s) (place_of params))
 running_request s id (Some References) params = referred_by s id (reference_of params)
+running_request s id (Some Rename) params = renamed_by s id (rename_of params)
 running_request s id _ params = refuse s (Some id) MethodNotFound
 
 abbrev pub first_request : State → IdData → Option Method → Turn

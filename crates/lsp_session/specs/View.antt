@@ -4,14 +4,13 @@ use Rattle.std.specs.declared.alloc.Global.{Global}
 use Rattle.lsp_rpc.specs.Message.{message_view}
 use Rattle.workspace_uri.specs.View.{root_text}
 use Rattle.lsp_session.specs.Core.{CoreState}
-use Rattle.lsp_workspace.specs.View.{files_view}
 use Rattle.lsp_session.specs.Session.{State}
 use Rattle.lsp_config.specs.declared.fault.CoreFault.{CoreFault}
 use Rattle.lsp_session.specs.declared.session.Session.{Session}
 use Rattle.lsp_session.specs.declared.session_core.Core.{Core}
 
 abbrev pub state_of : Session → State
-state_of s = record { roots = root_text s.root ∷ []; phase = s.phase; files = files_view s.files.entries }
+state_of s = record { roots = root_text s.root ∷ []; phase = s.phase; files = s.workspace.files }
 
 abbrev pub core_state : Core → CoreState
 core_state core = record { state = state_of core.session; queue = map message_view core.queue.items }

@@ -1,5 +1,6 @@
 // What is replied about names, by functions of the files, the root and the analysis.
-ghost use Rattle.std.specs.Prelude.{◌≡◌, ◌≤◌, ◌<◌, All, length, map, take, option_map, position, bytes_eq, Some, string_bytes, ◌==◌, ◌++◌, ◌+◌, if◌then◌else◌, ℕ, List, IfOk, IfSome, OnOk};
+ghost use Rattle.std.specs.Prelude.{◌≡◌, ◌≢◌, ◌≤◌, ◌<◌, All, false, length, map, take, drop, option_map, position, bytes_eq, Some, string_bytes, ◌==◌, ◌++◌, ◌+◌, if◌then◌else◌, ℕ, List, Ok, Err, IfOk, IfErr, IfSome, OnOk};
+ghost use Rattle.std.specs.List.{slice_get};
 ghost use Rattle.doc_text.specs.Positions.{position_of};
 ghost use Rattle.lsp_queries.specs.Answers as answers;
 ghost use Rattle.lsp_queries.specs.Files.{place, decl_of};
@@ -7,6 +8,7 @@ ghost use Rattle.serde_json.specs.Written.{compact_text};
 ghost use Rattle.lsp_rpc.specs.Location.{document_locations, all_locations, locations_or_null};
 ghost use Rattle.lsp_rpc.specs.Message.{id_view};
 ghost use Rattle.lsp_rpc.specs.Reply.{result_reply};
+ghost use Rattle.lsp_rpc.specs.WorkspaceEdit.{document_ranges};
 ghost use Rattle.lsp_rpc.specs.Symbol.{symbol_view, document_symbols, all_symbols, symbols_value};
 ghost use Rattle.lsp_workspace.specs.View.{files_view};
 ghost use Rattle.work_index.specs.Pieces.{workspace_of};
@@ -18,10 +20,10 @@ ghost use Rattle.lsp_session.specs.AnswerViews.{found_view, place_view};
 use crate::reports::uri_of;
 use doc_text::{Encoding, Position, Range, positions_of};
 use file_facts::{Decl, DeclKind, text_at};
-use lsp_queries::{Place, decl_of, definition, references, symbols};
+use lsp_queries::{Place, RenameFault, decl_of, definition, references, rename, symbols};
 use lsp_rpc::{
-    DocumentRanges, DocumentSymbols, Id, Symbol, SymbolKind, locations_reply, null_reply,
-    symbols_reply,
+    DocumentRanges, DocumentSymbols, ErrorCode, Id, RenameRefusal, Symbol, SymbolKind, error_reply,
+    locations_reply, null_reply, rename_reply, symbols_reply,
 };
 use lsp_workspace::{self as files, Files, Snapshot};
 use proto_resolve::DeclRef;
@@ -185,6 +187,7 @@ fn ranges_of(alloc: Global, text: &str, places: &[Place]) -> Result<Vec<Range>, 
 fn count_in(places: &[Place], file: usize) -> usize
     ensures within { result ≤ length places.now }
     ensures all { All (λ p. p.file ≡ file) (take result places.now) }
+    ensures end { IfSome (slice_get places.now result) (λ p. (p.file == file) ≡ false) }
 {
     for (number, place) in places.iter().enumerate() {
         if place.file != file {
@@ -267,6 +270,29 @@ fn places_reply(
     }
 }
 
+// Why a rename is refused, unless memory was refused.
+fn refusal_of(fault: RenameFault) -> Option<RenameRefusal>
+    ensures { result ≡ spec.refusal_of fault }
+{
+    match fault {
+        RenameFault::NoSymbol => Some(RenameRefusal::NoSymbol),
+        RenameFault::NotRenamable => Some(RenameRefusal::NotRenamable),
+        RenameFault::BadName => Some(RenameRefusal::BadName),
+        RenameFault::NameTaken => Some(RenameRefusal::NameTaken),
+        RenameFault::Memory => None,
+    }
+}
+
+// The reply that refuses a rename.
+fn refused_reply(alloc: Global, id: &Id, fault: RenameFault) -> Result<Vec<u8>, AllocError>
+    ensures { IfOk result (λ body. Some body.items ≡ option_map compact_text (spec.refused_rename (id_view id.now) fault)) }
+{
+    match refusal_of(fault) {
+        Some(refusal) => error_reply(alloc, Some(id), ErrorCode::RenameRefused(refusal)),
+        None => Err(AllocError),
+    }
+}
+
 impl<'s> Known<'s> {
     // The path of a file.
     fn path_of(&self, file: usize) -> &'s str
@@ -309,7 +335,8 @@ impl<'s> Known<'s> {
     // The ranges of places, which are all in one file.
     fn ranges_in(&self, file: usize, places: &[Place]) -> Result<DocumentRanges, AllocError>
         requires { All (λ p. p.file ≡ file) places.now }
-        ensures { IfOk result (λ d. document_locations d ≡ map (spec.location_of (root_text self.now.root.now) (files_view self.now.files.now.entries) self.now.snapshot.now) places.now) }
+        ensures locations { IfOk result (λ d. document_locations d ≡ map (spec.location_of (root_text self.now.root.now) (files_view self.now.files.now.entries) self.now.snapshot.now) places.now) }
+        ensures document { IfOk result (λ d. document_ranges d ≡ spec.document_of (root_text self.now.root.now) (files_view self.now.files.now.entries) self.now.snapshot.now (file, places.now)) }
     {
         let ranges = ranges_of(self.alloc, self.text_of(file), places)?;
         let uri = self.uri_at(file)?;
@@ -343,16 +370,19 @@ impl<'s> Known<'s> {
         ensures some { IfOk result (λ n. 0 < n) }
         ensures within { IfOk result (λ n. n ≤ length places.now) }
         ensures added { IfOk result (λ n. all_locations documents.new.items ≡ all_locations documents.old.items ++ map (spec.location_of (root_text self.now.root.now) (files_view self.now.files.now.entries) self.now.snapshot.now) (take n places.now)) }
+        ensures documents { IfOk result (λ n. map document_ranges documents.new.items ++ spec.documents_of (root_text self.now.root.now) (files_view self.now.files.now.entries) self.now.snapshot.now (drop n places.now) ≡ map document_ranges documents.old.items ++ spec.documents_of (root_text self.now.root.now) (files_view self.now.files.now.entries) self.now.snapshot.now places.now) }
     {
         let file = places[0].file;
         let count = 1 + count_in(&places[1..], file);
-        documents.push(self.ranges_in(file, &places[..count])?)?;
+        let document = self.ranges_in(file, &places[..count])?;
+        documents.push(document)?;
         Ok(count)
     }
 
     // The ranges of places, file by file.
     fn all_ranges(&self, places: &[Place]) -> Result<Vec<DocumentRanges>, AllocError>
-        ensures { IfOk result (λ documents. all_locations documents.items ≡ map (spec.location_of (root_text self.now.root.now) (files_view self.now.files.now.entries) self.now.snapshot.now) places.now) }
+        ensures locations { IfOk result (λ documents. all_locations documents.items ≡ map (spec.location_of (root_text self.now.root.now) (files_view self.now.files.now.entries) self.now.snapshot.now) places.now) }
+        ensures documents { IfOk result (λ documents. map document_ranges documents.items ≡ spec.documents_of (root_text self.now.root.now) (files_view self.now.files.now.entries) self.now.snapshot.now places.now) }
     {
         let mut documents = Vec::new(self.alloc);
         let mut done = 0;
@@ -465,5 +495,43 @@ impl<'s> Known<'s> {
         let found = self.references_at(at, include_declaration)?;
         let body = places_reply(self.alloc, id, found)?;
         Ok(body)
+    }
+
+    // The ranges that get another name, document by document.
+    fn edits_at(
+        &self,
+        at: &DocumentPlace,
+        new_name: &str,
+    ) -> Result<Vec<DocumentRanges>, RenameFault>
+        ensures edits { IfOk result (λ documents. spec.edits_at (root_text self.now.root.now) (files_view self.now.files.now.entries) self.now.snapshot.now (place_view at.now) new_name.now ≡ Ok (map document_ranges documents.items)) }
+        ensures refused { IfErr result (λ fault. fault ≢ RenameFault.Memory → spec.edits_at (root_text self.now.root.now) (files_view self.now.files.now.entries) self.now.snapshot.now (place_view at.now) new_name.now ≡ Err fault) }
+    {
+        let Some(file) = self.number_of(at.path.as_str()) else {
+            return Err(RenameFault::NoSymbol);
+        };
+        let edits = rename(
+            self.alloc,
+            self.snapshot.analysis(),
+            file,
+            at.offset,
+            new_name,
+        )?;
+        let documents = self.all_ranges(edits.places.as_slice())?;
+        Ok(documents)
+    }
+
+    /// The reply to `textDocument/rename`.
+    pub fn rename_reply(
+        &self,
+        id: &Id,
+        at: &DocumentPlace,
+        new_name: &str,
+    ) -> Result<Vec<u8>, AllocError>
+        ensures { IfOk result (λ body. Some body.items ≡ option_map compact_text (spec.rename_reply (id_view id.now) new_name.now (spec.edits_at (root_text self.now.root.now) (files_view self.now.files.now.entries) self.now.snapshot.now (place_view at.now) new_name.now))) }
+    {
+        match self.edits_at(at, new_name) {
+            Ok(documents) => rename_reply(self.alloc, id, documents, new_name),
+            Err(fault) => refused_reply(self.alloc, id, fault),
+        }
     }
 }

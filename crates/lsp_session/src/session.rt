@@ -1,15 +1,18 @@
 // The session: one message after the other.
-ghost use Rattle.std.specs.Prelude.{◌≡◌, Some, IfOk, OnOk, option_map, option_and_then, map, string_bytes};
+ghost use Rattle.std.specs.Prelude.{◌≡◌, Some, IfOk, OnOk, IsTrue, option_map, option_and_then, map, string_bytes};
 ghost use Rattle.std.specs.Option.{option_to_list};
 ghost use Rattle.serde_json.specs.View.{view};
 ghost use Rattle.serde_json.specs.Written.{compact_text};
 ghost use Rattle.lsp_rpc.specs.Message.{id_view, message_view};
 ghost use Rattle.lsp_rpc.specs.Params.{opened_of, changed_of};
 ghost use Rattle.lsp_rpc.specs.Diagnostic.{diagnostic_view};
-ghost use Rattle.lsp_rpc.specs.RequestParams.{query_of, place_of, reference_of};
+ghost use Rattle.lsp_rpc.specs.RequestParams.{query_of, place_of, reference_of, rename_of};
 ghost use Rattle.lsp_rpc.specs.RequestParams as wire;
 ghost use Rattle.lsp_workspace.specs.Files.{text_at, workspace};
-ghost use Rattle.lsp_session.specs.Reports.{document_diagnostics};
+ghost use Rattle.lsp_workspace.specs.View.{files_view};
+ghost use Rattle.workspace_uri.specs.View.{root_text};
+ghost use Rattle.lsp_rpc.specs.Workspace.{document_view};
+ghost use Rattle.lsp_session.specs.Reports.{document_diagnostics, workspace_reports as reports_of};
 ghost use Rattle.lsp_rpc.specs.Reply as reply;
 ghost use Rattle.lsp_session.specs.AnswerViews.{place_view};
 ghost use Rattle.lsp_session.specs.Session as spec;
@@ -21,11 +24,11 @@ use crate::reports::{document_diagnostics, workspace_reports};
 use doc_text::{Encoding, Text};
 use lsp_config::Config;
 use lsp_rpc::{
-    Diagnostic, DidChangeParams, DidOpenParams, DocumentPosition, ErrorCode, Id, Message, Method,
-    ReferenceParams, document_uri, error_reply, initialize_reply, null_reply, report_reply,
-    symbol_query, workspace_reply,
+    Diagnostic, DidChangeParams, DidOpenParams, DocumentPosition, DocumentReport, ErrorCode, Id,
+    Message, Method, ReferenceParams, RenameParams, document_uri, error_reply, initialize_reply,
+    null_reply, report_reply, symbol_query, workspace_reply,
 };
-use lsp_workspace::{self as files, Document, Edits, Files, Snapshot, snapshot_of};
+use lsp_workspace::{self as files, Document, Edits, Workspace};
 use serde_json::Value;
 use std::alloc::{AllocError, Global};
 use workspace_uri::Root;
@@ -36,9 +39,7 @@ pub struct Session {
     alloc: Global,
     root: Root,
     phase: Phase,
-    files: Files,
-    // The work on the files, as far as it was done.
-    snapshot: Option<Snapshot>,
+    workspace: Workspace,
 }
 
 impl Session {
@@ -49,13 +50,12 @@ impl Session {
         ensures { IfOk result (λ s. state_of s ≡ spec.start config) }
     {
         let (root, disk_files) = config.into_parts();
-        let files = files::from_disk(alloc, disk_files)?;
+        let workspace = Workspace::from_disk(alloc, disk_files)?;
         Ok(Session {
             alloc,
             root,
             phase: Phase::Uninitialized,
-            files,
-            snapshot: None,
+            workspace,
         })
     }
 
@@ -88,7 +88,7 @@ impl Session {
     fn open_or_disk_text(&self, path: &str) -> Option<&Text>
         ensures { option_map (λ t. t.now) result ≡ text_at path.now (state_of self.now).files }
     {
-        files::get(&self.files, path)?.text()
+        files::get(self.workspace.files(), path)?.text()
     }
 
     fn open(&mut self, params: Value) -> Result<(), AllocError>
@@ -103,7 +103,7 @@ impl Session {
                     version: opened.version,
                     text: Text::new(opened.text),
                 };
-                files::open(&mut self.files, path, opened.uri, document)
+                self.workspace.open(path, opened.uri, document)
             }
             None => Ok(()),
         }
@@ -124,7 +124,7 @@ impl Session {
                     version: changed.document.version,
                     changes: changed.changes,
                 };
-                files::change(&mut self.files, path.as_str(), edits)
+                self.workspace.change(path.as_str(), edits)
             }
             None => Ok(()),
         }
@@ -134,7 +134,7 @@ impl Session {
         ensures { OnOk result (state_of self.new ≡ spec.saved (state_of self.old) (view params.now)) }
     {
         match self.path_in(params)? {
-            Some(path) => files::save(self.alloc, &mut self.files, path.as_str()),
+            Some(path) => self.workspace.save(self.alloc, path.as_str()),
             None => Ok(()),
         }
     }
@@ -143,35 +143,32 @@ impl Session {
         ensures { OnOk result (state_of self.new ≡ spec.closed (state_of self.old) (view params.now)) }
     {
         if let Some(path) = self.path_in(params)? {
-            files::close(&mut self.files, path.as_str());
+            self.workspace.close(path.as_str());
         }
         Ok(())
     }
 
-    // What is wrong in the document of a path, which has this text, in the workspace, which is linked.
-    fn found_in(
-        &self,
-        snapshot: &Snapshot,
-        path: &str,
-        text: &Text,
-    ) -> Result<Vec<Diagnostic<'static>>, AllocError>
-        requires { snapshot.now ≡ workspace (state_of self.now).files }
+    // ---- diagnostics
+
+    // What is wrong in the document of a path, which has this text.
+    fn found_in(&self, path: &str, text: &Text) -> Result<Vec<Diagnostic<'static>>, AllocError>
+        requires { IsTrue self.now.workspace.is_current }
         ensures { IfOk result (λ found. map diagnostic_view found.items ≡ document_diagnostics (state_of self.now).files path.now text.now) }
     {
-        let found = document_diagnostics(self.alloc, snapshot, path, text)?;
+        let found = document_diagnostics(self.alloc, self.workspace.snapshot(), path, text)?;
         Ok(found)
     }
 
-    // Replies the diagnostics of the document at a path, where it is one of the workspace, which is linked.
-    fn report(&self, snapshot: &Snapshot, id: &Id, path: &str) -> Result<Option<Reply>, AllocError>
-        requires { snapshot.now ≡ workspace (state_of self.now).files }
+    // Replies the diagnostics of the document at a path, where it is one of the workspace.
+    fn report(&self, id: &Id, path: &str) -> Result<Option<Reply>, AllocError>
+        requires { IsTrue self.now.workspace.is_current }
         ensures { IfOk result (λ r. option_to_list r ≡ map compact_text
             (spec.diagnosed (state_of self.now) (id_view id.now) (spec.document_at path.now (state_of self.now).files)).replies) }
     {
         let Some(text) = self.open_or_disk_text(path) else {
             return self.refuse(Some(id), ErrorCode::InvalidParams);
         };
-        let found = self.found_in(snapshot, path, text)?;
+        let found = self.found_in(path, text)?;
         Ok(Some(Reply::new(report_reply(self.alloc, id, found.as_slice())?)))
     }
 
@@ -183,10 +180,8 @@ impl Session {
         if self.open_or_disk_text(path).is_none() {
             return self.refuse(Some(id), ErrorCode::InvalidParams);
         }
-        let snapshot = snapshot_of(self.alloc, self.snapshot.take(), &self.files)?;
-        let reply = self.report(&snapshot, id, path)?;
-        self.snapshot = Some(snapshot);
-        Ok(reply)
+        self.workspace.refresh(self.alloc)?;
+        self.report(id, path)
     }
 
     fn diagnose(&mut self, id: &Id, params: &Value) -> Result<Option<Reply>, AllocError>
@@ -200,19 +195,43 @@ impl Session {
         }
     }
 
+    // What is wrong in all files of the workspace.
+    fn all_reports(&self) -> Result<Vec<DocumentReport<'static>>, AllocError>
+        requires { IsTrue self.now.workspace.is_current }
+        ensures { IfOk result (λ reports. map document_view reports.items ≡ reports_of (spec.root_of (state_of self.now).roots) (state_of self.now).files) }
+    {
+        let files = self.workspace.files();
+        let reports = workspace_reports(self.alloc, &self.root, files, self.workspace.snapshot())?;
+        Ok(reports)
+    }
+
     fn diagnose_all(&mut self, id: &Id) -> Result<Option<Reply>, AllocError>
         ensures state { OnOk result (state_of self.new ≡ state_of self.old) }
         ensures reply { IfOk result (λ r. option_to_list r ≡ map compact_text
             (spec.all_diagnosed (state_of self.old) (id_view id.now)).replies) }
     {
-        let snapshot = snapshot_of(self.alloc, self.snapshot.take(), &self.files)?;
-        let reports = workspace_reports(self.alloc, &self.root, &self.files, &snapshot)?;
-        let reply = Reply::new(workspace_reply(self.alloc, id, reports.as_slice())?);
-        self.snapshot = Some(snapshot);
-        Ok(Some(reply))
+        self.workspace.refresh(self.alloc)?;
+        let reports = self.all_reports()?;
+        let body = workspace_reply(self.alloc, id, reports.as_slice())?;
+        Ok(Some(Reply::new(body)))
     }
 
     // ---- names
+
+    // The files with their analysis.
+    fn known(&self) -> Known<'_>
+        requires { IsTrue self.now.workspace.is_current }
+        ensures root { root_text result.root.now ≡ spec.root_of (state_of self.now).roots }
+        ensures files { files_view result.files.now.entries ≡ (state_of self.now).files }
+        ensures snapshot { result.snapshot.now ≡ workspace (state_of self.now).files }
+    {
+        Known {
+            alloc: self.alloc,
+            root: &self.root,
+            files: self.workspace.files(),
+            snapshot: self.workspace.snapshot(),
+        }
+    }
 
     // The path of a document of the workspace, and the offset of a position in it.
     fn place_in(&self, at: DocumentPosition<'_>) -> Result<Option<DocumentPlace>, AllocError>
@@ -235,15 +254,8 @@ impl Session {
         ensures reply { IfOk result (λ r. option_to_list r ≡ map compact_text
             (spec.searched (state_of self.old) (id_view id.now) (Some query.now)).replies) }
     {
-        let snapshot = snapshot_of(self.alloc, self.snapshot.take(), &self.files)?;
-        let known = Known {
-            alloc: self.alloc,
-            root: &self.root,
-            files: &self.files,
-            snapshot: &snapshot,
-        };
-        let body = known.symbols_reply(id, query)?;
-        self.snapshot = Some(snapshot);
+        self.workspace.refresh(self.alloc)?;
+        let body = self.known().symbols_reply(id, query)?;
         Ok(Some(Reply::new(body)))
     }
 
@@ -263,15 +275,8 @@ impl Session {
         ensures reply { IfOk result (λ r. option_to_list r ≡ map compact_text
             (spec.defined (state_of self.old) (id_view id.now) (Some (place_view at.now))).replies) }
     {
-        let snapshot = snapshot_of(self.alloc, self.snapshot.take(), &self.files)?;
-        let known = Known {
-            alloc: self.alloc,
-            root: &self.root,
-            files: &self.files,
-            snapshot: &snapshot,
-        };
-        let body = known.definition_reply(id, at)?;
-        self.snapshot = Some(snapshot);
+        self.workspace.refresh(self.alloc)?;
+        let body = self.known().definition_reply(id, at)?;
         Ok(Some(Reply::new(body)))
     }
 
@@ -299,15 +304,8 @@ impl Session {
         ensures reply { IfOk result (λ r. option_to_list r ≡ map compact_text
             (spec.referred (state_of self.old) (id_view id.now) include_declaration (Some (place_view at.now))).replies) }
     {
-        let snapshot = snapshot_of(self.alloc, self.snapshot.take(), &self.files)?;
-        let known = Known {
-            alloc: self.alloc,
-            root: &self.root,
-            files: &self.files,
-            snapshot: &snapshot,
-        };
-        let body = known.references_reply(id, at, include_declaration)?;
-        self.snapshot = Some(snapshot);
+        self.workspace.refresh(self.alloc)?;
+        let body = self.known().references_reply(id, at, include_declaration)?;
         Ok(Some(Reply::new(body)))
     }
 
@@ -321,6 +319,35 @@ impl Session {
         };
         match self.place_in(asked.place)? {
             Some(at) => self.refer_at(id, &at, asked.include_declaration),
+            None => self.refuse(Some(id), ErrorCode::InvalidParams),
+        }
+    }
+
+    fn rename_at(
+        &mut self,
+        id: &Id,
+        at: &DocumentPlace,
+        new_name: &str,
+    ) -> Result<Option<Reply>, AllocError>
+        ensures state { OnOk result (state_of self.new ≡ state_of self.old) }
+        ensures reply { IfOk result (λ r. option_to_list r ≡ map compact_text
+            (spec.renamed (state_of self.old) (id_view id.now) new_name.now (Some (place_view at.now))).replies) }
+    {
+        self.workspace.refresh(self.alloc)?;
+        let body = self.known().rename_reply(id, at, new_name)?;
+        Ok(Some(Reply::new(body)))
+    }
+
+    fn rename(&mut self, id: &Id, params: &Value) -> Result<Option<Reply>, AllocError>
+        ensures state { OnOk result (state_of self.new ≡ state_of self.old) }
+        ensures reply { IfOk result (λ r. option_to_list r ≡ map compact_text
+            (spec.renamed_by (state_of self.old) (id_view id.now) (rename_of (view params.now))).replies) }
+    {
+        let Some(asked) = RenameParams::from_value(params) else {
+            return self.refuse(Some(id), ErrorCode::InvalidParams);
+        };
+        match self.place_in(asked.place)? {
+            Some(at) => self.rename_at(id, &at, asked.new_name),
             None => self.refuse(Some(id), ErrorCode::InvalidParams),
         }
     }
@@ -356,6 +383,7 @@ impl Session {
             (Phase::Running, Some(Method::WorkspaceSymbol)) => self.search(id, params),
             (Phase::Running, Some(Method::Definition)) => self.define(id, params),
             (Phase::Running, Some(Method::References)) => self.refer(id, params),
+            (Phase::Running, Some(Method::Rename)) => self.rename(id, params),
             (Phase::Running, Some(Method::Initialize)) | (Phase::Shut, _) => {
                 self.refuse(Some(id), ErrorCode::InvalidRequest)
             }

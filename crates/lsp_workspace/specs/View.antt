@@ -1,5 +1,5 @@
 -- What is kept of files, as their definitions see it.
-use Rattle.std.specs.Prelude.{ℕ, List, option_map, map, String, string_bytes}
+use Rattle.std.specs.Prelude.{ℕ, Bool, List, option_map, map, String, string_bytes}
 use Rattle.std.specs.declared.alloc.Global.{Global}
 use Rattle.lsp_workspace.specs.Files.{OpenDocument, File, Files}
 use Rattle.lsp_workspace.specs.declared.files.Document.{Document}
@@ -16,3 +16,11 @@ entry_view e = (string_bytes e.0, file_view e.1)
 
 abbrev pub files_view : List (String Global × FileEntry) → Files
 files_view es = map entry_view es
+
+-- the files of a workspace, and whether the analysis that is kept is that of these files
+pub record WorkspaceData : Type 0 where
+  pub files : Files
+  pub is_current : Bool
+
+abbrev pub workspace_data : Files → Bool → WorkspaceData
+workspace_data files is_current = record { files = files; is_current = is_current }

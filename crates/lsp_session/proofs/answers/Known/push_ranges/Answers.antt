@@ -1,6 +1,12 @@
-use Rattle.std.proofs.Common.{◌≡◌, ◌-◌, take, drop, length, get_or, refl, arith, length-drop}
+use Rattle.std.proofs.Common.{◌≡◌, ◌+◌, ◌-◌, ◌++◌, take, drop, length, map, get_or, refl, ap, ◌∙◌, arith, length-drop}
 use Rattle.std.proofs.lemmas.List.{take_all}
+use Rattle.lsp_queries.specs.declared.place.Place.{Place}
+use Rattle.lsp_workspace.specs.View.{files_view}
+use Rattle.workspace_uri.specs.View.{root_text}
+use Rattle.lsp_session.specs.Answers.{by_file, document_of}
+use Rattle.lsp_rpc.specs.WorkspaceEdit.{document_ranges}
 use Rattle.lsp_session.proofs.AnswersLemmas.{all-first}
+use Rattle.lsp_session.proofs.ByFileLemmas.{first_run, one_more}
 use Rattle.lsp_session.proofs.answers.Known.push_ranges.Goals as goal
 
 pub ranges_in-requires : goal.ranges_in-requires
@@ -9,3 +15,16 @@ ranges_in-requires c =
     let first = get_or items 0 (record { file = 0; start = 0; «end» = 0 }) in
     let rest : take (length items - 1) (drop 1 items) ≡ drop 1 items = take_all _ _ (omega (arith, length-drop 1 items)) in
     all-first (λ p. p.file ≡ first.file) items c.count_in-count.result (record { file = 0; start = 0; «end» = 0 }) c.requires refl (rw rest at c.count_in-count.ensures.all)
+
+pub returns-clause-documents : goal.returns-clause-documents
+returns-clause-documents c =
+    let known = c.args.self.now in
+    let items = c.args.places.now in
+    let any : Place = record { file = 0; start = 0; «end» = 0 } in
+    let n = c.count_in-count.result in
+    let f = document_of (root_text known.root.now) (files_view known.files.now.entries) known.snapshot.now in
+    let rest : take (length items - 1) (drop 1 items) ≡ drop 1 items = take_all _ _ (omega (arith, length-drop 1 items)) in
+    let cut = first_run items n any c.requires (rw rest at c.count_in-count.ensures.all) (rw rest at c.count_in-count.ensures.end) in
+    let left = by_file (drop (1 + n) items) in
+    ap (λ ds. map document_ranges ds ++ map f left) c.in_ok-push.ensures.items
+    ∙ one_more document_ranges f c.args.documents.now.items c.in_ok-document.document ((get_or items 0 any).file, take (1 + n) items) left (by_file items) c.in_ok-document.ensures.document cut

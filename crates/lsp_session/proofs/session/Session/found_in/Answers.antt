@@ -7,4 +7,4 @@ use Rattle.lsp_session.proofs.session.Session.found_in.Goals as goal
 pub returns : goal.returns
 returns c =
     let P : Workspace → Type 0 = λ w. map diagnostic_view c.in_ok-found.found.items ≡ placed c.args.text.now (diags_at (analysis w) c.args.path.now) in
-    subst P c.requires c.in_ok-found.ensures
+    subst P c.snapshot.ensures c.in_ok-found.ensures

@@ -1,0 +1,70 @@
+-- Another name for a declaration.
+use Rattle.std.specs.Prelude.{ℕ, ◌==◌, ◌&&◌, ◌||◌, not, List, [], ◌∷◌, Bool, false, Option, Some, None, IsSome, IsTrue, Result, Ok, Err, if◌then◌else◌}
+use Rattle.std.specs.List.{enumerate_from, list_all, list_any}
+use Rattle.std.specs.Option.{option_map_or}
+use Rattle.proto_lex.specs.Bytes.{is_letter, is_name_byte}
+use Rattle.file_facts.specs.Text.{joined}
+use Rattle.proto_resolve.specs.declared.target.DeclRef.{DeclRef}
+use Rattle.proto_resolve.specs.Files.{dot, is_within}
+use Rattle.work_index.specs.Workspace.{AnalysisData, decls_named}
+use Rattle.lsp_queries.specs.Answers.{sites_of}
+use Rattle.lsp_queries.specs.Files.{decl_of, package_in, place_of}
+use Rattle.lsp_queries.specs.Offsets.{declaration_at, symbol_at}
+use Rattle.lsp_queries.specs.declared.fault.RenameFault.{RenameFault}
+use Rattle.lsp_queries.specs.declared.fault.RenameFault.TheVariants.{NoSymbol, NotRenamable, BadName, NameTaken}
+use Rattle.lsp_queries.specs.declared.offsets.Symbol.{Symbol}
+use Rattle.lsp_queries.specs.declared.offsets.Symbol.TheVariants.{Declared, Package}
+use Rattle.lsp_queries.specs.declared.place.Place.{Place}
+
+-- ---- names
+
+-- an ASCII letter or an underscore, and then such bytes and digits alone
+abbrev pub is_identifier : List ℕ → Bool
+is_identifier [] = false
+is_identifier (b ∷ rest) = is_letter b && list_all is_name_byte rest
+
+-- the scope of a full name: what stands before its last dot; nothing where it has none
+abbrev pub scope_of : List ℕ → List ℕ
+scope_of [] = []
+scope_of (c ∷ rest) = if list_any (λ b. b == dot) rest then c ∷ scope_of rest else []
+
+-- s is another declaration than r
+abbrev pub is_other : DeclRef → DeclRef → Bool
+is_other r s = not ((s.file == r.file) && (s.number == r.number))
+
+-- ---- renaming
+
+module _ (a : AnalysisData) where
+  -- the full name that a declaration gets: its scope with the new name
+  abbrev pub new_full_name : DeclRef → List ℕ → List ℕ
+  new_full_name r new_name = joined (option_map_or (λ d. scope_of d.full_name) (decl_of a r) []) new_name
+
+  -- another declaration has the full name
+  abbrev pub is_declared : DeclRef → List ℕ → Bool
+  is_declared r full_name = list_any (is_other r) (decls_named a full_name)
+
+  abbrev pub is_package : List ℕ → Bool
+  is_package full_name = list_any (λ e. is_within full_name (package_in a e.0)) (enumerate_from 0 a.paths)
+
+  abbrev pub is_taken : DeclRef → List ℕ → Bool
+  is_taken r full_name = is_declared r full_name || is_package full_name
+
+  -- the places of a declaration's name and of all its uses, unless the new name is refused
+  abbrev pub renamed_decl : DeclRef → List ℕ → Result (List Place) RenameFault
+  renamed_decl r new_name =
+      if not (is_identifier new_name) then Err BadName
+      else (if is_taken r (new_full_name r new_name) then Err NameTaken
+      else Ok (sites_of a r (place_of a r)))
+
+  abbrev pub renamed_symbol : Option Symbol → List ℕ → Result (List Place) RenameFault
+  renamed_symbol None new_name = Err NoSymbol
+  renamed_symbol (Some Package) new_name = Err NotRenamable
+  renamed_symbol (Some (Declared r)) new_name = renamed_decl r new_name
+
+  -- what another name for the symbol at an offset changes: the first refusal that fits, else the places
+  abbrev pub renamed : ℕ → ℕ → List ℕ → Result (List Place) RenameFault
+  renamed file offset new_name = renamed_symbol (symbol_at a file offset) new_name
+
+  -- memory is taken only for a declaration whose new name is an identifier
+  abbrev pub TakesMemory : ℕ → ℕ → List ℕ → Type 0
+  TakesMemory file offset new_name = IsSome (declaration_at a file offset) × IsTrue (is_identifier new_name)

@@ -1,0 +1,36 @@
+-- Laws of the definitions of renaming.
+use Rattle.std.specs.Prelude.{◌≡◌, ◌≢◌, ◌↔◌, ◌⊎◌, ℕ, ◌<◌, List, true, length, Contains}
+use Rattle.proto_lex.specs.declared.token.Kind.TheVariants.{Ident}
+use Rattle.proto_lex.specs.Forms.{IsForm}
+use Rattle.file_facts.specs.Nesting.{IsWithin}
+use Rattle.file_facts.specs.Text.{joined}
+use Rattle.proto_resolve.specs.declared.target.DeclRef.{DeclRef}
+use Rattle.proto_resolve.specs.Files.{dot}
+use Rattle.work_index.specs.Workspace.{AnalysisData, decl_in}
+use Rattle.lsp_queries.specs.Files.{package_in}
+use Rattle.lsp_queries.specs.Renaming.{is_identifier, is_taken, scope_of}
+
+-- an identifier is what has the form of a name from its first byte to its last
+abbrev pub IdentifierFormLaw : Type 0
+IdentifierFormLaw = (name : List ℕ) → (is_identifier name ≡ true) ↔ IsForm Ident name
+
+-- the scope of a full name is the one that its last component was joined to
+abbrev pub FullNameScopeLaw : Type 0
+FullNameScopeLaw = (scope name : List ℕ) → ¬ Contains name dot → scope_of (joined scope name) ≡ scope
+
+-- another declaration than r has the full name
+pub record HasAnother (a : AnalysisData) (r : DeclRef) (full_name : List ℕ) : Type 0 where
+  pub another : DeclRef
+  pub listed : Contains a.decls another
+  pub other : another ≢ r
+  pub named : (let found = decl_in a.facts another in found.full_name) ≡ full_name
+
+-- the package of a file is the full name, or lies in it
+pub record IsPackage (a : AnalysisData) (full_name : List ℕ) : Type 0 where
+  pub file : ℕ
+  pub there : file < length a.paths
+  pub within : IsWithin full_name (package_in a file)
+
+-- a full name is taken exactly if another declaration has it or it is a package
+abbrev pub TakenLaw : Type 0
+TakenLaw = (a : AnalysisData) (r : DeclRef) (full_name : List ℕ) → (is_taken a r full_name ≡ true) ↔ (HasAnother a r full_name ⊎ IsPackage a full_name)

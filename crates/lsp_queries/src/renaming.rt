@@ -1,0 +1,178 @@
+// Another name for a declaration.
+ghost use Rattle.std.specs.Prelude.{◌≡◌, ◌≢◌, Ok, Err, IsTrue, IfOk, IfErr, string_bytes};
+ghost use Rattle.proto_resolve.specs.Files as files;
+ghost use Rattle.lsp_queries.specs.Files.{package_in};
+ghost use Rattle.lsp_queries.specs.Renaming.{is_identifier, scope_of, is_other, new_full_name, is_declared, is_package, is_taken, renamed_decl, renamed, TakesMemory};
+
+use crate::fault::RenameFault;
+use crate::files::{decl_of, place_of};
+use crate::offsets::{Symbol, symbol_at};
+use crate::place::Place;
+use crate::referring::sites_of;
+use file_facts::{Name, joined};
+use import_graph::FileNo;
+use proto_resolve::DeclRef;
+use std::alloc::{AllocError, Global};
+use work_index::Analysis;
+
+/// The edits that give a declaration another name: what stands at each of the places becomes the new name.
+#[derive(Debug, Drop)]
+pub struct Edits {
+    /// Where the declaration's name stands, and where it is used, by path, then offset.
+    pub places: Vec<Place>,
+    /// The new name.
+    pub new_name: String,
+}
+
+// Whether a text is an identifier.
+fn is_identifier(name: &str) -> bool
+    ensures { result ≡ is_identifier name.now }
+{
+    proto_lex::is_identifier(name)
+}
+
+// What stands before the last dot of a full name, nothing where there is none.
+fn scope_of(full_name: &str) -> &str
+    ensures { result.now ≡ scope_of full_name.now }
+{
+    match full_name.rsplit_once('.') {
+        Some((scope, _)) => scope,
+        None => "",
+    }
+}
+
+// The full name that a declaration gets with a new name.
+fn new_full_name(
+    alloc: Global,
+    analysis: &Analysis,
+    decl: DeclRef,
+    new_name: &str,
+) -> Result<Name, AllocError>
+    ensures { IfOk result (λ full_name. full_name ≡ new_full_name analysis.now decl new_name.now) }
+{
+    let scope = match decl_of(analysis, decl) {
+        Some(decl) => scope_of(decl.full_name.as_str()),
+        None => "",
+    };
+    joined(alloc, scope, new_name)
+}
+
+fn is_other(decl: DeclRef, found: DeclRef) -> bool
+    ensures { result ≡ is_other decl found }
+{
+    !(found.file == decl.file && found.number == decl.number)
+}
+
+// Whether another declaration has the full name.
+fn is_declared(analysis: &Analysis, decl: DeclRef, full_name: &str) -> bool
+    ensures { result ≡ is_declared analysis.now decl full_name.now }
+{
+    analysis
+        .decls_named(full_name)
+        .iter()
+        .any(|found| is_other(decl, *found))
+}
+
+fn ends_component(rest: &[u8]) -> bool
+    ensures { result ≡ files.ends_component rest.now }
+{
+    match rest {
+        [] => true,
+        [c, ..] => *c == b'.',
+    }
+}
+
+// Whether the first components of a full name are these.
+fn begins(full_name: &[u8], name: &[u8]) -> bool
+    ensures { result ≡ files.begins full_name.now name.now }
+{
+    full_name.starts_with(name) && ends_component(&full_name[name.len()..])
+}
+
+// Whether the package of a file is the full name, or lies in it.
+fn has_package(analysis: &Analysis, file: FileNo, full_name: &str) -> bool
+    ensures { result ≡ files.is_within full_name.now (package_in analysis.now file) }
+{
+    if file >= analysis.files().len() {
+        return false;
+    }
+    match &analysis.facts(file).package {
+        Some(package) => begins(package.full_name.as_str().as_bytes(), full_name.as_bytes()),
+        None => false,
+    }
+}
+
+// Whether that is so of any file.
+fn is_package(analysis: &Analysis, full_name: &str) -> bool
+    ensures { result ≡ is_package analysis.now full_name.now }
+{
+    analysis
+        .files()
+        .iter()
+        .enumerate()
+        .any(|(file, _)| has_package(analysis, file, full_name))
+}
+
+// Whether the full name of a declaration with a new name is that of another declaration, or of a package.
+fn is_taken(
+    alloc: Global,
+    analysis: &Analysis,
+    decl: DeclRef,
+    new_name: &str,
+) -> Result<bool, AllocError>
+    ensures { IfOk result (λ taken. taken ≡ is_taken analysis.now decl (new_full_name analysis.now decl new_name.now)) }
+{
+    let full_name = new_full_name(alloc, analysis, decl, new_name)?;
+    let full_name = full_name.as_str();
+    Ok(is_declared(analysis, decl, full_name) || is_package(analysis, full_name))
+}
+
+// The edits that give the declaration the new name.
+fn rename_decl(
+    alloc: Global,
+    analysis: &Analysis,
+    decl: DeclRef,
+    new_name: &str,
+) -> Result<Edits, RenameFault>
+    ensures places { IfOk result (λ edits. renamed_decl analysis.now decl new_name.now ≡ Ok edits.places.items) }
+    ensures name { IfOk result (λ edits. string_bytes edits.new_name ≡ new_name.now) }
+    ensures refused { IfErr result (λ fault. fault ≢ RenameFault.Memory → renamed_decl analysis.now decl new_name.now ≡ Err fault) }
+    ensures memory { IfErr result (λ fault. fault ≡ RenameFault.Memory → IsTrue (is_identifier new_name.now)) }
+{
+    if !is_identifier(new_name) {
+        return Err(RenameFault::BadName);
+    }
+    if is_taken(alloc, analysis, decl, new_name)? {
+        return Err(RenameFault::NameTaken);
+    }
+    Ok(Edits {
+        places: sites_of(alloc, analysis, decl, place_of(analysis, decl))?,
+        new_name: String::from_str(alloc, new_name)?,
+    })
+}
+
+/// The edits that give a new name to the declaration that the name at a byte offset of a file stands for: they change the
+/// declaration's name and every use of it, in all files, by path, then offset.
+///
+/// # Errors
+///
+/// The first that fits of `NoSymbol`, `NotRenamable`, `BadName` and `NameTaken`. `Memory` comes only where memory was refused,
+/// and none is asked for where one of the first three fits.
+pub fn rename(
+    alloc: Global,
+    analysis: &Analysis,
+    file: FileNo,
+    offset: usize,
+    new_name: &str,
+) -> Result<Edits, RenameFault>
+    ensures places { IfOk result (λ edits. renamed analysis.now file offset new_name.now ≡ Ok edits.places.items) }
+    ensures name { IfOk result (λ edits. string_bytes edits.new_name ≡ new_name.now) }
+    ensures refused { IfErr result (λ fault. fault ≢ RenameFault.Memory → renamed analysis.now file offset new_name.now ≡ Err fault) }
+    ensures memory { IfErr result (λ fault. fault ≡ RenameFault.Memory → TakesMemory analysis.now file offset new_name.now) }
+{
+    match symbol_at(analysis, file, offset) {
+        None => Err(RenameFault::NoSymbol),
+        Some(Symbol::Package) => Err(RenameFault::NotRenamable),
+        Some(Symbol::Declared(decl)) => rename_decl(alloc, analysis, decl, new_name),
+    }
+}

@@ -1,0 +1,26 @@
+// Laws of the places of a declaration. Each is proved for all workspaces, and its function does nothing.
+ghost use Rattle.query_laws.specs.PlaceLaws.{PlacesAreApart, PlacesAscend, PlacesLieInTheTexts};
+
+use analysis_laws::uses_in_order;
+use syntax_laws::{identifiers_law, names_apart, size_law};
+
+/// A law: the places of a declaration, those of its uses and its own if that is asked for, come by file, then offset, and none of
+/// them is there twice.
+pub fn places_in_order()
+    ensures { PlacesAscend }
+{
+    names_apart();
+    uses_in_order();
+}
+
+/// A law: of two places of a declaration in one file the first ends before the second starts, with a byte at least between them.
+/// Where the texts are UTF-8 each has a byte or more, all of them in the text of its file.
+pub fn places_apart()
+    ensures apart { PlacesAreApart }
+    ensures within { PlacesLieInTheTexts }
+{
+    identifiers_law();
+    names_apart();
+    size_law();
+    uses_in_order();
+}

@@ -1,0 +1,65 @@
+-- The documents of a rename.
+use Rattle.std.proofs.Common.{◌≡◌, ◌∙◌, inl, inr, ℕ, ◌≤◌, true, List, [], ◌∷◌, get_or, map, Option, Some, None, Ok, Err, refl, sym, ap, subst, arith, IsUtf8}
+use Rattle.std.specs.Prelude.{All, Result}
+use Rattle.std.specs.List.{AllPairs}
+use Rattle.std.specs.Option.{option_map_or}
+use Rattle.doc_text.specs.declared.position.Range.{Range}
+use Rattle.lsp_queries.specs.declared.fault.RenameFault.{RenameFault}
+use Rattle.lsp_queries.specs.declared.fault.RenameFault.TheVariants as fault
+use Rattle.lsp_queries.specs.declared.place.Place.{Place}
+use Rattle.lsp_queries.specs.Offsets.{symbol_at}
+use Rattle.lsp_queries.specs.Renaming.{renamed}
+use Rattle.lsp_session.specs.Answers.{DocumentPlaceData, by_file, documents_of, edits_of, number_of}
+use Rattle.lsp_workspace.specs.Files.{Files}
+use Rattle.query_laws.specs.EditLaws.{RenamesChangeTheNames, change_of, changed_from_the_last, range_of, respelled}
+use Rattle.query_laws.specs.PlaceLaws.{IsBefore, PlacesAscend, places_of, text_in}
+use Rattle.query_laws.proofs.Renames.{renamed-places}
+use Rattle.session_laws.specs.DocumentLaws.{AreRespelled, GroupsAreTheFiles, RenamesRespellDocuments, changes_with}
+use Rattle.work_index.specs.Workspace.{Workspace, analysis}
+
+not_after : (p q : Place) → IsBefore p q → p.file ≤ q.file
+not_after p q (inl lt) = omega arith
+not_after p q (inr h) = let same = h.0 in omega (arith, same)
+
+changes-are : (name text : List ℕ) (places : List Place) → changes_with name (map (range_of text) places) ≡ map (change_of name text) places
+changes-are name text [] = refl
+changes-are name text (p ∷ more) = ap (λ l. change_of name text p ∷ l) (changes-are name text more)
+
+module _ (group : GroupsAreTheFiles) (ascend : PlacesAscend) (change : RenamesChangeTheNames) (root : List ℕ) (files : Files) (w : Workspace) (at : DocumentPlaceData) (new_name : List ℕ) (documents : List (List ℕ × List Range)) (utf8 : All (λ file. IsUtf8 file.1) w) where
+  of_places : (asked : ℕ) (places : List Place) → number_of w at.path ≡ Some asked → renamed (analysis w) asked at.offset new_name ≡ Ok places → documents_of root files w places ≡ documents → AreRespelled root files w at new_name documents
+  of_places asked places named is are =
+      let rename = renamed-places w (symbol_at (analysis w) asked at.offset) new_name places is in
+      let all = places_of w rename.1 true in
+      let order : AllPairs (λ p q. p.file ≤ q.file) places =
+      subst (AllPairs (λ p q. p.file ≤ q.file)) rename.2 (λ i j d lt inside. not_after (get_or all i d) (get_or all j d) (ascend w rename.1 true i j d lt inside)) in
+      let groups = group places order in
+      record {
+        asked = asked;
+        named = named;
+        places = places;
+        answered = is;
+        groups = by_file places;
+        are = sym are;
+        by_files = groups;
+        edited = λ k d lt. let g = get_or (by_file places) k d in
+            let own = groups.each k d lt in
+            let text = text_in w g.0 in record {
+              all_places = own;
+              edits = ap (λ changes. changed_from_the_last changes text) (changes-are new_name text g.1)
+                  ∙ ap (λ here. changed_from_the_last (map (change_of new_name text) here) text) own
+                  ∙ change w asked at.offset new_name places g.0 utf8 is
+                  ∙ ap (respelled new_name text) (sym own);
+            };
+      }
+
+  of_result : (asked : ℕ) (r : Result (List Place) RenameFault) → number_of w at.path ≡ Some asked → renamed (analysis w) asked at.offset new_name ≡ r → edits_of root files w r ≡ Ok documents → AreRespelled root files w at new_name documents
+  of_result asked (Ok places) named is given = of_places asked places named is (cc (given))
+  of_result asked (Err why) named is given = absurd (cc (given))
+
+pub documents-respelled : GroupsAreTheFiles → PlacesAscend → RenamesChangeTheNames → RenamesRespellDocuments
+documents-respelled group ascend change root files w at new_name documents utf8 given = by (number_of w at.path) refl given
+  where
+    by : (o : Option ℕ) → number_of w at.path ≡ o → edits_of root files w (option_map_or (λ file. renamed (analysis w) file at.offset new_name) o (Err fault.NoSymbol)) ≡ Ok documents → AreRespelled root files w at new_name documents
+    by None named given = absurd (cc (given))
+    by (Some asked) named given =
+        of_result group ascend change root files w at new_name documents utf8 asked (renamed (analysis w) asked at.offset new_name) named refl given
