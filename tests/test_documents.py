@@ -1,6 +1,7 @@
 """Tests of the documents: their links, the parts that are generated, and plain words. They need no built program."""
 import pathlib
 import re
+import shutil
 import subprocess
 import sys
 import unittest
@@ -116,6 +117,15 @@ class Documents(unittest.TestCase):
             for one in words.split(", "):
                 with self.subTest(number=number, words=one):
                     self.assertIn(f'=> "{one}"', code)
+
+
+class Layout(unittest.TestCase):
+    def test_the_sources_are_laid_out_by_the_kit(self):
+        rattle = pathlib.Path(shutil.which("rt")).resolve().parent / "rattle"
+        files = [it for ending in ("rt", "antt") for part in ("src", "specs", "proofs") for it in sorted(ROOT.glob(f"crates/*/{part}/**/*.{ending}"))]
+        self.assertTrue(files)
+        ended = subprocess.run([rattle, "fmt", "--check", *files], stdin=subprocess.DEVNULL, capture_output=True, text=True)
+        self.assertEqual((ended.returncode, ended.stdout + ended.stderr), (0, ""))
 
 
 class Generated(unittest.TestCase):

@@ -12,8 +12,8 @@ invariant-places l = record {
   added : all_locations l.documents.items ≡ map (location_of (root_text l.self.root.now) (files_view l.self.files.now.entries) l.self.snapshot.now) (take l.done l.places);
   within : l.done ≤ length l.places;
   documents :
-    let documents_of = documents_of (root_text l.self.root.now) (files_view l.self.files.now.entries) l.self.snapshot.now in
-    map document_ranges l.documents.items ++ documents_of (drop l.done l.places) ≡ documents_of l.places;
+      let documents_of = documents_of (root_text l.self.root.now) (files_view l.self.files.now.entries) l.self.snapshot.now in
+      map document_ranges l.documents.items ++ documents_of (drop l.done l.places) ≡ documents_of l.places;
 }
 
 abbrev pub decreases-places : goal.decreases-places
