@@ -1,3 +1,4 @@
 pub mod DiagOrder
 pub mod ProblemOrder
 pub mod Ordered
+pub mod PairLemmas

@@ -5,6 +5,7 @@ pub mod Problems
 pub mod Order
 pub mod Diags
 pub mod Decls
+pub mod BytePairs
 pub mod Members
 pub mod Checks
 pub mod Facts

@@ -1,6 +1,7 @@
 // What a text says by itself.
 ghost use Rattle.std.specs.Prelude.{◌≡◌, IfOk};
 
+use crate::decls::Decls;
 use crate::diagnostic::Diag;
 use crate::name::Name;
 use sqlite_items::Items;
@@ -83,10 +84,11 @@ pub struct FileFacts {
     /// The imports, in the order of the text.
     pub imports: Items<ImportFact>,
     /// The declarations, in the order of the text: each one is followed by those inside it.
-    pub decls: Items<Decl>,
+    pub decls: Decls,
     /// The diagnostics 201 to 318, each once, by start, end, number and words.
     pub diags: Items<Diag>,
-    alloc: Global,
+    /// Where copies of the facts get their memory.
+    pub alloc: Global,
 }
 
 fn copy_package(
@@ -146,27 +148,6 @@ fn copy_decls(alloc: Global, decls: &[Decl]) -> Result<Items<Decl>, AllocError>
 }
 
 impl FileFacts {
-    /// These facts, which keep the allocator for their copies.
-    pub fn of(
-        alloc: Global,
-        syntax: SyntaxFact,
-        package: Option<PackageFact>,
-        imports: Items<ImportFact>,
-        decls: Items<Decl>,
-        diags: Items<Diag>,
-    ) -> FileFacts
-        ensures { result ≡ record { syntax = syntax; «package» = «package»; imports = imports; decls = decls; diags = diags; alloc = alloc } }
-    {
-        FileFacts {
-            syntax,
-            package,
-            imports,
-            decls,
-            diags,
-            alloc,
-        }
-    }
-
     /// Equal facts in memory of their own. An `Err` comes only where memory was refused.
     pub fn copy(&self) -> Result<FileFacts, AllocError>
         ensures { IfOk result (λ f. f ≡ self.now) }
@@ -176,7 +157,7 @@ impl FileFacts {
             syntax: self.syntax,
             package: copy_package(alloc, &self.package)?,
             imports: copy_imports(alloc, self.imports.as_slice())?,
-            decls: copy_decls(alloc, self.decls.as_slice())?,
+            decls: Decls::of(alloc, copy_decls(alloc, self.decls.as_slice())?)?,
             diags: Items::from_slice(alloc, self.diags.as_slice())?,
             alloc,
         })

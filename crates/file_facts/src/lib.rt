@@ -6,6 +6,8 @@
 //! which a file lists them. The facts are found by the crate `proto_facts`, the laws of these definitions are `facts_laws`.
 #![tactic(auto)]
 
+mod byte_pairs;
+mod decls;
 mod diagnostic;
 mod fact;
 mod name;
@@ -14,6 +16,7 @@ mod problem;
 mod stated;
 mod text;
 
+pub use decls::Decls;
 pub use diagnostic::{Diag, in_order};
 pub use fact::{Decl, DeclKind, FileFacts, ImportFact, PackageFact, SyntaxFact};
 pub use name::Name;

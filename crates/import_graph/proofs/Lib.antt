@@ -14,3 +14,5 @@ pub mod PathOrder
 pub mod Turns
 pub mod Mutual
 pub mod Outlooks
+pub mod Representatives
+pub mod Flagged

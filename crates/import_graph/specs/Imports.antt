@@ -11,6 +11,7 @@ use Rattle.import_graph.specs.declared.imports.FileImports.{FileImports}
 use Rattle.import_graph.specs.Paths.{file_named}
 use Rattle.import_graph.specs.Walks.{AllWithin}
 use Rattle.import_graph.specs.Components.{Descends}
+use Rattle.import_graph.specs.Condensed.{LeadAlike}
 use Rattle.import_graph.specs.Ties.{IsTied}
 use Rattle.import_graph.specs.declared.components.Components.{Components}
 
@@ -54,12 +55,14 @@ targets file = filter_map (λ l. l.target) file.edges
 abbrev pub public_targets : FileImports → List ℕ
 public_targets file = filter_map (λ l. l.target) (filter (λ l. l.is_public) file.edges)
 
--- each file that is imported is there, the files are listed for the search, it is known which are complete, and the components
--- are those of the imports
-pub record IsGraph (graph : List FileImports) (all : List (List ℕ)) (public_ones : List (List ℕ)) (flags : List Bool) (components : Components) : Type 0 where
+-- each file that is imported is there, the files are listed for the search, the steps lead to what public imports lead to, it is
+-- known which files are complete, and the components are those of the imports
+pub record IsGraph (graph : List FileImports) (all : List (List ℕ)) (steps : List (List ℕ)) (flags : List Bool) (components : Components) : Type 0 where
   pub within : All (λ file. AllWithin (length graph) (targets file)) graph
   pub imports : all ≡ map targets graph
-  pub public : public_ones ≡ map public_targets graph
+  pub counted : length steps ≡ length graph
+  pub stay : All (AllWithin (length graph)) steps
+  pub public : LeadAlike steps (map public_targets graph)
   pub complete : flags ≡ map (is_complete_in graph) graph
   pub numbered : vec_len components.numbers ≡ length graph
   pub descends : Descends (map targets graph) components.numbers.items

@@ -9,3 +9,4 @@ pub mod Tours
 pub mod Components
 pub mod Ties
 pub mod Outlooks
+pub mod Condensed

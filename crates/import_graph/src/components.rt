@@ -73,6 +73,8 @@ impl Placing {
 pub struct Components {
     // A number for each file. No import leads to a higher one, so files that lead to one another have the same.
     pub numbers: Vec<usize>,
+    // The file from which each number was given.
+    pub firsts: Vec<FileNo>,
     // Files of one number lead to one another, where both are flagged here. The tour is meant to flag all; nothing but
     // time depends on that.
     pub tied: Vec<bool>,
@@ -99,6 +101,7 @@ pub fn components_of(alloc: Global, imports: &[Items<FileNo>]) -> Result<Compone
     let tied = tied(alloc, imports, placing.numbers.as_slice(), order.as_slice())?;
     Ok(Components {
         numbers: placing.numbers,
+        firsts: order,
         tied,
     })
 }

@@ -5,7 +5,8 @@ ghost use Rattle.std.specs.List.Sorted.{IsStrictlyIncreasing};
 ghost use Rattle.import_graph.specs.Paths.{IsInPathOrder};
 
 use crate::components::{Components, components_of};
-use crate::file_search::{add, ascending, reached};
+use crate::condensed::condensed_steps;
+use crate::file_search::reached;
 use crate::imports::{FileImports, completeness, imports_of};
 use crate::paths::{FileNo, NamedFacts};
 use sqlite_items::Items;
@@ -22,7 +23,8 @@ pub struct Graph {
     alloc: Global,
     files: Vec<FileImports>,
     imports: Vec<Items<FileNo>>,
-    public: Vec<Items<FileNo>>,
+    // Steps that lead from each file to those that public imports lead to, and no others.
+    steps: Vec<Items<FileNo>>,
     // For each file whether all that it imports is there and not opaque.
     complete: Vec<bool>,
     components: Components,
@@ -37,7 +39,7 @@ impl Model for Graph {
 
     ghost view = { λ g. g.files.items };
 
-    ghost invariant = { λ g. IsGraph g.files.items g.imports.items g.public.items g.complete.items g.components };
+    ghost invariant = { λ g. IsGraph g.files.items g.imports.items g.steps.items g.complete.items g.components };
 }
 
 impl Graph {
@@ -62,12 +64,13 @@ impl Graph {
             file_imports.push(imported)?;
         }
         let complete = completeness(alloc, file_imports.as_slice())?;
+        let steps = condensed_steps(alloc, public.as_slice())?;
         let components = components_of(alloc, imports.as_slice())?;
         Ok(Graph {
             alloc,
             files: file_imports,
             imports,
-            public,
+            steps,
             complete,
             components,
         })
@@ -112,13 +115,13 @@ impl Graph {
         ensures within { IfOk result (λ v. All (λ g. g < length self.now) v.items) }
         ensures exact { IfOk result (λ v. (g : ℕ) → Contains v.items g ↔ Sees self.now file g) }
     {
-        let mut seen = reached(
+        let mut search = reached(
             self.alloc,
-            self.public.as_slice(),
+            self.steps.as_slice(),
             self.imports[file].as_slice(),
         )?;
-        add(&mut seen, file)?;
-        ascending(self.alloc, &seen)
+        search.visit(file)?;
+        search.into_ascending()
     }
 
     /// Whether an import closes a cycle: imports lead from the file that it names back to the importing one, or it names
@@ -160,8 +163,8 @@ impl Graph {
         ensures value { IfOk result (λ found. found ≡ reaches self.now from to) }
         ensures exact { IfOk result (λ found. IsTrue found ↔ Reaches self.now from to) }
     {
-        let seen = reached(self.alloc, self.imports.as_slice(), &[from])?;
-        Ok(seen.contains(&to))
+        let search = reached(self.alloc, self.imports.as_slice(), &[from])?;
+        Ok(search.has_seen(to))
     }
 
     /// Whether a file's view is closed: every import of every file that it sees names a file that is not opaque. `Err`

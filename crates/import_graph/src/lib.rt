@@ -8,10 +8,12 @@
 //! which `same_outlook` compares.
 //!
 //! Which files lead to one another is found once, when the graph is made; that tells whether an import closes a cycle, and
-//! where it could not, a search would. What a file sees is searched when it is asked for, in time that grows with what the search meets.
+//! where it could not, a search would. What a file sees is searched when it is asked for, in time that grows with what the search meets:
+//! the file's imports, the files that it sees, and their steps, which are kept once for files that public imports lead to one another.
 #![tactic(auto)]
 
 mod components;
+mod condensed;
 mod file_search;
 mod graph;
 mod imports;

@@ -1,17 +1,15 @@
 // Which files are known to lead to one another, of those with one number.
 
-ghost use Rattle.std.specs.Prelude.{◌≡◌, ◌==◌, ℕ, List, true, false, length, vec_len, slice_index_or, filter, IfOk, All, IsTrue};
-ghost use Rattle.std.specs.BTreeSet.{contains};
-ghost use Rattle.std.specs.Ordering.{nat_cmp};
+ghost use Rattle.std.specs.Prelude.{◌≡◌, ◌==◌, ℕ, List, true, false, length, vec_len, slice_index_or, filter, IfOk, All};
+ghost use Rattle.import_graph.specs.FileSearches.{IsSeen};
 ghost use Rattle.import_graph.specs.Walks.{AllWithin};
 ghost use Rattle.import_graph.specs.Ties.{IsInner, IsFirst, IsTied};
 
-use crate::file_search::reached;
+use crate::file_search::{FileSearch, reached};
 use crate::paths::FileNo;
 use crate::tour::importers;
 use sqlite_items::Items;
 use std::alloc::{AllocError, Global};
-use std::collections::BTreeSet;
 
 // The files of a row that have the number.
 fn with_number(
@@ -68,19 +66,21 @@ fn first_files(
     Ok(found)
 }
 
-// Which of the first `count` files are in both sets.
+// Which of so many files both searches have seen.
 fn in_both(
     alloc: Global,
     count: usize,
-    some: &BTreeSet<FileNo>,
-    others: &BTreeSet<FileNo>,
+    some: &FileSearch,
+    others: &FileSearch,
 ) -> Result<Vec<bool>, AllocError>
+    requires some { vec_len some.now.seen ≡ count }
+    requires others { vec_len others.now.seen ≡ count }
     ensures length { IfOk result (λ flags. vec_len flags ≡ count) }
-    ensures both { IfOk result (λ flags. (g : ℕ) → slice_index_or flags.items g false ≡ true → IsTrue (contains nat_cmp some.now g) × IsTrue (contains nat_cmp others.now g)) }
+    ensures both { IfOk result (λ flags. (g : ℕ) → slice_index_or flags.items g false ≡ true → IsSeen some.now g × IsSeen others.now g) }
 {
     let mut flags = Vec::with_capacity(alloc, count)?;
     for file in 0..count {
-        flags.push(some.contains(&file) && others.contains(&file))?;
+        flags.push(some.has_seen(file) && others.has_seen(file))?;
     }
     Ok(flags)
 }

@@ -8,7 +8,8 @@ use crate::paths::FileNo;
 use sqlite_items::Items;
 use std::alloc::{AllocError, Global};
 
-fn empty_rows(alloc: Global, length: usize) -> Result<Vec<Items<FileNo>>, AllocError>
+// So many rows that list nothing.
+pub fn empty_rows(alloc: Global, length: usize) -> Result<Vec<Items<FileNo>>, AllocError>
     ensures length { IfOk result (λ rows. vec_len rows ≡ length) }
     ensures empty { IfOk result (λ rows. All (λ row. row ≡ []) rows.items) }
 {
@@ -20,7 +21,7 @@ fn empty_rows(alloc: Global, length: usize) -> Result<Vec<Items<FileNo>>, AllocE
 }
 
 // Adds `file` to the row at `at`.
-fn add_to(rows: &mut Vec<Items<FileNo>>, at: FileNo, file: FileNo) -> Result<(), AllocError>
+pub fn add_to(rows: &mut Vec<Items<FileNo>>, at: FileNo, file: FileNo) -> Result<(), AllocError>
     requires at { at < vec_len rows.old }
     requires file { file < vec_len rows.old }
     requires within { All (AllWithin (vec_len rows.old)) rows.old.items }

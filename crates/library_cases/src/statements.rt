@@ -1,6 +1,7 @@
 // Statements in words.
 use proto_syntax::{
-    Items, Literal, Node, Number, RangeEnd, ReservedList, ReservedRange, Span, TypeName,
+    Field, Items, Literal, MapField, Node, Number, RangeEnd, ReservedList, ReservedRange, Span,
+    TypeName,
 };
 use std::alloc::AllocError;
 
@@ -87,8 +88,57 @@ fn write_block(
     write!(line, "{form} {name} {count}")
 }
 
-/// Writes a statement in words, without those inside it.
-pub fn write_node(line: &mut String, text: &str, node: &Node) -> Result<(), AllocError> {
+fn write_field(line: &mut String, text: &str, field: &Field) -> Result<(), AllocError> {
+    line.push_str("field ")?;
+    line.push_str(of(text, field.name))?;
+    write_spans(line, text, field.labels.as_slice(), " ")?;
+    write_type(line, text, &field.type_name)?;
+    write_spans(line, text, &[field.number], " = ")
+}
+
+fn write_map(line: &mut String, text: &str, map: &MapField) -> Result<(), AllocError> {
+    line.push_str("map ")?;
+    line.push_str(of(text, map.name))?;
+    write_spans(line, text, map.labels.as_slice(), " ")?;
+    write_type(line, text, &map.key)?;
+    write_type(line, text, &map.value)?;
+    write_spans(line, text, &[map.number], " = ")
+}
+
+fn write_value(
+    line: &mut String,
+    text: &str,
+    name: Span,
+    number: Number,
+) -> Result<(), AllocError> {
+    line.push_str("value ")?;
+    line.push_str(of(text, name))?;
+    write_number(line, text, number)
+}
+
+fn write_import(
+    line: &mut String,
+    text: &str,
+    is_public: bool,
+    path: &Literal,
+) -> Result<(), AllocError> {
+    write!(line, "import {is_public}")?;
+    write_literal(line, text, path)
+}
+
+fn write_package(
+    line: &mut String,
+    text: &str,
+    name: Span,
+    components: &[Span],
+) -> Result<(), AllocError> {
+    line.push_str("package ")?;
+    line.push_str(of(text, name))?;
+    write_spans(line, text, components, "/")
+}
+
+// A statement with a block, or an rpc.
+fn write_holder(line: &mut String, text: &str, node: &Node) -> Result<(), AllocError> {
     match node {
         Node::Message { name, items, .. } => write_block(line, text, "message", *name, items.get()),
         Node::EnumDef { name, items, .. } => write_block(line, text, "enum", *name, items.get()),
@@ -109,28 +159,16 @@ pub fn write_node(line: &mut String, text: &str, node: &Node) -> Result<(), Allo
             write_type(line, text, request.get())?;
             write_type(line, text, response.get())
         }
-        Node::Field(field) => {
-            let field = field.get();
-            line.push_str("field ")?;
-            line.push_str(of(text, field.name))?;
-            write_spans(line, text, field.labels.as_slice(), " ")?;
-            write_type(line, text, &field.type_name)?;
-            write_spans(line, text, &[field.number], " = ")
-        }
-        Node::MapField(map) => {
-            let map = map.get();
-            line.push_str("map ")?;
-            line.push_str(of(text, map.name))?;
-            write_spans(line, text, map.labels.as_slice(), " ")?;
-            write_type(line, text, &map.key)?;
-            write_type(line, text, &map.value)?;
-            write_spans(line, text, &[map.number], " = ")
-        }
-        Node::Value { name, number, .. } => {
-            line.push_str("value ")?;
-            line.push_str(of(text, *name))?;
-            write_number(line, text, *number.get())
-        }
+        _ => Ok(()),
+    }
+}
+
+/// Writes a statement in words, without those inside it.
+pub fn write_node(line: &mut String, text: &str, node: &Node) -> Result<(), AllocError> {
+    match node {
+        Node::Field(field) => write_field(line, text, field.get()),
+        Node::MapField(map) => write_map(line, text, map.get()),
+        Node::Value { name, number, .. } => write_value(line, text, *name, *number.get()),
         Node::Reserved { list, .. } => {
             line.push_str("reserved")?;
             write_list(line, text, list.get())
@@ -139,30 +177,21 @@ pub fn write_node(line: &mut String, text: &str, node: &Node) -> Result<(), Allo
             is_public,
             path,
             ..
-        } => {
-            write!(line, "import {is_public}")?;
-            write_literal(line, text, path.get())
-        }
+        } => write_import(line, text, *is_public, path.get()),
         Node::Package {
             name,
             components,
             ..
-        } => {
-            line.push_str("package ")?;
-            line.push_str(of(text, *name))?;
-            write_spans(line, text, components.get().as_slice(), "/")
+        } => write_package(line, text, *name, components.get().as_slice()),
+        Node::OptionDef { name, value, .. } => {
+            write_spans(line, text, &[*name, *value.get()], " option ")
         }
-        Node::OptionDef { name, value, .. } => write_spans(
-            line,
-            text,
-            &[*name, *value.get()],
-            " option ",
-        ),
         Node::Syntax { value, .. } => {
             line.push_str("syntax")?;
             write_literal(line, text, value.get())
         }
         Node::Empty { .. } => line.push_str("empty"),
+        _ => write_holder(line, text, node),
     }
 }
 

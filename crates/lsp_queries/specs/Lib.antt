@@ -2,6 +2,7 @@ pub mod Files
 pub mod Offsets
 pub mod Matching
 pub mod Answers
+pub mod Searching
 pub mod Fault
 pub mod Renaming
 pub mod RenamingLaws

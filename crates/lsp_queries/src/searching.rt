@@ -1,12 +1,33 @@
 // The declarations of a workspace by their names.
-ghost use Rattle.std.specs.Prelude.{◌≡◌, IfOk};
+ghost use Rattle.std.specs.Prelude.{◌≡◌, ◌<◌, length, IfOk, IsFalse};
 ghost use Rattle.lsp_queries.specs.Answers.{is_match, symbols};
+ghost use Rattle.lsp_queries.specs.Searching.{HasNoMatch, LeavesOut};
 
 use crate::files::decl_of;
 use crate::matching::contains;
+use import_graph::FileNo;
 use proto_resolve::DeclRef;
 use std::alloc::{AllocError, Global};
 use work_index::Analysis;
+
+// Whether a declaration of a file may be a match. It is told from what stands side by side in all their names.
+fn may_match(analysis: &Analysis, query: &str, file: FileNo) -> bool
+    requires { file < length analysis.now.paths }
+    ensures { IsFalse result → HasNoMatch analysis.now query.now file }
+{
+    analysis.facts(file).decls.may_contain(query)
+}
+
+// For each file whether it has to be searched.
+fn searched_files(alloc: Global, analysis: &Analysis, query: &str) -> Result<Vec<bool>, AllocError>
+    ensures { IfOk result (λ searched. LeavesOut analysis.now query.now searched.items) }
+{
+    let mut searched = Vec::new(alloc);
+    for file in 0..analysis.files().len() {
+        searched.push(may_match(analysis, query, file))?;
+    }
+    Ok(searched)
+}
 
 // Whether the full name of a declaration contains the query.
 fn is_match(
@@ -23,14 +44,32 @@ fn is_match(
     }
 }
 
+// The same, without a look at the name where the file isn't searched.
+fn is_found(
+    alloc: Global,
+    analysis: &Analysis,
+    query: &str,
+    searched: &[bool],
+    decl: DeclRef,
+) -> Result<bool, AllocError>
+    requires { LeavesOut analysis.now query.now searched.now }
+    ensures { IfOk result (λ found. found ≡ is_match analysis.now query.now decl) }
+{
+    match searched.get(decl.file) {
+        Some(false) => Ok(false),
+        _ => is_match(alloc, analysis, query, decl),
+    }
+}
+
 /// The declarations whose full name contains the query, without regard to the case of ASCII letters, by path, then offset.
 /// An `Err` comes only where memory was refused.
 pub fn symbols(alloc: Global, analysis: &Analysis, query: &str) -> Result<Vec<DeclRef>, AllocError>
     ensures { IfOk result (λ found. found.items ≡ symbols analysis.now query.now) }
 {
+    let searched = searched_files(alloc, analysis, query)?;
     let mut found = Vec::new(alloc);
     for decl in analysis.decls() {
-        if is_match(alloc, analysis, query, *decl)? {
+        if is_found(alloc, analysis, query, searched.as_slice(), *decl)? {
             found.push(*decl)?;
         }
     }

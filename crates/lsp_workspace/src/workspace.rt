@@ -1,5 +1,5 @@
 // The files of a workspace, with the analysis of them.
-ghost use Rattle.std.specs.Prelude.{◌≡◌, IfOk, OnOk, IsTrue, map, string_bytes};
+ghost use Rattle.std.specs.Prelude.{◌≡◌, IfOk, OnOk, IsTrue, IsFalse, map, string_bytes};
 ghost use Rattle.doc_text.specs.Edits.{change_view};
 ghost use Rattle.lsp_workspace.specs.Disk.{disk_view};
 ghost use Rattle.lsp_workspace.specs.Files.{from_disk, opened_files, changed_files, saved_files, closed_files, workspace};
@@ -57,7 +57,8 @@ impl Workspace {
 
     /// Opens a document at a path, as [`files::open`] does. An `Err` comes only where memory was refused.
     pub fn open(&mut self, path: String, uri: String, document: Document) -> Result<(), AllocError>
-        ensures { OnOk result (self.new.files ≡ opened_files (string_bytes uri) (document_view document) (string_bytes path) self.old.files) }
+        ensures files { OnOk result (self.new.files ≡ opened_files (string_bytes uri) (document_view document) (string_bytes path) self.old.files) }
+        ensures stale { IsFalse self.new.is_current }
     {
         self.is_current = false;
         files::open(&mut self.files, path, uri, document)
@@ -66,7 +67,8 @@ impl Workspace {
     /// Makes these edits in the document that is open at a path, as [`files::change`] does. An `Err` comes only where memory
     /// was refused.
     pub fn change(&mut self, path: &str, edits: Edits) -> Result<(), AllocError>
-        ensures { OnOk result (self.new.files ≡ changed_files edits.version (map change_view edits.changes.items) path.now self.old.files) }
+        ensures files { OnOk result (self.new.files ≡ changed_files edits.version (map change_view edits.changes.items) path.now self.old.files) }
+        ensures stale { IsFalse self.new.is_current }
     {
         self.is_current = false;
         files::change(&mut self.files, path, edits)
@@ -75,7 +77,8 @@ impl Workspace {
     /// Keeps the text of the document that is open at a path, as [`files::save`] does. An `Err` comes only where memory was
     /// refused.
     pub fn save(&mut self, alloc: Global, path: &str) -> Result<(), AllocError>
-        ensures { OnOk result (self.new.files ≡ saved_files path.now self.old.files) }
+        ensures files { OnOk result (self.new.files ≡ saved_files path.now self.old.files) }
+        ensures stale { IsFalse self.new.is_current }
     {
         self.is_current = false;
         files::save(alloc, &mut self.files, path)
@@ -83,7 +86,8 @@ impl Workspace {
 
     /// Closes the document that is open at a path, as [`files::close`] does.
     pub fn close(&mut self, path: &str)
-        ensures { self.new.files ≡ closed_files path.now self.old.files }
+        ensures files { self.new.files ≡ closed_files path.now self.old.files }
+        ensures stale { IsFalse self.new.is_current }
     {
         self.is_current = false;
         files::close(&mut self.files, path);

@@ -13,7 +13,7 @@ use crate::text::Source;
 use crate::twice::{add_declared_twice, add_imported_twice};
 use crate::walk::add_statements;
 use file_facts::{
-    Decl, Diag, FileFacts, ImportFact, StatedPackage, StatedSyntax, SyntaxFact, in_order,
+    Decl, Decls, Diag, FileFacts, ImportFact, StatedPackage, StatedSyntax, SyntaxFact, in_order,
 };
 use sqlite_items::Items;
 use std::alloc::{AllocError, Global};
@@ -33,14 +33,14 @@ fn opaque_facts(alloc: Global, diag: Diag) -> Result<FileFacts, AllocError>
 {
     let mut diags = Items::new(alloc);
     diags.push(diag)?;
-    Ok(FileFacts::of(
-        alloc,
-        SyntaxFact::Opaque,
-        None,
-        Items::new(alloc),
-        Items::new(alloc),
+    Ok(FileFacts {
+        syntax: SyntaxFact::Opaque,
+        package: None,
+        imports: Items::new(alloc),
+        decls: Decls::of(alloc, Items::new(alloc))?,
         diags,
-    ))
+        alloc,
+    })
 }
 
 // The name of the first package; empty where there is none.
@@ -141,7 +141,14 @@ fn analysed_facts(
     let decls = add_analysed(Source { alloc, text }, tree, own, &mut found)?;
     let diags = in_order(alloc, found.as_slice())?;
     let package = first_package(packages);
-    Ok(FileFacts::of(alloc, SyntaxFact::Proto3, package, imports, decls, diags))
+    Ok(FileFacts {
+        syntax: SyntaxFact::Proto3,
+        package,
+        imports,
+        decls: Decls::of(alloc, decls)?,
+        diags,
+        alloc,
+    })
 }
 
 /// What a text says by itself: its language, package, imports and declarations, and what is wrong in it.

@@ -11,6 +11,12 @@ pub mod Nesting
 pub mod Outers
 pub mod LastUse
 pub mod ScopeChains
+pub mod LastParts
+pub mod NextScopes
+pub mod Ahead
+pub mod Fronts
+pub mod ByLast
+pub mod PackageFronts
 pub mod UsesByName
 pub mod UsesOf
 pub mod Alike

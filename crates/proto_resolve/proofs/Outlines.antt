@@ -1,7 +1,7 @@
 -- What the graph and the names of files are made from: what the files say to one another.
 use Rattle.std.proofs.Common.{◌≡◌, ℕ, zero, suc, ◌+◌, ◌<◌, List, [], ◌∷◌, ◌++◌, Bool, Option, None, if◌then◌else◌, length, get_or, set, map, filter, bytes_eq, nat_eq, not, refl, sym, ap, ap₂, subst, ◌∙◌, arith}
 use Rattle.std.specs.Prelude.{position}
-use Rattle.std.specs.List.{enumerate_from, flat_map, prefix_len, starts_with}
+use Rattle.std.specs.List.{enumerate_from, flat_map, list_any, prefix_len, starts_with}
 use Rattle.std.proofs.Math.ListN as math
 use Rattle.std.proofs.Math.Path.{fun_ext}
 use Rattle.std.proofs.Math.Seq.{map-set_same}
@@ -17,6 +17,8 @@ use Rattle.import_graph.specs.Imports.{graph_of, imports_of, edge_of}
 use Rattle.import_graph.specs.Paths.{IsInPathOrder, slash}
 use Rattle.proto_resolve.specs.declared.target.DeclRef.{DeclRef}
 use Rattle.proto_resolve.specs.Files.{all_decls, all_named, decl_at, facts_at, no_decl, no_facts}
+use Rattle.proto_resolve.specs.Holders.{is_held}
+use Rattle.proto_resolve.specs.Names.{is_holder}
 use Rattle.proto_resolve.specs.Outlines.{declared, imported, import_outline, with_facts}
 use Rattle.proto_resolve.specs.Seen.{exports}
 use Rattle.proto_resolve.proofs.Order.{numbered, refs}
@@ -103,7 +105,7 @@ told_at old new same g = told_is old g ∙ ap (λ all. get_or all g (exports no_
 declared_at : (a b : List Decl) (n : ℕ) → map declared a ≡ map declared b → declared (get_or a n no_decl) ≡ declared (get_or b n no_decl)
 declared_at a b n same = sym (math.get_or-map declared a n no_decl) ∙ ap (λ all. get_or all n (declared no_decl)) same ∙ math.get_or-map declared b n no_decl
 
-same_name : (old new : List NamedFacts) → map telling old ≡ map telling new → (r : DeclRef) → (let d = decl_at old r in d.full_name) ≡ (let d = decl_at new r in d.full_name)
+pub same_name : (old new : List NamedFacts) → map telling old ≡ map telling new → (r : DeclRef) → (let d = decl_at old r in d.full_name) ≡ (let d = decl_at new r in d.full_name)
 same_name old new same r =
     ap (λ d. d.1) (declared_at (let facts = facts_at old r.file in facts.decls) (let facts = facts_at new r.file in facts.decls) r.number (ap (λ t. t.0) (told_at old new same r.file)))
 
@@ -111,6 +113,14 @@ same_name old new same r =
 pub same_named : (old new : List NamedFacts) → map telling old ≡ map telling new → (name : List ℕ) → all_named old name ≡ all_named new name
 same_named old new same name =
     ap₂ (λ (test : DeclRef → Bool) (all : List DeclRef). filter test all) (fun_ext (λ r. ap (λ n. bytes_eq n name) (same_name old new same r))) (same_decls old new same)
+
+same_kind : (old new : List NamedFacts) → map telling old ≡ map telling new → (r : DeclRef) → (let d = decl_at old r in d.kind) ≡ (let d = decl_at new r in d.kind)
+same_kind old new same r =
+    ap (λ d. d.0) (declared_at (let facts = facts_at old r.file in facts.decls) (let facts = facts_at new r.file in facts.decls) r.number (ap (λ t. t.0) (told_at old new same r.file)))
+
+pub same_held : (old new : List NamedFacts) → map telling old ≡ map telling new → (name : List ℕ) → is_held old name ≡ is_held new name
+same_held old new same name =
+    ap₂ (λ (test : DeclRef → Bool) (all : List DeclRef). list_any test all) (fun_ext (λ r. ap is_holder (same_kind old new same r))) (same_named old new same name)
 
 -- ---- other facts of a file
 

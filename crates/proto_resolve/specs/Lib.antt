@@ -7,6 +7,7 @@ pub mod ScopeChains
 pub mod Sites
 pub mod Resolved
 pub mod Laws
+pub mod Holders
 pub mod Tables
 pub mod Finding
 pub mod FindingLaws

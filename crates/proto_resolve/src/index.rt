@@ -6,10 +6,13 @@ use import_graph::Graph;
 /// The facts of all files, with their declarations by name. A file is its number in the list of all files, by path,
 /// counted from 0.
 pub trait Index {
-    ghost use Rattle.std.specs.Prelude.{List, ◌≡◌, ◌<◌, length};
+    ghost use Rattle.std.specs.Prelude.{List, All, ◌≡◌, ◌<◌, ◌≤◌, false, take, length};
+    ghost use Rattle.std.specs.List.Sorted.{IsNonDecreasing};
+    ghost use Rattle.file_facts.specs.Text.{joined};
     ghost use Rattle.import_graph.specs.declared.paths.NamedFacts.{NamedFacts};
     ghost use Rattle.import_graph.specs.Imports.{graph_of};
     ghost use Rattle.proto_resolve.specs.Files.{facts_at, all_named};
+    ghost use Rattle.proto_resolve.specs.Holders.{has_dot, is_held, IsLast};
 
     /// The files, by path.
     ghost files: { Self → List NamedFacts };
@@ -26,4 +29,12 @@ pub trait Index {
     /// The declarations of a full name, by path, then offset.
     fn named(&self, full_name: &str) -> &[DeclRef]
         ensures { result.now ≡ all_named (files self.now) full_name.now };
+
+    /// The longest front part of a scope, of these lengths, in which a message, an enum or a service of the name is declared:
+    /// the length's place in the list. The name has no dot.
+    fn last_held(&self, scope: &str, lengths: &[usize], name: &str) -> Option<usize>
+        requires ascending { IsNonDecreasing lengths.now }
+        requires within { All (λ l. l ≤ length scope.now) lengths.now }
+        requires plain { has_dot name.now ≡ false }
+        ensures { IsLast (λ l. is_held (files self.now) (joined (take l scope.now) name.now)) lengths.now result };
 }

@@ -15,6 +15,7 @@ mod diagnostics;
 mod finding;
 mod finding_laws;
 mod full_names;
+mod holders;
 mod index;
 mod laws;
 mod outline;

@@ -1,10 +1,15 @@
 // The packages of several files, in the order in which they are searched.
-ghost use Rattle.std.specs.Prelude.{◌≡◌, ◌++◌, ◌∷◌, [], ℕ, List, map, nat_eq, string_bytes};
+ghost use Rattle.std.specs.Prelude.{◌≡◌, ◌≤◌, ◌++◌, ◌∷◌, [], ℕ, List, All, false, length, map, take, nat_eq, string_bytes};
 ghost use Rattle.std.specs.Cmp.Lexicographic.{slice_cmp};
 ghost use Rattle.std.specs.Ordering.{is_lt, nat_cmp};
 ghost use Rattle.std.specs.List.{list_any, starts_with};
+ghost use Rattle.std.specs.List.Sorted.{IsNonDecreasing};
+ghost use Rattle.file_facts.specs.Text.{joined};
 ghost use Rattle.proto_resolve.specs.Files.{dot};
+ghost use Rattle.proto_resolve.specs.Holders.{later, IsPast};
+ghost use Rattle.proto_resolve.specs.Views.{have};
 
+use crate::holders::common_len;
 use std::marker::Model;
 
 // The full names of packages, each with a dot behind it, by their bytes. The names with the same first components stand
@@ -61,6 +66,46 @@ fn begins_with_dot(rest: &[u8]) -> bool
     }
 }
 
+// Whether a text goes on with a component and a dot where a scope of this length ends.
+fn goes_on(text: &[u8], at: usize, component: &[u8]) -> bool
+    ensures { result ≡ false → (scope : List ℕ) → length scope ≡ at → starts_with nat_eq text.now (joined scope component.now ++ dot ∷ []) ≡ false }
+{
+    if at == 0 {
+        return begins(text, component);
+    }
+    if at >= text.len() || text[at] != b'.' {
+        return false;
+    }
+    begins(&text[at + 1..], component)
+}
+
+// A place behind which a text goes on with a component and a dot at no front part of a scope, of these lengths.
+fn last_inside(text: &[u8], scope: &[u8], lengths: &[usize], component: &[u8]) -> Option<usize>
+    requires ascending { IsNonDecreasing lengths.now }
+    requires within { All (λ l. l ≤ length scope.now) lengths.now }
+    ensures { IsPast (λ l. starts_with nat_eq text.now (joined (take l scope.now) component.now ++ dot ∷ [])) lengths.now result }
+{
+    let past = common_len(text, scope) + 1;
+    let mut left = lengths.partition_point(|length| *length < past);
+    while left > 0 {
+        left -= 1;
+        if goes_on(text, lengths[left], component) {
+            return Some(left);
+        }
+    }
+    None
+}
+
+fn later(a: Option<usize>, b: Option<usize>) -> Option<usize>
+    ensures { result ≡ later a b }
+{
+    match (a, b) {
+        (None, b) => b,
+        (a, None) => a,
+        (Some(a), Some(b)) => Some(a.max(b)),
+    }
+}
+
 impl Packages {
     // The packages of these names, each with a dot behind it.
     pub fn of(mut names: Vec<String>) -> Packages
@@ -81,5 +126,21 @@ impl Packages {
             .as_slice()
             .partition_point(|package| is_before(package.as_bytes(), name));
         place < self.names.len() && begins(self.names[place].as_bytes(), name)
+    }
+
+    // A place behind which no front part of a scope, of these lengths, has a package of the name in it.
+    pub fn last_place(&self, scope: &[u8], lengths: &[usize], name: &str) -> Option<usize>
+        requires ascending { IsNonDecreasing lengths.now }
+        requires within { All (λ l. l ≤ length scope.now) lengths.now }
+        ensures { IsPast (λ l. have (joined (take l scope.now) name.now) self.now) lengths.now result }
+    {
+        let mut place = None;
+        for text in &self.names {
+            place = later(
+                place,
+                last_inside(text.as_bytes(), scope, lengths, name.as_bytes()),
+            );
+        }
+        place
     }
 }

@@ -1,8 +1,12 @@
 // The scopes of a place in a file.
-ghost use Rattle.std.specs.Prelude.{◌≡◌, ◌∷◌, ◌<◌, ℕ, List, [], length, slice_index_or, IfOk};
+ghost use Rattle.std.specs.Prelude.{◌≡◌, ◌∷◌, ◌<◌, ◌≤◌, ℕ, List, [], false, length, slice_index_or, IfOk};
 ghost use Rattle.file_facts.specs.Text.{joined};
+ghost use Rattle.proto_resolve.specs.Holders.{has_dot, is_held, IsNext};
+ghost use Rattle.proto_resolve.specs.Views.{have};
 
 use crate::full_names::push_component;
+use crate::index::Index;
+use crate::packages::Packages;
 use sqlite_items::Items;
 use std::alloc::{AllocError, Global};
 use std::marker::Model;
@@ -19,6 +23,7 @@ pub struct ScopeChain {
 // Contracts see the scopes, innermost first.
 impl Model for ScopeChain {
     ghost use Rattle.std.specs.Prelude.{◌≡◌, ℕ, List, [], All, slice_index_or, string_bytes};
+    ghost use Rattle.std.specs.List.Sorted.{IsNonDecreasing};
     ghost use Rattle.std.specs.String.Boundary.{IsSplitPoint};
     ghost use Rattle.proto_resolve.specs.ScopeChains.{front_parts};
 
@@ -26,7 +31,7 @@ impl Model for ScopeChain {
 
     ghost view = { λ p. front_parts (string_bytes p.text) p.lengths };
 
-    ghost invariant = { λ p. All (IsSplitPoint (string_bytes p.text)) p.lengths × (slice_index_or (front_parts (string_bytes p.text) p.lengths) 0 [] ≡ string_bytes p.text) };
+    ghost invariant = { λ p. All (IsSplitPoint (string_bytes p.text)) p.lengths × (slice_index_or (front_parts (string_bytes p.text) p.lengths) 0 [] ≡ string_bytes p.text) × IsNonDecreasing p.lengths };
 }
 
 impl ScopeChain {
@@ -79,6 +84,34 @@ impl ScopeChain {
     {
         let length = self.lengths.as_slice()[self.lengths.len() - 1 - number];
         &self.text.as_str()[..length]
+    }
+
+    // The number of the next scope, from the one of a number on, in which a message, an enum or a service of the name is
+    // declared.
+    pub fn next_held<I: Index>(&self, index: &I, number: usize, name: &str) -> Option<usize>
+        requires within { number ≤ length self.now }
+        requires plain { has_dot name.now ≡ false }
+        ensures { IsNext (λ s. is_held (I.files index.now) (joined s name.now)) self.now number result }
+    {
+        let left = self.lengths.len() - number;
+        let lengths = &self.lengths.as_slice()[..left];
+        match index.last_held(self.text.as_str(), lengths, name) {
+            None => None,
+            Some(place) => Some(self.lengths.len() - 1 - place),
+        }
+    }
+
+    // The number of the next scope, from the one of a number on, in which there is a package of the name.
+    pub fn next_package(&self, packages: &Packages, number: usize, name: &str) -> Option<usize>
+        requires { number ≤ length self.now }
+        ensures { IsNext (λ s. have (joined s name.now) packages.now) self.now number result }
+    {
+        let left = self.lengths.len() - number;
+        let lengths = &self.lengths.as_slice()[..left];
+        match packages.last_place(self.text.as_str().as_bytes(), lengths, name) {
+            None => None,
+            Some(place) => Some(self.lengths.len() - 1 - place),
+        }
     }
 }
 

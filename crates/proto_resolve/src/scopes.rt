@@ -1,6 +1,7 @@
 // The scope in which a name is looked for, and what it means.
-ghost use Rattle.std.specs.Prelude.{◌≡◌, ◌==◌, ◌<◌, length, All, IfOk, IfSome, option_copied, option_and_then};
+ghost use Rattle.std.specs.Prelude.{◌≡◌, ◌==◌, ◌<◌, length, false, find, All, IfOk, IfSome, option_copied, option_and_then};
 ghost use Rattle.proto_resolve.specs.Files.{decl_at};
+ghost use Rattle.proto_resolve.specs.Holders.{earlier, has_dot, IsNext};
 ghost use Rattle.proto_resolve.specs.Names.{found, is_type, is_holder, settles, settles_at, first_text, joined_all, texts_of, scope_of, IsThere};
 
 use crate::finding::found;
@@ -22,7 +23,7 @@ pub fn is_type(needs: Needs, kind: DeclKind) -> bool
     }
 }
 
-fn is_holder(kind: DeclKind) -> bool
+pub fn is_holder(kind: DeclKind) -> bool
     ensures { result ≡ is_holder kind }
 {
     matches!(
@@ -60,6 +61,12 @@ fn settles<I: Index>(index: &I, is_alone: bool, target: &Option<Target>) -> bool
     }
 }
 
+fn has_dot(name: &str) -> bool
+    ensures { result ≡ has_dot name.now }
+{
+    name.as_bytes().iter().any(|c| *c == b'.')
+}
+
 fn first_text(site: &NameSite) -> &str
     ensures { result.now ≡ first_text site.now }
 {
@@ -68,6 +75,19 @@ fn first_text(site: &NameSite) -> &str
         None => "",
     }
 }
+
+fn earlier(a: Option<usize>, b: Option<usize>) -> Option<usize>
+    ensures { result ≡ earlier a b }
+{
+    match (a, b) {
+        (None, b) => b,
+        (a, None) => a,
+        (Some(a), Some(b)) => Some(a.min(b)),
+    }
+}
+
+// Up to so many scopes are tried one by one: a look-up in each costs less than a walk over the packages.
+const FEW: usize = 64;
 
 impl<I: Index> Resolver<'_, I> {
     // Whether a scope settles a name. The full name of the first component is written over `name`.
@@ -95,13 +115,43 @@ impl<I: Index> Resolver<'_, I> {
         }
         let scopes = site.scopes.place();
         let mut name = String::new(self.alloc);
-        for number in 0..scopes.len() {
-            let scope = scopes.get(number);
-            if self.settles_at(site, scope, &mut name)? {
-                return Ok(Some(scope));
+        let mut number = 0;
+        while number < scopes.len() {
+            match self.next_scope(site, number) {
+                None => return Ok(None),
+                Some(next) => {
+                    let scope = scopes.get(next);
+                    if self.settles_at(site, scope, &mut name)? {
+                        return Ok(Some(scope));
+                    }
+                    number = next + 1;
+                }
             }
         }
         Ok(None)
+    }
+
+    // A scope, counted from the innermost, or none, that no scope which settles the name comes before, from the one of a
+    // number on. Few scopes are tried one by one where packages count.
+    fn next_scope(&self, site: &NameSite, number: usize) -> Option<usize>
+        requires { number < length site.now.scopes }
+        ensures { IsNext (settles_at (I.files self.now.index.now) self.now.view.now.file self.now.view.now.files site.now) site.now.scopes number result }
+    {
+        let first = first_text(site);
+        let scopes = site.scopes.place();
+        if has_dot(first) {
+            return Some(number);
+        }
+        if site.components.len() == 1 {
+            return scopes.next_held(self.index, number, first);
+        }
+        if scopes.len() <= FEW {
+            return Some(number);
+        }
+        earlier(
+            scopes.next_held(self.index, number, first),
+            scopes.next_package(&self.view.packages, number, first),
+        )
     }
 
     // What a name means, if anything, where this is its scope.

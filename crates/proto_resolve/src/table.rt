@@ -8,6 +8,7 @@ ghost use Rattle.proto_resolve.specs.Outlines.{import_outline, with_facts};
 ghost use Rattle.proto_resolve.specs.Seen.{exports};
 ghost use Rattle.proto_resolve.specs.Tables.{listed};
 
+use crate::holders::{by_last, last_place, name_of};
 use crate::index::Index;
 use crate::target::DeclRef;
 use file_facts::{Decl, FileFacts};
@@ -24,6 +25,8 @@ pub struct Table {
     graph: Graph,
     decls: Items<DeclRef>,
     names: BTreeMap<String, Vec<DeclRef>>,
+    // Messages, enums and services by the last components of their full names, then by what stands before those.
+    holders: BTreeMap<String, Vec<DeclRef>>,
 }
 
 impl Model for Table {
@@ -32,13 +35,14 @@ impl Model for Table {
     ghost use Rattle.import_graph.specs.Imports.{graph_of};
     ghost use Rattle.import_graph.specs.Paths.{IsInPathOrder};
     ghost use Rattle.proto_resolve.specs.Files.{all_decls, all_named};
-    ghost use Rattle.proto_resolve.specs.Tables.{listed};
+    ghost use Rattle.proto_resolve.specs.Holders.{is_held};
+    ghost use Rattle.proto_resolve.specs.Tables.{listed, name_at, AreByLast};
 
     ghost Value = { List NamedFacts };
 
     ghost view = { λ t. t.files.items };
 
-    ghost invariant = { λ t. (t.graph ≡ graph_of t.files.items) × (t.decls ≡ all_decls t.files.items) × ((q : List ℕ) → listed t.names q ≡ all_named t.files.items q) × IsInPathOrder t.files.items };
+    ghost invariant = { λ t. (t.graph ≡ graph_of t.files.items) × (t.decls ≡ all_decls t.files.items) × ((q : List ℕ) → listed t.names q ≡ all_named t.files.items q) × AreByLast (name_at t.files.items) (is_held t.files.items) t.holders × IsInPathOrder t.files.items };
 }
 
 fn push_decls(file: usize, decls: &[Decl], found: &mut Items<DeclRef>) -> Result<(), AllocError>
@@ -58,18 +62,6 @@ fn all_decls(alloc: Global, files: &[NamedFacts]) -> Result<Items<DeclRef>, Allo
         push_decls(number, file.facts.decls.as_slice(), &mut found)?;
     }
     Ok(found)
-}
-
-fn name_of(files: &[NamedFacts], decl: DeclRef) -> &str
-    ensures { result.now ≡ (let d = decl_at files.now decl in d.full_name) }
-{
-    match files.get(decl.file) {
-        None => "",
-        Some(file) => match file.facts.decls.as_slice().get(decl.number) {
-            None => "",
-            Some(decl) => decl.full_name.as_str(),
-        },
-    }
 }
 
 fn by_name(
@@ -96,11 +88,13 @@ impl Table {
         let graph = Graph::of(alloc, files.as_slice())?;
         let decls = all_decls(alloc, files.as_slice())?;
         let names = by_name(alloc, files.as_slice(), decls.as_slice())?;
+        let holders = by_last(alloc, files.as_slice(), decls.as_slice())?;
         Ok(Table {
             files,
             graph,
             decls,
             names,
+            holders,
         })
     }
 
@@ -166,6 +160,19 @@ impl Index for Table {
         match self.names.get(full_name) {
             Some(decls) => decls.as_slice(),
             None => &[],
+        }
+    }
+
+    fn last_held(&self, scope: &str, lengths: &[usize], name: &str) -> Option<usize> {
+        match self.holders.get(name) {
+            Some(decls) => last_place(
+                self.files.as_slice(),
+                decls.as_slice(),
+                name.len(),
+                scope.as_bytes(),
+                lengths,
+            ),
+            None => None,
         }
     }
 }

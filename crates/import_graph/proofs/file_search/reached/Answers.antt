@@ -1,55 +1,47 @@
-use Rattle.std.proofs.Common.{◌≡◌, List, ℕ, ◌<◌, [], length, get_or, true, refl, ◌∙◌, arith}
-use Rattle.std.specs.Prelude.{Contains, All}
-use Rattle.std.specs.BTreeSet.{BTreeSet, contains}
-use Rattle.std.specs.Ordering.{nat_cmp}
-use Rattle.std.proofs.lemmas.Cmp.{nat_cmp_total}
-use Rattle.std.proofs.lemmas.Map.Lookups.{exact_unsigned}
-use Rattle.std.proofs.lemmas.Map.Views.{btree_set_contains_iff}
-use Rattle.import_graph.specs.Walks.{AllWithin}
-use Rattle.import_graph.proofs.Search.{Searches-init, Searches-turn, Searches-done, turn-lighter}
-use Rattle.std.proofs.lemmas.Grind.{common_steps}
+use Rattle.std.proofs.Common.{◌≡◌, ◌<◌, [], length, get_or, sym, ◌∙◌, arith}
 use Rattle.std.proofs.lemmas.List.{get_or_default}
-use Rattle.std.proofs.lemmas.List.Elements.{Contains-push, All-contains}
+use Rattle.import_graph.specs.Walks.{AllWithin}
+use Rattle.import_graph.proofs.Search.{Searches-init, Searches-turn, Searches-done, f_there}
 use Rattle.import_graph.proofs.file_search.reached.Goals as goal
 
-row_within : (next : List (List ℕ)) → All (AllWithin (length next)) next → (f : ℕ) → f < length next → (g : ℕ) → Contains (get_or next f []) g → g < length next
-row_within next within f there g has = All-contains (λ x. x < length next) (get_or next f []) g (within f [] there) has
-
-none_yet : (s : BTreeSet ℕ) → s.keys ≡ [] → (g : ℕ) → contains nat_cmp s g ≡ true → ⊥
-none_yet s empty g m =
-    let has = (btree_set_contains_iff nat_cmp_total exact_unsigned s g).0 m in
-    let bad : Contains {X = ℕ} [] g = rw empty at has in absurd (omega (arith, bad.1))
-
-pub loop-file-init : goal.loop-file-init
-loop-file-init c =
-    Searches-init _ _ (record { seen = c.new.result; pending = c.new-2.result }) _ (none_yet c.new.result c.new.ensures.empty) c.new-2.ensures.items (λ g has. All-contains (λ f. f < length c.args.next.now) c.args.start.now g c.requires.start has) c.in_ok-visit_all.ensures
+pub loop-followed-init : goal.loop-followed-init
+loop-followed-init c =
+    Searches-init _ _ c.in_ok-search.search _ (omega (arith, c.in_ok-search.ensures.count, c.in_ok-search.search.seen.ok)) c.in_ok-search.ensures.listed
+    (omega (arith, c.in_ok-search.ensures.none, c.in_ok-search.search.found.ok)) c.in_ok-visit_all.ensures
 
 pub bounds-next-file : goal.bounds-next-file
 bounds-next-file c =
-    let has = Contains-push c.pop.new.self.items c.in-Some.file in
-    c.loop-file.invariant.within c.in-Some.file (c.loop-file.invariant.waiting c.in-Some.file (rw c.in-Some.ensures.items has))
+    let more : c.loop-followed.followed < length c.loop-followed.search.found.items = omega (arith, c.loop-followed-test.true, c.loop-followed.search.found.ok) in
+    let is = sym (c.index-file.ensures ∙ get_or_default c.loop-followed.search.found.items c.loop-followed.followed _ 0 more) in
+    f_there _ _ _ _ _ c.loop-followed.invariant more is
 
 pub offset_bounds-next-file : goal.offset_bounds-next-file
 offset_bounds-next-file c =
-    let has = Contains-push c.pop.new.self.items c.in-Some.file in
-    let lt = c.loop-file.invariant.within c.in-Some.file (c.loop-file.invariant.waiting c.in-Some.file (rw c.in-Some.ensures.items has)) in
-    omega (arith, lt)
+    let more : c.loop-followed.followed < length c.loop-followed.search.found.items = omega (arith, c.loop-followed-test.true, c.loop-followed.search.found.ok) in
+    let is = sym (c.index-file.ensures ∙ get_or_default c.loop-followed.search.found.items c.loop-followed.followed _ 0 more) in
+    let there = f_there _ _ _ _ _ c.loop-followed.invariant more is in
+    omega (arith, there)
 
-pub loop-file-smaller : goal.loop-file-smaller
-loop-file-smaller c =
-    let has = Contains-push c.pop.new.self.items c.in-Some.file in
-    let in_next : c.in-Some.file < length c.args.next.now = c.loop-file.invariant.within c.in-Some.file (c.loop-file.invariant.waiting c.in-Some.file (rw c.in-Some.ensures.items has)) in
-    let row : c.as_slice.result.now ≡ get_or c.args.next.now c.in-Some.file [] =
-    c.as_slice.ensures ∙ (c.index-next-file.is ∙ get_or_default c.args.next.now c.in-Some.file _ [] in_next) in
-    turn-lighter _ _ c.loop-file.file_search _ _ c.in-Some.file c.loop-file.invariant refl c.in-Some.ensures.items (row_within c.args.next.now c.requires.next c.in-Some.file in_next) (rw row at c.in_ok-visit_all-2.ensures)
+pub visit_all-requires-in-loop-followed : goal.visit_all-requires-in-loop-followed
+visit_all-requires-in-loop-followed c k d lt =
+    let more : c.loop-followed.followed < length c.loop-followed.search.found.items = omega (arith, c.loop-followed-test.true, c.loop-followed.search.found.ok) in
+    let is = sym (c.index-file.ensures ∙ get_or_default c.loop-followed.search.found.items c.loop-followed.followed _ 0 more) in
+    let there = f_there _ _ _ _ _ c.loop-followed.invariant more is in
+    let row = c.requires.next c.index-file.result.now c.index-next-file.result there in
+    let here : AllWithin (length c.args.next.now) c.as_slice.result.now = rw (c.as_slice.ensures, c.index-next-file.is) row in
+    omega (arith, here k d lt, c.loop-followed.invariant.as_long, c.loop-followed.search.seen.ok)
 
-pub loop-file-preserved : goal.loop-file-preserved
-loop-file-preserved c =
-    let has = Contains-push c.pop.new.self.items c.in-Some.file in
-    let in_next : c.in-Some.file < length c.args.next.now = c.loop-file.invariant.within c.in-Some.file (c.loop-file.invariant.waiting c.in-Some.file (rw c.in-Some.ensures.items has)) in
-    let row : c.as_slice.result.now ≡ get_or c.args.next.now c.in-Some.file [] =
-    c.as_slice.ensures ∙ (c.index-next-file.is ∙ get_or_default c.args.next.now c.in-Some.file _ [] in_next) in
-    Searches-turn _ _ c.loop-file.file_search _ _ c.in-Some.file c.loop-file.invariant refl c.in-Some.ensures.items (row_within c.args.next.now c.requires.next c.in-Some.file in_next) (rw row at c.in_ok-visit_all-2.ensures)
+pub loop-followed-preserved : goal.loop-followed-preserved
+loop-followed-preserved c =
+    let more : c.loop-followed.followed < length c.loop-followed.search.found.items = omega (arith, c.loop-followed-test.true, c.loop-followed.search.found.ok) in
+    let is = sym (c.index-file.ensures ∙ get_or_default c.loop-followed.search.found.items c.loop-followed.followed _ 0 more) in
+    let there : c.index-file.result.now < length c.args.next.now = f_there _ _ _ _ _ c.loop-followed.invariant more is in
+    let row : c.as_slice.result.now ≡ get_or c.args.next.now c.index-file.result.now [] =
+    c.as_slice.ensures ∙ (c.index-next-file.is ∙ get_or_default c.args.next.now c.index-file.result.now _ [] there) in
+    Searches-turn _ _ _ _ c.index-file.result.now c.loop-followed.invariant more is _ (rw row at c.in_ok-visit_all-2.ensures)
 
 pub returns-clause-exact : goal.returns-clause-exact
-returns-clause-exact c g = (c.loop-file.invariant.sound g, Searches-done _ _ _ c.loop-file.invariant (grind (arith, common_steps, c.in_default.ensures.cases.0, c.loop-file.file_search.pending.ok)) g)
+returns-clause-exact c g = (
+  c.loop-followed.invariant.sound g,
+  Searches-done _ _ _ _ c.loop-followed.invariant (omega (arith, c.loop-followed-test.false, c.loop-followed.search.found.ok)) g,
+)

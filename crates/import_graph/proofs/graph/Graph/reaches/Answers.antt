@@ -2,9 +2,7 @@ use Rattle.std.proofs.Common.{◌≡◌, ◌↔◌, ◌∷◌, [], List, ap, map
 use Rattle.import_graph.specs.declared.imports.FileImports.{FileImports}
 use Rattle.import_graph.specs.Imports.{targets}
 use Rattle.import_graph.specs.Walks.{ReachedFrom}
-use Rattle.std.specs.Prelude.{IsTrue}
-use Rattle.std.specs.BTreeSet.{contains}
-use Rattle.std.specs.Ordering.{nat_cmp}
+use Rattle.import_graph.specs.FileSearches.{IsSeen}
 use Rattle.import_graph.proofs.Views.{Within, imports_within, reaches_listed}
 use Rattle.std.specs.Cmp.{both_ways}
 use Rattle.import_graph.specs.Closures.{reaches}
@@ -20,9 +18,9 @@ reached-requires-clause-next c =
 found_is : goal.returns-clause-exact
 found_is c =
     let listed : c.as_slice.result.now ≡ map targets c.args.self.now = c.as_slice.ensures.value ∙ (c.self.invariant.imports ∙ ap (λ (g : List FileImports). map targets g) c.self.view_is) in
-    let found : IsTrue (contains nat_cmp c.in_ok-seen.seen c.args.to) ↔ ReachedFrom (map targets c.args.self.now) (c.args.from ∷ []) c.args.to = rw listed at c.in_ok-seen.ensures.exact c.args.to in
+    let found : IsSeen c.in_ok-search.search c.args.to ↔ ReachedFrom (map targets c.args.self.now) (c.args.from ∷ []) c.args.to = rw listed at c.in_ok-search.ensures.exact c.args.to in
     let by = reaches_listed c.args.self.now c.args.from c.args.to in
-    (λ e. by.0 (found.0 (sym c.contains.ensures ∙ e)), λ walk. c.contains.ensures ∙ found.1 (by.1 walk))
+    (λ e. by.0 (found.0 (sym c.has_seen.ensures ∙ e)), λ walk. c.has_seen.ensures ∙ found.1 (by.1 walk))
 
 pub returns-clause-exact : goal.returns-clause-exact
 returns-clause-exact c = found_is c
@@ -32,4 +30,4 @@ returns-clause-value c =
     let within : Within c.args.self.now = rw c.self.view_is at c.self.invariant.within in
     let by = reaches_is c.args.self.now within c.args.from c.args.to in
     let is = found_is c in
-    both_ways c.contains.result (reaches c.args.self.now c.args.from c.args.to) (λ e. by.1 (is.0 e)) (λ e. is.1 (by.0 e))
+    both_ways c.has_seen.result (reaches c.args.self.now c.args.from c.args.to) (λ e. by.1 (is.0 e)) (λ e. is.1 (by.0 e))

@@ -1,6 +1,9 @@
 use Rattle.std.proofs.Common.{◌≡◌, ◌<◌, List, ◌∙◌, sym, length, map, set, get_or}
 use Rattle.import_graph.specs.declared.paths.NamedFacts.{NamedFacts}
-use Rattle.proto_resolve.proofs.Outlines.{asking, telling, keeps_asking, keeps_telling, same_graph, same_decls, same_named, still_in_order}
+use Rattle.proto_resolve.specs.Holders.{is_held}
+use Rattle.proto_resolve.specs.Tables.{name_at}
+use Rattle.proto_resolve.proofs.ByLast.{still_by_last}
+use Rattle.proto_resolve.proofs.Outlines.{asking, telling, keeps_asking, keeps_telling, same_graph, same_decls, same_held, same_name, same_named, still_in_order}
 use Rattle.proto_resolve.proofs.table.Table.set_facts.Goals as goal
 
 pub invariant_of-self : goal.invariant_of-self
@@ -13,5 +16,10 @@ invariant_of-self c =
     let there : f < length files = rw seen at c.requires.within in
     let is : file ≡ get_or files f file = c.index_mut.ensures.value in
     let asks : map asking files ≡ map asking new = sym (keeps_asking files f file c.args.facts there is (rw seen at c.requires.imports)) in
-    let tells : map telling files ≡ map telling new = sym (keeps_telling files f file c.args.facts there is (rw seen at c.requires.exports)) in
-    (c.self.invariant.0 ∙ same_graph files new asks, c.self.invariant.1 ∙ same_decls files new tells, λ q. c.self.invariant.2 q ∙ same_named files new tells q, still_in_order files f file c.args.facts there is c.self.invariant.3)
+    let tells : map telling files ≡ map telling new = sym (keeps_telling files f file c.args.facts there is (rw seen at c.requires.exports)) in (
+      c.self.invariant.0 ∙ same_graph files new asks,
+      c.self.invariant.1 ∙ same_decls files new tells,
+      λ q. c.self.invariant.2 q ∙ same_named files new tells q,
+      still_by_last (name_at files) (name_at new) (is_held files) (is_held new) c.self.inside.holders (same_name files new tells) (same_held files new tells) c.self.invariant.3,
+      still_in_order files f file c.args.facts there is c.self.invariant.4,
+    )

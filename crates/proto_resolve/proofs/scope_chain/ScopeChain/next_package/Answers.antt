@@ -1,0 +1,23 @@
+use Rattle.std.proofs.Common.{◌≡◌, length, arith}
+use Rattle.std.specs.Prelude.{string_bytes}
+use Rattle.file_facts.specs.Text.{joined}
+use Rattle.proto_resolve.specs.Views.{have}
+use Rattle.proto_resolve.proofs.NextScopes.{none_next, some_next}
+use Rattle.proto_resolve.proofs.ScopeChains.{as_many}
+use Rattle.proto_resolve.proofs.scope_chain.ScopeChain.next_package.Goals as goal
+
+pub returns-in-None : goal.returns-in-None
+returns-in-None c =
+    let many = as_many (string_bytes c.self.inside.text) c.self.inside.lengths in
+    let long : length c.args.self.now ≡ length c.self.inside.lengths = rw (← c.self.view_is) many in
+    let none = rw (c.len.ensures, c.as_slice.ensures, c.as_bytes.ensures.value, c.as_str.ensures.value) at c.in-None.ensures in
+    rw (← c.self.view_is)
+    (none_next (λ s. have (joined s c.args.name.now) c.args.packages.now) (string_bytes c.self.inside.text) c.self.inside.lengths c.args.number (omega (arith, c.requires, long)) none)
+
+pub returns-in-Some : goal.returns-in-Some
+returns-in-Some c =
+    let many = as_many (string_bytes c.self.inside.text) c.self.inside.lengths in
+    let long : length c.args.self.now ≡ length c.self.inside.lengths = rw (← c.self.view_is) many in
+    let last = rw (c.len.ensures, c.as_slice.ensures, c.as_bytes.ensures.value, c.as_str.ensures.value) at c.in-Some.ensures in
+    rw (← c.self.view_is, c.len-in-Some.ensures)
+    (some_next (λ s. have (joined s c.args.name.now) c.args.packages.now) (string_bytes c.self.inside.text) c.self.inside.lengths c.args.number (omega (arith, c.requires, long)) c.in-Some.place last)
