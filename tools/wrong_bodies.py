@@ -517,8 +517,8 @@ def main(words):
     lacking = {*given.crates} - {it.name for it in crates}
     if lacking:
         sys.exit(f"wrong_bodies: crates.txt names no crate {', '.join(sorted(lacking))}")
-    held = kit.hold(crates)
     crates = [it for it in crates if os.path.isdir(f"{it.folder}/{given.folder}") and (not given.crates or it.name in given.crates)]
+    held = kit.hold(kit.in_order({*crates, *(below for crate in crates for below in crate.below())}))
     slots, surfaces, printing = threading.Semaphore(given.jobs), Surfaces(), threading.Lock()
     trials = {it: Trial(it, given, slots, surfaces) for it in crates}
     stale = [it for it in crates if trials[it].sort_out()[0]]

@@ -32,8 +32,11 @@ fn pairs_of(alloc: Global, decls: &[Decl]) -> Result<BytePairs, AllocError>
     ensures { IfOk result (λ pairs. All (λ decl. HasPairs pairs decl.full_name) decls.now) }
 {
     let mut pairs = BytePairs::none(alloc)?;
+    let mut before: &[u8] = &[];
     for decl in decls {
-        pairs.add_text(decl.full_name.as_str());
+        let text = decl.full_name.as_str().as_bytes();
+        pairs.add_text(before, text);
+        before = text;
     }
     Ok(pairs)
 }

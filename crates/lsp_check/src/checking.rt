@@ -9,21 +9,22 @@ ghost use Rattle.lsp_config.specs.Configuration.{files_of};
 ghost use Rattle.lsp_config.specs.Fault.{IsWriteOrMemory};
 ghost use Rattle.lsp_config.specs.Sending.{SendsPrefix};
 
+use crate::checked_files::{CheckedFiles, check_files};
 use crate::lines::{has_errors, lines_of};
 use file_facts::Diag;
 use lsp_config::{Config, ServeFault};
 use lsp_frame::{ByteSink, write_bytes};
-use lsp_workspace::{Snapshot, from_disk, snapshot_of};
+use lsp_workspace::from_disk;
 use piece_collector::Piece;
 use std::alloc::{AllocError, Global};
 use work_index::FileWork;
 
 // The analysis of the files of a configuration.
-fn link_files(alloc: Global, config: Config) -> Result<Snapshot, AllocError>
-    ensures { IfOk result (λ snapshot. snapshot ≡ workspace (files_of config)) }
+fn link_files(alloc: Global, config: Config) -> Result<CheckedFiles, AllocError>
+    ensures { IfOk result (λ checked. checked ≡ workspace (files_of config)) }
 {
     let files = from_disk(alloc, config.into_files())?;
-    snapshot_of(alloc, None, &files)
+    check_files(alloc, &files)
 }
 
 // Writes the lines of a file.
@@ -54,12 +55,12 @@ fn send_lines<K: ByteSink>(
 fn send_all<K: ByteSink>(
     alloc: Global,
     writer: &mut K,
-    snapshot: &Snapshot,
+    checked: &CheckedFiles,
     pieces: &[Piece<FileWork>],
 ) -> Result<(), ServeFault>
-    requires { workspace_of pieces.now ≡ snapshot.now }
-    ensures ok { OnOk result (Appends (K.written writer.old) (K.written writer.new) (listing snapshot.now)) }
-    ensures err { OnErr result (SendsPrefix (K.written writer.old) (K.written writer.new) (listing snapshot.now)) }
+    requires { workspace_of pieces.now ≡ checked.now }
+    ensures ok { OnOk result (Appends (K.written writer.old) (K.written writer.new) (listing checked.now)) }
+    ensures err { OnErr result (SendsPrefix (K.written writer.old) (K.written writer.new) (listing checked.now)) }
     ensures fault { IfErr result (IsWriteOrMemory (K.counts writer.old) (K.counts writer.new)) }
     ensures calm { OnOk result (NoError (K.counts writer.old) (K.counts writer.new)) }
     ensures once { (K.counts writer.new).errors ≤ (K.counts writer.old).errors + 1 }
@@ -70,7 +71,7 @@ fn send_all<K: ByteSink>(
             writer,
             piece.path(),
             piece.text(),
-            snapshot.diagnostics(number),
+            checked.diagnostics(number),
         )?;
     }
     Ok(())
@@ -80,17 +81,17 @@ fn send_all<K: ByteSink>(
 fn send_and_judge<K: ByteSink>(
     alloc: Global,
     writer: &mut K,
-    snapshot: &Snapshot,
+    checked: &CheckedFiles,
 ) -> Result<bool, ServeFault>
-    ensures prefix { SendsPrefix (K.written writer.old) (K.written writer.new) (listing snapshot.now) }
-    ensures whole { OnOk result (Appends (K.written writer.old) (K.written writer.new) (listing snapshot.now)) }
-    ensures errors { IfOk result (λ found. found ≡ has_errors snapshot.now) }
+    ensures prefix { SendsPrefix (K.written writer.old) (K.written writer.new) (listing checked.now) }
+    ensures whole { OnOk result (Appends (K.written writer.old) (K.written writer.new) (listing checked.now)) }
+    ensures errors { IfOk result (λ found. found ≡ has_errors checked.now) }
     ensures fault { IfErr result (IsWriteOrMemory (K.counts writer.old) (K.counts writer.new)) }
     ensures calm { OnOk result (NoError (K.counts writer.old) (K.counts writer.new)) }
     ensures once { (K.counts writer.new).errors ≤ (K.counts writer.old).errors + 1 }
 {
-    send_all(alloc, writer, snapshot, snapshot.pieces())?;
-    Ok(has_errors(snapshot))
+    send_all(alloc, writer, checked, checked.pieces())?;
+    Ok(has_errors(checked))
 }
 
 /// Checks the files of a configuration: writes a line for each diagnostic, and answers whether one is an error.
@@ -114,8 +115,8 @@ pub fn check<K: ByteSink>(alloc: Global, writer: &mut K, config: Config) -> Resu
     ensures calm { OnOk result (NoError (K.counts writer.old) (K.counts writer.new)) }
     ensures once { (K.counts writer.new).errors ≤ (K.counts writer.old).errors + 1 }
 {
-    let Ok(snapshot) = link_files(alloc, config) else {
+    let Ok(checked) = link_files(alloc, config) else {
         return Err(ServeFault::Memory);
     };
-    send_and_judge(alloc, writer, &snapshot)
+    send_and_judge(alloc, writer, &checked)
 }

@@ -2,6 +2,8 @@
 use Rattle.std.specs.Prelude.{ℕ, ⊤}
 use Rattle.lsp_frame.specs.Counts.{HasFailed}
 use Rattle.lsp_frame.specs.declared.counts.Counts.{Counts}
+use Rattle.piece_collector.specs.declared.fault.BoardFault.{BoardFault}
+use Rattle.piece_collector.specs.declared.fault.BoardFault.TheVariants as board
 use Rattle.lsp_config.specs.declared.fault.CoreFault.{CoreFault}
 use Rattle.lsp_config.specs.declared.fault.CoreFault.TheVariants as core
 use Rattle.lsp_config.specs.declared.fault.ServeFault.{ServeFault}
@@ -9,11 +11,23 @@ use Rattle.lsp_config.specs.declared.fault.ServeFault.TheVariants as serve
 
 abbrev pub core_code : CoreFault → ℕ
 core_code core.Memory = 803
+core_code core.Exhausted = 805
+
+-- the fault of a core whose board refused a text
+abbrev pub core_fault_of : BoardFault → CoreFault
+core_fault_of board.Memory = core.Memory
+core_fault_of board.Exhausted = core.Exhausted
+
+-- the fault of a server whose core stopped
+abbrev pub serve_fault_of : CoreFault → ServeFault
+serve_fault_of core.Memory = serve.Memory
+serve_fault_of core.Exhausted = serve.Exhausted
 
 abbrev pub serve_code : ServeFault → ℕ
 serve_code serve.Read = 801
 serve_code serve.Write = 802
 serve_code serve.Memory = 803
+serve_code serve.Exhausted = 805
 serve_code serve.BadRoot = 806
 serve_code (serve.BadPath index) = 807
 
@@ -28,5 +42,15 @@ abbrev pub IsWriteOrMemory : Counts → Counts → ServeFault → Type 0
 IsWriteOrMemory old new serve.Read = ⊥
 IsWriteOrMemory old new serve.Write = HasFailed old new
 IsWriteOrMemory old new serve.Memory = ⊤
+IsWriteOrMemory old new serve.Exhausted = ⊥
 IsWriteOrMemory old new serve.BadRoot = ⊥
 IsWriteOrMemory old new (serve.BadPath index) = ⊥
+
+-- a fault where only a writer and a core can fail: the writer's only where it failed between these counts
+abbrev pub IsWriteOrCore : Counts → Counts → ServeFault → Type 0
+IsWriteOrCore old new serve.Read = ⊥
+IsWriteOrCore old new serve.Write = HasFailed old new
+IsWriteOrCore old new serve.Memory = ⊤
+IsWriteOrCore old new serve.Exhausted = ⊤
+IsWriteOrCore old new serve.BadRoot = ⊥
+IsWriteOrCore old new (serve.BadPath index) = ⊥

@@ -1,6 +1,9 @@
 // What can fail in a server.
 ghost use Rattle.std.specs.Prelude.{◌≡◌};
+ghost use Rattle.lsp_config.specs.Fault.{core_fault_of, serve_fault_of};
+ghost use Rattle.lsp_config.specs.declared.fault.CoreFault.TheVariants as core;
 
+use piece_collector::BoardFault;
 use std::alloc::AllocError;
 use thiserror::Error;
 
@@ -10,17 +13,40 @@ pub enum CoreFault {
     /// 803: memory was refused.
     #[error("out of memory")]
     Memory,
+    /// 805: a text needed a stamp after `u64::MAX`.
+    #[error("no stamp is left")]
+    Exhausted,
 }
 
 impl CoreFault {
     ghost use Rattle.lsp_config.specs.Fault.{core_code};
 
-    /// The fault's number, 803.
+    /// The fault's number, 803 or 805.
     pub fn code(&self) -> u32
         ensures { result ≡ core_code self.now }
     {
         match self {
             CoreFault::Memory => 803,
+            CoreFault::Exhausted => 805,
+        }
+    }
+}
+
+impl From<AllocError> for CoreFault {
+    ghost from_gives = { λ _ e. e ≡ core.Memory };
+
+    fn from(_refused: AllocError) -> CoreFault {
+        CoreFault::Memory
+    }
+}
+
+impl From<BoardFault> for CoreFault {
+    ghost from_gives = { λ fault e. e ≡ core_fault_of fault };
+
+    fn from(fault: BoardFault) -> CoreFault {
+        match fault {
+            BoardFault::Memory => CoreFault::Memory,
+            BoardFault::Exhausted => CoreFault::Exhausted,
         }
     }
 }
@@ -37,6 +63,9 @@ pub enum ServeFault {
     /// 803: memory was refused.
     #[error("out of memory")]
     Memory,
+    /// 805: a text needed a stamp after `u64::MAX`.
+    #[error("no stamp is left")]
+    Exhausted,
     /// 806: there isn't exactly one root, or it is none.
     #[error("a root is bad")]
     BadRoot,
@@ -51,7 +80,7 @@ pub enum ServeFault {
 impl ServeFault {
     ghost use Rattle.lsp_config.specs.Fault.{serve_code};
 
-    /// The fault's number, one of 801 to 803, 806 and 807.
+    /// The fault's number, one of 801 to 803 and 805 to 807.
     pub fn code(&self) -> u32
         ensures { result ≡ serve_code self.now }
     {
@@ -59,8 +88,20 @@ impl ServeFault {
             ServeFault::Read => 801,
             ServeFault::Write => 802,
             ServeFault::Memory => 803,
+            ServeFault::Exhausted => 805,
             ServeFault::BadRoot => 806,
             ServeFault::BadPath { .. } => 807,
+        }
+    }
+}
+
+impl From<CoreFault> for ServeFault {
+    ghost from_gives = { λ fault e. e ≡ serve_fault_of fault };
+
+    fn from(fault: CoreFault) -> ServeFault {
+        match fault {
+            CoreFault::Memory => ServeFault::Memory,
+            CoreFault::Exhausted => ServeFault::Exhausted,
         }
     }
 }

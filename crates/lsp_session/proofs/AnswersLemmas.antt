@@ -1,5 +1,5 @@
 -- Names, places and declarations in replies.
-use Rattle.std.proofs.Common.{◌≡◌, ◌==◌, ◌-◌, ℕ, Bool, true, false, zero, suc, ◌+◌, ◌<◌, ◌≤◌, List, [], ◌∷◌, ◌++◌, Option, Some, None, length, take, drop, get_or, map, flat_map, refl, ap, ap₂, sym, ◌∙◌, arith, ⊎_elim, append-nil, length-take-le, subst, IfSome}
+use Rattle.std.proofs.Common.{◌≡◌, ◌==◌, ℕ, Bool, true, false, zero, suc, ◌+◌, ◌<◌, List, [], ◌∷◌, ◌++◌, Option, Some, None, length, take, drop, get_or, map, flat_map, refl, ap, ap₂, sym, ◌∙◌, arith, ⊎_elim, append-nil, length-take-le, subst, IfSome}
 use Rattle.std.specs.Prelude.{All, if◌then◌else◌, option_map}
 use Rattle.std.specs.Option.{option_or}
 use Rattle.std.proofs.Math.Seq.{take-add}
@@ -10,10 +10,9 @@ use Rattle.doc_text.specs.Positions.{position_of}
 use Rattle.doc_text.specs.declared.encoding.Encoding.TheVariants.{Utf16}
 use Rattle.doc_text.specs.declared.position.Position.{Position}
 use Rattle.doc_text.specs.declared.position.Range.{Range}
-use Rattle.file_facts.specs.declared.fact.Decl.{Decl}
 use Rattle.lsp_queries.specs.declared.place.Place.{Place}
 use Rattle.lsp_rpc.specs.Location.{LocationData}
-use Rattle.lsp_rpc.specs.Symbol.{SymbolData, symbol_view}
+use Rattle.lsp_rpc.specs.Symbol.{symbol_view}
 use Rattle.lsp_rpc.specs.declared.symbol.Symbol.{Symbol}
 use Rattle.lsp_workspace.specs.Files.{Files}
 use Rattle.work_index.specs.Workspace.{Workspace}

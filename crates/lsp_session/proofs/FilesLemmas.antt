@@ -80,7 +80,7 @@ first_request-files : (s : State) (id : IdData) (method : Option Method) → (fi
 first_request-files s id (Some Initialize) = refl
 first_request-files s id _ = refl
 
-requested-files : (phase : Phase) (s : State) (id : IdData) (method : Option Method) (params : Data) → (requested phase s id method params).state.files ≡ s.files
+pub requested-files : (phase : Phase) (s : State) (id : IdData) (method : Option Method) (params : Data) → (requested phase s id method params).state.files ≡ s.files
 requested-files Uninitialized s id method params = first_request-files s id method
 requested-files Running s id method params = running_request-files s id method params
 requested-files Shut s id method params = refl
@@ -88,7 +88,7 @@ requested-files (Exited after_shutdown) s id method params = refl
 
 -- ---- notifications
 
-exits-files : (after_shutdown : Bool) (s : State) (method : Option Method) → (exits after_shutdown s method).files ≡ s.files
+pub exits-files : (after_shutdown : Bool) (s : State) (method : Option Method) → (exits after_shutdown s method).files ≡ s.files
 exits-files after_shutdown s (Some Exit) = refl
 exits-files after_shutdown s _ = refl
 

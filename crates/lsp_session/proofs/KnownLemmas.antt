@@ -1,5 +1,5 @@
 -- What is answered of the same files is the same, and what a refused rename is answered with.
-use Rattle.std.proofs.Common.{◌≡◌, ℕ, true, false, List, [], ◌∷◌, Option, Some, None, Result, Ok, Err, is_some, map, refl, sym, ap, ◌∙◌, subst}
+use Rattle.std.proofs.Common.{◌≡◌, ℕ, true, false, List, [], ◌∷◌, Option, Some, None, Result, Err, is_some, map, refl, sym, ap, ◌∙◌}
 use Rattle.std.specs.Prelude.{◌≢◌, option_map}
 use Rattle.std.specs.Option.{option_to_list}
 use Rattle.doc_text.specs.declared.position.Range.{Range}

@@ -1,8 +1,8 @@
-mod CoreLemmas
+pub mod CoreLemmas
+mod RunLemmas
 mod DiagnosticsLemmas
 mod ReportsLemmas
-mod FilesLemmas
-mod RunLemmas
+pub mod FilesLemmas
 mod ServingLemmas
 mod AnswersLemmas
 mod KnownLemmas

@@ -1,5 +1,5 @@
 -- The reports of all files beside what is said of each document.
-use Rattle.std.proofs.Common.{◌≡◌, ℕ, ◌+◌, List, [], ◌∷◌, false, map, nat_cmp, refl, sym, ap, ◌∙◌}
+use Rattle.std.proofs.Common.{◌≡◌, ℕ, zero, suc, ◌+◌, ◌<◌, List, [], ◌∷◌, ◌++◌, false, length, map, take, nat_cmp, refl, sym, ap, ◌∙◌, arith}
 use Rattle.std.specs.Prelude.{slice_index_or, bytes_eq}
 use Rattle.std.specs.List.{enumerate_from, position_from}
 use Rattle.std.specs.List.Sorted.{IsStrictlySortedBy}
@@ -8,6 +8,7 @@ use Rattle.std.specs.Ordering.{is_eq}
 use Rattle.std.specs.Cmp.Lexicographic.{slice_cmp, bytes_decides}
 use Rattle.std.specs.declared.cmp.Ordering.TheVariants.{Less}
 use Rattle.std.proofs.lemmas.Iterator.Adapters.{position_from-zero}
+use Rattle.std.proofs.lemmas.List.{map-append}
 use Rattle.std.proofs.lemmas.Map.Text.{is_eq-slice_cmp}
 use Rattle.std.proofs.lemmas.Simd.{map-map}
 use Rattle.lsp_rpc.specs.Diagnostic.{DiagnosticData}
@@ -53,3 +54,20 @@ reports_of_documents root files order =
     let w = workspace files in
     let a = analysis w in
     map-map (λ (report : DocumentData). report.diagnostics) (numbered_report root files a) (enumerate_from 0 w) ∙ found-all a.diagnostics 0 w (ascend-workspace files order) ∙ by_path a w refl
+
+-- ---- one report more
+
+enumerate-more : (n : ℕ) (w : Workspace) (i : ℕ) → i < length w → enumerate_from n (take (suc i) w) ≡ enumerate_from n (take i w) ++ (n + i, slice_index_or w i ([], [])) ∷ []
+enumerate-more n [] i there = absurd (omega (arith, there))
+enumerate-more n (file ∷ w) zero there = let same : n ≡ n + 0 = omega arith in ap (λ m. (m, file) ∷ []) same
+enumerate-more n (file ∷ w) (suc i) there =
+    let same : n + 1 + i ≡ n + suc i = omega arith in
+    ap (λ l. (n, file) ∷ l) (enumerate-more (n + 1) w i (omega (arith, there)) ∙ ap (λ m. enumerate_from (n + 1) (take i w) ++ (m, slice_index_or w i ([], [])) ∷ []) same)
+
+pub reports-more : {X : Type 0} (f : ℕ × (List ℕ × List ℕ) → X) (w : Workspace) (i : ℕ) → i < length w → map f (enumerate_from 0 (take (i + 1) w)) ≡ map f (enumerate_from 0 (take i w)) ++ f (i, slice_index_or w i ([], [])) ∷ []
+reports-more f w i there =
+    let count : i + 1 ≡ suc i = omega arith in
+    let number : 0 + i ≡ i = omega arith in
+    let first = enumerate_from 0 (take i w) in
+    let file = slice_index_or w i ([], []) in
+    ap (λ k. map f (enumerate_from 0 (take k w))) count ∙ ap (map f) (enumerate-more 0 w i there ∙ ap (λ k. first ++ (k, file) ∷ []) number) ∙ map-append f first ((i, file) ∷ [])

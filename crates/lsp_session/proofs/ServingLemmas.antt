@@ -3,9 +3,8 @@ use Rattle.std.proofs.Common.{◌≡◌, ℕ, zero, suc, ◌+◌, ◌<◌, ◌�
 use Rattle.std.specs.Prelude.{IfSome, IfOk, IfErr, OnOk, ⊤, is_some}
 use Rattle.std.specs.Io.KnownBytes.{Appends}
 use Rattle.std.proofs.KnownBytes.{Appends-trans, Appends-nil}
-use Rattle.std.proofs.Math.Seq.{take-append-add}
 use Rattle.std.proofs.lemmas.Grind.{flat_map-append}
-use Rattle.std.proofs.lemmas.List.{take-append-le, take_at, take_all, take_more, drop_more}
+use Rattle.std.proofs.lemmas.List.{take_all, take_more, drop_more}
 use Rattle.serde_json.specs.Written.{compact_text}
 use Rattle.lsp_frame.specs.Fault.{code_of}
 use Rattle.lsp_frame.specs.Stream.{StreamEnd, InputEnd, BadFrame, first_frame, frames, with_body, no_frames}
@@ -22,21 +21,23 @@ use Rattle.lsp_frame.proofs.Splits.{begins_with}
 use Rattle.lsp_frame.proofs.StreamLemmas.{frames-whole, frames-end}
 use Rattle.lsp_rpc.specs.Message.{message_of}
 use Rattle.lsp_config.specs.Configuration.{Configuration}
-use Rattle.lsp_config.specs.Fault.{ComesWhileServing, IsWriteOrMemory}
+use Rattle.lsp_config.specs.Fault.{ComesWhileServing, IsWriteOrCore, serve_fault_of}
 use Rattle.lsp_config.specs.Sending.{SendsPrefix}
 use Rattle.lsp_config.proofs.SendingLemmas.{front-of, front-behind, nothing_sent}
+use Rattle.lsp_config.specs.declared.fault.CoreFault.{CoreFault}
+use Rattle.lsp_config.specs.declared.fault.CoreFault.TheVariants as core_fault
 use Rattle.lsp_config.specs.declared.fault.ServeFault.{ServeFault}
 use Rattle.lsp_config.specs.declared.fault.ServeFault.TheVariants as served
 use Rattle.lsp_session.specs.Core.{CoreState}
 use Rattle.lsp_session.specs.Session.{State, Run, turn, turn_in, next, start, session}
 use Rattle.lsp_session.specs.Serving.{Calls, IsCaused, Serves, Serving, Ends, Finishes, Fails, Served, Comes, exit_in, end_by}
-use Rattle.lsp_session.specs.Steps.{turns, Knows, replies_to}
+use Rattle.lsp_session.specs.Steps.{Knows, replies_to}
 use Rattle.lsp_session.specs.Stream.{IsExit, HasFrameCode, LeavesReader, Answered, frames_of, output, ended, ended_in, exit_of, is_exited, taken_from, behind_first, behind_frames, behind_exit}
 use Rattle.lsp_session.specs.declared.ended.Ended.{Ended}
 use Rattle.lsp_session.specs.declared.ended.Ended.TheVariants as how
 use Rattle.lsp_session.specs.declared.phase.Phase.{Phase}
 use Rattle.lsp_session.specs.declared.phase.Phase.TheVariants.{Uninitialized, Running, Shut, Exited}
-use Rattle.lsp_session.proofs.CoreLemmas.{session-none, session-append, session-snoc, fold-next, knows-state}
+use Rattle.lsp_session.proofs.CoreLemmas.{session-none, session-append, session-snoc, knows-state}
 
 -- the bodies of the stream are those that were taken, and those that are left
 pub came : {config : Configuration} {bytes rest : List ℕ} {core : CoreState} {v w : Option (List ℕ)} → (s : Serves config bytes rest core v w) → (frames bytes).bodies ≡ s.bodies ++ (frames rest).bodies
@@ -185,11 +186,18 @@ exits_at config (Some bytes) (Some rest) v w core after_shutdown s e =
 -- ---- where something failed
 
 -- the output goes on behind the replies to the first messages
+replies-more : (r : Run) (bodies : List (List ℕ)) → (more : List (List ℕ)) × ((fold next r bodies).replies ≡ r.replies ++ more)
+replies-more r [] = ([], sym (append-nil r.replies))
+replies-more r (body ∷ bodies) =
+    let here = map compact_text (turn r.state (message_of body)).replies in
+    let behind = replies-more (next r body) bodies in
+    (here ++ behind.0, behind.1 ∙ append_assoc r.replies here behind.0)
+
 output-more : (config : Configuration) (bodies later : List (List ℕ)) → (more : List ℕ) × (frames_of (session config (bodies ++ later)).replies ≡ frames_of (session config bodies).replies ++ more)
 output-more config bodies later =
     let first = session config bodies in
-    let new = map compact_text (turns first.state (map message_of later)).replies in
-    (frames_of new, ap (λ r. frames_of r.replies) (session-append config bodies later) ∙ ap frames_of (fold-next first later).replies ∙ flat_map-append frame_of first.replies new)
+    let new = replies-more first later in
+    (frames_of new.0, ap (λ r. frames_of r.replies) (session-append config bodies later) ∙ ap frames_of new.1 ∙ flat_map-append frame_of first.replies new.0)
 
 pub stops : (config : Configuration) (a b v w : Option (List ℕ)) (core : CoreState) → Serving config a b core v w → IfSome a (λ bytes. SendsPrefix v w (output config bytes))
 stops config None b v w core s = tt
@@ -252,21 +260,23 @@ pub message_comes : (config : Configuration) (a c v x : Option (List ℕ)) (core
 message_comes config a c v x core s = message_in config a c v x core (exit_of core.state.phase) refl s
 
 -- it wasn't
-pub message_fails : (config : Configuration) (a c v x : Option (List ℕ)) (old new : Counts) (fault : ServeFault) → IsWriteOrMemory old new fault → IfSome a (λ bytes. SendsPrefix v x (output config bytes)) → Fails config a c v x fault
+pub message_fails : (config : Configuration) (a c v x : Option (List ℕ)) (old new : Counts) (fault : ServeFault) → IsWriteOrCore old new fault → IfSome a (λ bytes. SendsPrefix v x (output config bytes)) → Fails config a c v x fault
 message_fails config a c v x old new served.Read of prefix = absurd of
 message_fails config a c v x old new served.Write of prefix = record { prefix = prefix; answered = λ e. cc; comes = tt }
 message_fails config a c v x old new served.Memory of prefix = record { prefix = prefix; answered = λ e. cc; comes = tt }
+message_fails config a c v x old new served.Exhausted of prefix = record { prefix = prefix; answered = λ e. cc; comes = tt }
 message_fails config a c v x old new served.BadRoot of prefix = absurd of
 message_fails config a c v x old new (served.BadPath index) of prefix = absurd of
 
-message_cause : (a b old new : Counts) (fault : ServeFault) → IsWriteOrMemory old new fault → IsCaused a b old new fault
+message_cause : (a b old new : Counts) (fault : ServeFault) → IsWriteOrCore old new fault → IsCaused a b old new fault
 message_cause a b old new served.Read of = absurd of
 message_cause a b old new served.Write of = of
 message_cause a b old new served.Memory of = tt
+message_cause a b old new served.Exhausted of = tt
 message_cause a b old new served.BadRoot of = absurd of
 message_cause a b old new (served.BadPath index) of = absurd of
 
-pub message_caused : {A : Type 0} (a b old new : Counts) (result : Result A ServeFault) → IfErr result (IsWriteOrMemory old new) → IfErr result (IsCaused a b old new)
+pub message_caused : {A : Type 0} (a b old new : Counts) (result : Result A ServeFault) → IfErr result (IsWriteOrCore old new) → IfErr result (IsCaused a b old new)
 message_caused a b old new (Ok x) of = tt
 message_caused a b old new (Err fault) of = message_cause a b old new fault of
 
@@ -352,15 +362,22 @@ pub more_cause : (a b c k l m : Counts) (fault : ServeFault) → NoneFell a b �
 more_cause a b c k l m served.Read reads writes of = HasFailed-after reads of
 more_cause a b c k l m served.Write reads writes of = HasFailed-after writes of
 more_cause a b c k l m served.Memory reads writes of = tt
+more_cause a b c k l m served.Exhausted reads writes of = tt
 more_cause a b c k l m served.BadRoot reads writes of = tt
 more_cause a b c k l m (served.BadPath index) reads writes of = tt
 
 -- ---- a session to its end
 
 -- it failed before its first message
-pub fails_at_start : (config : Configuration) (a left v : Option (List ℕ)) → Fails config a left v v served.Memory
-fails_at_start config None left v = record { prefix = tt; answered = λ e. tt; comes = tt }
-fails_at_start config (Some bytes) left v = record { prefix = nothing_sent v (output config bytes); answered = λ e. cc; comes = tt }
+pub fails_at_start : (config : Configuration) (a left v : Option (List ℕ)) (fault : CoreFault) → Fails config a left v v (serve_fault_of fault)
+fails_at_start config None left v core_fault.Memory = record { prefix = tt; answered = λ e. tt; comes = tt }
+fails_at_start config None left v core_fault.Exhausted = record { prefix = tt; answered = λ e. tt; comes = tt }
+fails_at_start config (Some bytes) left v core_fault.Memory = record { prefix = nothing_sent v (output config bytes); answered = λ e. cc; comes = tt }
+fails_at_start config (Some bytes) left v core_fault.Exhausted = record { prefix = nothing_sent v (output config bytes); answered = λ e. cc; comes = tt }
+
+pub core_caused : (a b k l : Counts) (fault : CoreFault) → IsCaused a b k l (serve_fault_of fault)
+core_caused a b k l core_fault.Memory = tt
+core_caused a b k l core_fault.Exhausted = tt
 
 module _ (config : Configuration) (a left v w : Option (List ℕ)) (last : Option LastAnswer) where
   all-prefix : (all : List ℕ) → Appends v w all → SendsPrefix v w all
@@ -416,6 +433,7 @@ cause-read a b k l (Ok end) h = tt
 cause-read a b k l (Err served.Read) h = λ e. h
 cause-read a b k l (Err served.Write) h = λ e. cc
 cause-read a b k l (Err served.Memory) h = λ e. cc
+cause-read a b k l (Err served.Exhausted) h = λ e. cc
 cause-read a b k l (Err served.BadRoot) h = λ e. cc
 cause-read a b k l (Err (served.BadPath index)) h = λ e. cc
 
@@ -424,5 +442,6 @@ cause-write a b k l (Ok end) h = tt
 cause-write a b k l (Err served.Read) h = λ e. cc
 cause-write a b k l (Err served.Write) h = λ e. h
 cause-write a b k l (Err served.Memory) h = λ e. cc
+cause-write a b k l (Err served.Exhausted) h = λ e. cc
 cause-write a b k l (Err served.BadRoot) h = λ e. cc
 cause-write a b k l (Err (served.BadPath index)) h = λ e. cc

@@ -1,5 +1,5 @@
 -- What is kept of places and declarations, as the definitions of answers see it.
-use Rattle.std.specs.Prelude.{ℕ, List, string_bytes}
+use Rattle.std.specs.Prelude.{string_bytes}
 use Rattle.file_facts.specs.declared.fact.Decl.{Decl}
 use Rattle.lsp_queries.specs.declared.place.Place.{Place}
 use Rattle.lsp_session.specs.Answers.{DocumentPlaceData}

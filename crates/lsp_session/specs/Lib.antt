@@ -3,6 +3,7 @@ pub mod Reports
 pub mod Answers
 pub mod AnswerViews
 pub mod Session
+pub mod Working
 pub mod Stream
 pub mod Core
 pub mod Run

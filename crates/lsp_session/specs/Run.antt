@@ -1,14 +1,91 @@
--- A core over a list of events.
-use Rattle.std.specs.Prelude.{ℕ, List, Option, Some, None}
-use Rattle.std.specs.List.{filter_map}
+-- A core over a list of events, each followed by an advance.
+use Rattle.std.specs.Prelude.{◌≡◌, ℕ, List, [], ◌∷◌, ◌++◌, Bool, true, false, replicate, string_bytes}
+use Rattle.piece_collector.specs.History.{answer}
+use Rattle.piece_collector.specs.Events as work
+use Rattle.piece_collector.specs.declared.verdict.Verdict.{Verdict}
+use Rattle.work_index.specs.declared.done.Done.{Done}
+use Rattle.work_index.specs.declared.done.Done.TheVariants as job
+use Rattle.lsp_config.specs.Configuration.{Configuration}
+use Rattle.lsp_session.specs.Core.{Event, Arrive, Process, Offer, Fail, processed, done, board_events, CoreState, IsAfter, IsLegal, IsSettled}
+use Rattle.lsp_session.specs.Session.{session}
+use Rattle.lsp_session.specs.Steps.{IsWorked}
 use Rattle.lsp_session.specs.declared.run.CoreEvent.{CoreEvent}
-use Rattle.lsp_session.specs.declared.run.CoreEvent.TheVariants.{Message, Work}
+use Rattle.lsp_session.specs.declared.run.CoreEvent.TheVariants as listed
 
--- the body that comes with an event
-abbrev pub body_of : CoreEvent → Option (List ℕ)
-body_of (Message body) = Some body.items
-body_of Work = None
+-- what a worker sends back, as an event of the core
+abbrev pub event_of : Done → Event
+event_of (job.Made piece) = Offer piece.path piece.stamp piece.text
+event_of (job.Failed path stamp) = Fail (string_bytes path) stamp
 
--- the bodies of the messages among the events, in order
-abbrev pub bodies_of : List CoreEvent → List (List ℕ)
-bodies_of events = filter_map body_of events
+-- what a caller lists: a message, the work on a text, a failure, or that all work is done that the core has to give
+pub data Incoming : Type 0 where
+  Message : List ℕ → Incoming
+  Made : List ℕ → ℕ → List ℕ → Incoming
+  Failed : List ℕ → ℕ → Incoming
+  Work : Incoming
+
+abbrev pub incoming_of_done : Done → Incoming
+incoming_of_done (job.Made piece) = Made piece.path piece.stamp piece.text
+incoming_of_done (job.Failed path stamp) = Failed (string_bytes path) stamp
+
+abbrev pub incoming_of : CoreEvent → Incoming
+incoming_of (listed.Message body) = Message body.items
+incoming_of (listed.Offer sent) = incoming_of_done sent
+incoming_of listed.Work = Work
+
+-- the history behind it
+abbrev pub Comes : ℕ → Configuration → Incoming → List Event → List Event → Type 0
+Comes opening config (Message body) h after = after ≡ Arrive body ∷ h
+Comes opening config (Made path stamp text) h after = after ≡ Offer path stamp text ∷ h
+Comes opening config (Failed path stamp) h after = after ≡ Fail path stamp ∷ h
+Comes opening config Work h after = IsWorked opening config h after
+
+-- the verdict that it gets
+abbrev pub verdicts_of : ℕ → Configuration → List Event → Incoming → List Verdict
+verdicts_of opening config h (Message body) = []
+verdicts_of opening config h (Made path stamp text) = answer opening (board_events config h) (work.Offer path stamp text)
+verdicts_of opening config h (Failed path stamp) = answer opening (board_events config h) (work.Fail path stamp)
+verdicts_of opening config h Work = []
+
+-- it came, and then as many messages were processed as could be
+pub record Follows (opening : ℕ) (config : Configuration) (e : Incoming) (h next : List Event) : Type 0 where
+  pub after : List Event
+  pub comes : Comes opening config e h after
+  pub count : ℕ
+  pub is : next ≡ replicate count Process ++ after
+  pub legal : IsLegal opening config next
+  pub settled : IsSettled opening config next
+
+-- the history behind all that is listed, with the verdicts in order
+abbrev pub Runs : ℕ → Configuration → List Event → List Incoming → List Event → List Verdict → Type 0
+Runs opening config h [] last verdicts = (last ≡ h) × (verdicts ≡ [])
+Runs opening config h (e ∷ es) last verdicts =
+    (next : List Event) × Follows opening config e h next × ((later : List Verdict) × (verdicts ≡ verdicts_of opening config h e ++ later) × Runs opening config next es last later)
+
+-- a new core was run on all that is listed
+pub record HasRun (config : Configuration) (es : List Incoming) (replies : List (List ℕ)) (verdicts : List Verdict) (count : ℕ) : Type 0 where
+  pub history : List Event
+  pub runs : Runs 0 config [] es history verdicts
+  pub replied : replies ≡ (session config (done history)).replies
+  pub counted : count ≡ processed history
+
+-- how many messages are listed
+abbrev pub is_message : Incoming → Bool
+is_message (Message body) = true
+is_message (Made path stamp text) = false
+is_message (Failed path stamp) = false
+is_message Work = false
+
+-- the core is as after one more event
+pub record HasCome (opening : ℕ) (config : Configuration) (core : CoreState) (e : Incoming) (h : List Event) : Type 0 where
+  pub after : List Event
+  pub comes : Comes opening config e h after
+  pub is_after : IsAfter opening config core after
+
+-- the core is as after one more event and an advance, and replies and verdicts were added to those that there were
+pub record HasFollowed (opening : ℕ) (config : Configuration) (core : CoreState) (e : Incoming) (h : List Event) (replies more_replies : List (List ℕ)) (verdicts more_verdicts : List Verdict) : Type 0 where
+  pub next : List Event
+  pub follows : Follows opening config e h next
+  pub is_after : IsAfter opening config core next
+  pub replied : replies ≡ (session config (done h)).replies → more_replies ≡ (session config (done next)).replies
+  pub judged : more_verdicts ≡ verdicts ++ verdicts_of opening config h e

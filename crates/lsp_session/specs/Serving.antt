@@ -1,5 +1,5 @@
 -- What the private steps of a session over a stream promise each other.
-use Rattle.std.specs.Prelude.{◌≡◌, ℕ, ◌+◌, ◌≤◌, List, [], ◌∷◌, ◌++◌, length, ⊤, Bool, false, Option, Some, None, option_map, Result, Ok, Err, IfSome, OnOk}
+use Rattle.std.specs.Prelude.{◌≡◌, ℕ, ◌+◌, ◌≤◌, List, ◌++◌, length, ⊤, false, Option, Some, None, option_map, Result, Ok, Err, IfSome, OnOk}
 use Rattle.std.specs.Io.KnownBytes.{Appends}
 use Rattle.lsp_frame.specs.Counts.{NoneFell, NoError, HasFailed}
 use Rattle.lsp_frame.specs.Fault.{code_of}

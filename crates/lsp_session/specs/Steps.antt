@@ -1,29 +1,58 @@
--- What the private steps of a session and its core promise each other.
-use Rattle.std.specs.Prelude.{◌≡◌, ℕ, List, [], ◌∷◌, ◌++◌, length, map}
-use Rattle.serde_json.specs.Data.{Data}
+-- What a core does in steps: the messages that it may process, and rounds of work.
+use Rattle.std.specs.Prelude.{◌≡◌, ℕ, zero, suc, ◌++◌, List, ◌∷◌, Option, None, option_map, option_and_then, length, map, true}
+use Rattle.std.specs.Option.{option_to_list}
 use Rattle.serde_json.specs.Written.{compact_text}
+use Rattle.collector_laws.specs.WorkLaws.{NoneIsOut}
+use Rattle.piece_collector.specs.Board.{IsFull, IsFirstWanted}
+use Rattle.piece_collector.specs.History.{first_wanted, history, stands_at}
 use Rattle.lsp_rpc.specs.Message.{MessageData, message_of}
 use Rattle.lsp_config.specs.Configuration.{Configuration}
-use Rattle.lsp_session.specs.Core.{Event, messages, processed, CoreState, IsAfter}
-use Rattle.lsp_session.specs.Session.{State, Turn, turn, silent, session}
+use Rattle.lsp_session.specs.Core.{Event, Give, Offer, messages, processed, CoreState, IsAfter, board_events}
+use Rattle.lsp_session.specs.Session.{turn, session}
+use Rattle.lsp_session.specs.Working.{waits}
 
--- these replies, and then what a turn replies
-abbrev pub replying : List Data → Turn → Turn
-replying replies t = record { state = t.state; replies = replies ++ t.replies }
+-- a message is queued, and the board is complete if that message waits
+pub record CanProcess (core : CoreState) : Type 0 where
+  pub first : MessageData
+  pub others : List MessageData
+  pub queue : core.queue ≡ first ∷ others
+  pub ready : waits core.state first ≡ true → IsFull core.board
 
--- the messages, one after the other
-abbrev pub turns : State → List MessageData → Turn
-turns s [] = silent s
-turns s (m ∷ ms) = replying (turn s m).replies (turns (turn s m).state ms)
+-- ---- rounds of work
+
+-- the offer of the right work for a path
+abbrev pub right_work : ℕ → Configuration → List Event → List ℕ → Option Event
+right_work opening config h path = option_map (λ x. Offer path x.stamp x.text) (stands_at opening (board_events config h) path)
+
+-- a job is asked for, and the work on it is brought, where one was given
+abbrev pub with_round : ℕ → Configuration → List Event → List Event
+with_round opening config h = option_to_list (option_and_then (right_work opening config h) (first_wanted opening (history opening (board_events config h)))) ++ Give ∷ h
+
+abbrev pub with_rounds : ℕ → ℕ → Configuration → List Event → List Event
+with_rounds zero opening config h = h
+with_rounds (suc n) opening config h = with_rounds n opening config (with_round opening config h)
+
+-- so many rounds were done that no job is left
+pub record IsWorked (opening : ℕ) (config : Configuration) (h after : List Event) : Type 0 where
+  pub rounds : ℕ
+  pub is : after ≡ with_rounds rounds opening config h
+  pub finished : IsFirstWanted opening (board_events config after) None
+
+-- the core is as after this history and all work that it had to give
+pub record HasWorked (opening : ℕ) (config : Configuration) (core : CoreState) (h : List Event) : Type 0 where
+  pub after : List Event
+  pub worked : IsWorked opening config h after
+  pub is_after : IsAfter opening config core after
 
 -- ---- messages that are answered at once
 
--- the core has processed messages with these bodies, and none waits
+-- the core has processed messages with these bodies, none waits, and no job is out
 pub record Knows (config : Configuration) (core : CoreState) (bodies : List (List ℕ)) : Type 0 where
   pub history : List Event
-  pub is_after : IsAfter config core history
+  pub is_after : IsAfter 0 config core history
   pub came : messages history ≡ bodies
   pub idle : processed history ≡ length (messages history)
+  pub none_out : NoneIsOut 0 (board_events config history)
 
 -- the bodies of the replies to one more message
 abbrev pub replies_to : Configuration → List (List ℕ) → List ℕ → List (List ℕ)

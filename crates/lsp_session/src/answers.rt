@@ -45,7 +45,7 @@ pub struct Known<'s> {
     pub alloc: Global,
     pub root: &'s Root,
     pub files: &'s Files,
-    pub snapshot: &'s Snapshot,
+    pub snapshot: &'s Snapshot<'s>,
 }
 
 // ---- names and kinds
@@ -294,41 +294,24 @@ fn refused_reply(alloc: Global, id: &Id, fault: RenameFault) -> Result<Vec<u8>, 
 }
 
 impl<'s> Known<'s> {
-    // The path of a file.
-    fn path_of(&self, file: usize) -> &'s str
-        ensures { result.now ≡ (spec.file_of self.now.snapshot.now file).0 }
-    {
-        match self.snapshot.pieces().get(file) {
-            Some(piece) => piece.path(),
-            None => "",
-        }
-    }
-
-    // Its text.
+    // The text of a file.
     fn text_of(&self, file: usize) -> &'s str
         ensures { result.now ≡ (spec.file_of self.now.snapshot.now file).1 }
     {
-        match self.snapshot.pieces().get(file) {
-            Some(piece) => piece.text(),
-            None => "",
-        }
+        self.snapshot.text(file)
     }
 
     // The number of the file with a path.
     fn number_of(&self, path: &str) -> Option<usize>
         ensures { result ≡ spec.number_of self.now.snapshot.now path.now }
     {
-        self.snapshot
-            .analysis()
-            .files()
-            .iter()
-            .position(|file| file.as_str() == path)
+        self.snapshot.number_of(path)
     }
 
     fn uri_at(&self, file: usize) -> Result<String, AllocError>
         ensures { IfOk result (λ uri. string_bytes uri ≡ spec.uri_at (root_text self.now.root.now) (files_view self.now.files.now.entries) self.now.snapshot.now file) }
     {
-        let path = self.path_of(file);
+        let path = self.snapshot.path(file);
         uri_of(self.alloc, self.root, path, files::get(self.files, path))
     }
 

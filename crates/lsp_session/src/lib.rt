@@ -1,9 +1,10 @@
 //! A session with an editor (Language Server Protocol 3.17): what the server keeps, and what it replies.
 //!
-//! A [`Core`] takes the bodies of messages and gives the bodies of replies; it knows no streams. [`serve`] reads the
+//! A [`Core`] takes the bodies of messages and gives the bodies of replies; it knows no streams. It gives a [`Job`] for each text,
+//! and takes what is made of it in any order; a request for an analysis waits until all work is there. [`serve`] reads the
 //! messages from a stream of frames and writes the replies to another, until the editor ends the session or the
-//! stream ends. [`run_core`] does the same over a list of events. [`check`] lists what is wrong in the files of a
-//! configuration, without an editor.
+//! stream ends. [`run_core`] runs a core over a list of messages and of work that is brought. [`check`] lists what is wrong
+//! in the files of a configuration, without an editor.
 #![tactic(auto)]
 
 mod answers;
@@ -18,7 +19,7 @@ mod serving;
 mod session;
 mod session_core;
 mod taking;
-mod verdict;
+mod working;
 
 pub use ended::Ended;
 pub use laws::{
@@ -27,8 +28,9 @@ pub use laws::{
 };
 pub use lsp_check::check;
 pub use lsp_config::{Config, CoreFault, DiskFile, ServeFault};
+pub use piece_collector::{Job, Piece, Verdict};
 pub use reply::Reply;
 pub use run::{CoreEvent, CoreRun, run_core};
 pub use serving::serve;
 pub use session_core::Core;
-pub use verdict::Verdict;
+pub use work_index::{Done, FileWork};

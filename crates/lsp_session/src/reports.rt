@@ -1,9 +1,8 @@
 // The diagnostics of documents, as the editor gets them.
-ghost use Rattle.std.specs.Prelude.{◌≡◌, ◌<◌, ◌++◌, [], ◌∷◌, length, map, option_map, string_bytes, IfOk, OnOk};
+ghost use Rattle.std.specs.Prelude.{◌≡◌, ◌<◌, ◌++◌, [], ◌∷◌, length, map, option_map, slice_index_or, string_bytes, IfOk, OnOk};
 ghost use Rattle.std.specs.List.{enumerate_from, slice_get};
 ghost use Rattle.lsp_rpc.specs.Diagnostic.{diagnostic_view};
 ghost use Rattle.lsp_rpc.specs.Workspace.{document_view};
-ghost use Rattle.work_index.specs.Pieces.{workspace_of};
 ghost use Rattle.work_index.specs.Workspace.{analysis, diags_at};
 ghost use Rattle.workspace_uri.specs.View.{root_text};
 ghost use Rattle.lsp_session.specs.Diagnostics.{placed};
@@ -14,28 +13,33 @@ ghost use Rattle.lsp_workspace.specs.View.{file_view, files_view};
 use crate::diagnostics::placed;
 use doc_text::Text;
 use file_facts::Diag;
+use lsp_queries::report;
 use lsp_rpc::{Diagnostic, DocumentReport};
 use lsp_workspace::{self as files, FileEntry, Files, Snapshot};
-use piece_collector::Piece;
 use std::alloc::{AllocError, Global};
-use work_index::FileWork;
 use workspace_uri::Root;
+
+// What is wrong in the file with a path; nothing where there is none.
+fn diagnostics_at<'s>(snapshot: &Snapshot<'s>, path: &str) -> &'s [Diag]
+    ensures { result.now ≡ diags_at (analysis snapshot.now) path.now }
+{
+    match snapshot.number_of(path) {
+        Some(number) => report(snapshot.analysis(), number),
+        None => &[],
+    }
+}
 
 /// The diagnostics of the document of a path, which has this text, by start, end, number and words. An `Err` comes only
 /// where memory was refused.
 pub fn document_diagnostics(
     alloc: Global,
-    snapshot: &Snapshot,
+    snapshot: &Snapshot<'_>,
     path: &str,
     text: &Text,
 ) -> Result<Vec<Diagnostic<'static>>, AllocError>
     ensures { IfOk result (λ found. map diagnostic_view found.items ≡ placed text.now (diags_at (analysis snapshot.now) path.now)) }
 {
-    placed(
-        alloc,
-        text.as_str(),
-        snapshot.analysis().diagnostics_at(path),
-    )
+    placed(alloc, text.as_str(), diagnostics_at(snapshot, path))
 }
 
 // The URI of the last open of a file, or else that of the path below the root.
@@ -65,40 +69,55 @@ fn version_of(file: Option<&FileEntry>) -> Option<i64>
     }
 }
 
-// The report of a file, given what is wrong in it.
+// The report of a file, given its path and its text, and what is wrong in it.
 fn report_of(
     alloc: Global,
     root: &Root,
     files: &Files,
-    piece: &Piece<FileWork>,
+    file: (&str, &str),
     diags: &[Diag],
 ) -> Result<DocumentReport<'static>, AllocError>
-    ensures { IfOk result (λ report. document_view report ≡ report_of (root_text root.now) (files_view files.now.entries) diags.now (piece.now.path, piece.now.text)) }
+    ensures { IfOk result (λ report. document_view report ≡ report_of (root_text root.now) (files_view files.now.entries) diags.now (file.entry.0.now, file.entry.1.now)) }
 {
-    let file = files::get(files, piece.path());
+    let (path, text) = file;
+    let entry = files::get(files, path);
     Ok(DocumentReport {
-        diagnostics: placed(alloc, piece.text(), diags)?,
-        uri: uri_of(alloc, root, piece.path(), file)?,
-        version: version_of(file),
+        diagnostics: placed(alloc, text, diags)?,
+        uri: uri_of(alloc, root, path, entry)?,
+        version: version_of(entry),
     })
 }
 
-// The reports of the files of the workspace, which are these.
+// The report of a file of the workspace, given its number.
+fn numbered_report(
+    alloc: Global,
+    root: &Root,
+    files: &Files,
+    snapshot: &Snapshot<'_>,
+    number: usize,
+) -> Result<DocumentReport<'static>, AllocError>
+    requires { number < length snapshot.now }
+    ensures { IfOk result (λ found. document_view found
+        ≡ numbered_report (root_text root.now) (files_view files.now.entries) (analysis snapshot.now) (number, slice_index_or snapshot.now number ([], []))) }
+{
+    let file = (snapshot.path(number), snapshot.text(number));
+    let diags = report(snapshot.analysis(), number);
+    report_of(alloc, root, files, file, diags)
+}
+
+// The reports of the files of the workspace.
 fn all_reports(
     alloc: Global,
     root: &Root,
     files: &Files,
-    snapshot: &Snapshot,
-    pieces: &[Piece<FileWork>],
+    snapshot: &Snapshot<'_>,
 ) -> Result<Vec<DocumentReport<'static>>, AllocError>
-    requires { workspace_of pieces.now ≡ snapshot.now }
     ensures { IfOk result (λ reports. map document_view reports.items
         ≡ map (numbered_report (root_text root.now) (files_view files.now.entries) (analysis snapshot.now)) (enumerate_from 0 snapshot.now)) }
 {
     let mut reports = Vec::new(alloc);
-    for (number, piece) in pieces.iter().enumerate() {
-        let diags = snapshot.diagnostics(number);
-        reports.push(report_of(alloc, root, files, piece, diags)?)?;
+    for number in 0..snapshot.file_count() {
+        reports.push(numbered_report(alloc, root, files, snapshot, number)?)?;
     }
     Ok(reports)
 }
@@ -108,10 +127,10 @@ pub fn workspace_reports(
     alloc: Global,
     root: &Root,
     files: &Files,
-    snapshot: &Snapshot,
+    snapshot: &Snapshot<'_>,
 ) -> Result<Vec<DocumentReport<'static>>, AllocError>
     requires { snapshot.now ≡ workspace (files_view files.now.entries) }
     ensures { IfOk result (λ reports. map document_view reports.items ≡ workspace_reports (root_text root.now) (files_view files.now.entries)) }
 {
-    all_reports(alloc, root, files, snapshot, snapshot.pieces())
+    all_reports(alloc, root, files, snapshot)
 }

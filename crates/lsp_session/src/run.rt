@@ -1,23 +1,27 @@
 // A core over a list of events.
-ghost use Rattle.std.specs.Prelude.{◌≡◌, ◌≤◌, ℕ, List, [], ◌∷◌, ◌++◌, length, IfOk, OnOk};
+ghost use Rattle.std.specs.Prelude.{◌≡◌, ℕ, List, [], ◌++◌, filter, length, map, IfOk, OnOk};
+ghost use Rattle.std.specs.Option.{option_to_list};
 ghost use Rattle.lsp_config.specs.Configuration.{Configuration};
-ghost use Rattle.lsp_session.specs.Run.{bodies_of};
-ghost use Rattle.lsp_session.specs.Session.{session};
-ghost use Rattle.lsp_session.specs.Steps.{Knows};
+ghost use Rattle.lsp_session.specs.Core.{Event, IsAfter};
+ghost use Rattle.lsp_session.specs.Run.{incoming_of, is_message, verdicts_of, HasCome, HasFollowed, HasRun};
 ghost use Rattle.lsp_session.specs.View.{core_state};
 
 use crate::reply::Reply;
-use crate::session_core::{Core, answer};
-use crate::verdict::Verdict;
+use crate::session_core::Core;
+use crate::working::do_all;
 use lsp_config::{Config, CoreFault};
-use std::alloc::Global;
+use piece_collector::Verdict;
+use std::alloc::{AllocError, Global};
+use work_index::Done;
 
 /// What happens to a core. An advance follows each event.
-#[derive(Debug, Drop)]
+#[derive(Drop)]
 pub enum CoreEvent {
     /// A message comes, with this body.
     Message(Vec<u8>),
-    /// All work is done that the core has to give: none, since it does its work itself.
+    /// What became of a job is brought, whether or not the job was given.
+    Offer(Done),
+    /// All work is done that the core has to give: each job that it gives, and what is made of it is brought at once.
     Work,
 }
 
@@ -26,69 +30,96 @@ pub enum CoreEvent {
 pub struct CoreRun {
     /// The replies, in order.
     pub replies: Vec<Reply>,
-    /// What became of each offer, in order: none, since nothing is offered.
+    /// What became of each offer, in order; of those of `Work` nothing is said.
     pub verdicts: Vec<Verdict>,
     /// How many messages were processed.
     pub processed: usize,
 }
 
-// How many messages come with an event.
-fn message_count(event: &CoreEvent) -> usize
-    ensures count { result ≡ length (bodies_of (event.now ∷ [])) }
-    ensures few { result ≤ 1 }
-{
-    match event {
-        CoreEvent::Message(_) => 1,
-        CoreEvent::Work => 0,
-    }
-}
-
-// Gives the core an event, and then an advance.
-fn handle(core: &mut Core, event: &CoreEvent) -> Result<Vec<Reply>, CoreFault>
-    ensures { IfOk result (λ replies. (config : Configuration) (bodies : List (List ℕ)) → Knows config (core_state core.old) bodies
-        → Knows config (core_state core.new) (bodies ++ bodies_of (event.now ∷ []))
-        × ((session config (bodies ++ bodies_of (event.now ∷ []))).replies ≡ (session config bodies).replies ++ replies.items)) }
+// Gives the core an event, and says what became of it, if it is an offer.
+fn take(core: &mut Core, event: CoreEvent) -> Result<Option<Verdict>, CoreFault>
+    ensures comes { OnOk result ((opening : ℕ) (config : Configuration) (h : List Event) → IsAfter opening config (core_state core.old) h → HasCome opening config (core_state core.new) (incoming_of event) h) }
+    ensures verdict { IfOk result (λ verdict. (opening : ℕ) (config : Configuration) (h : List Event) → IsAfter opening config (core_state core.old) h → option_to_list verdict ≡ verdicts_of opening config h (incoming_of event)) }
 {
     match event {
         CoreEvent::Message(body) => {
-            let replies = answer(core, body.as_slice())?;
-            Ok(replies)
+            core.message(body.as_slice())?;
+            Ok(None)
         }
+        CoreEvent::Offer(sent) => Ok(Some(core.offer(sent)?)),
         CoreEvent::Work => {
-            let replies = core.advance()?;
-            Ok(replies)
+            do_all(core)?;
+            Ok(None)
         }
     }
 }
 
-/// Runs a new core on the events, in order. `Memory` where memory is refused.
-pub fn run_core(alloc: Global, config: Config, events: Vec<CoreEvent>) -> Result<CoreRun, CoreFault>
-    ensures replies { IfOk result (λ run. run.replies.items ≡ (session config (bodies_of events.items)).replies) }
-    ensures verdicts { IfOk result (λ run. run.verdicts.items ≡ []) }
-    ensures processed { IfOk result (λ run. run.processed ≡ length (bodies_of events.items)) }
+// Adds a verdict, if there is one.
+fn push_verdict(verdicts: &mut Vec<Verdict>, verdict: Option<Verdict>) -> Result<(), AllocError>
+    ensures { OnOk result (verdicts.new.items ≡ verdicts.old.items ++ option_to_list verdict) }
 {
-    let mut core = Core::new(alloc, config)?;
-    let mut replies = Vec::new(alloc);
-    let mut processed = 0;
-    for event in &events {
-        let new_replies = handle(&mut core, event)?;
-        append(&mut replies, new_replies)?;
-        processed += message_count(event);
+    if let Some(verdict) = verdict {
+        verdicts.push(verdict)?;
     }
-    Ok(CoreRun {
-        replies,
-        verdicts: Vec::new(alloc),
-        processed,
-    })
+    Ok(())
 }
 
 // Moves the later replies behind the earlier ones.
-fn append(replies: &mut Vec<Reply>, later: Vec<Reply>) -> Result<(), CoreFault>
+fn append(replies: &mut Vec<Reply>, later: Vec<Reply>) -> Result<(), AllocError>
     ensures { OnOk result (replies.new.items ≡ replies.old.items ++ later.items) }
 {
     let mut later = later;
     match replies.append(&mut later) {
         Ok(()) => Ok(()),
-        Err(_) => Err(CoreFault::Memory),
+        Err(_) => Err(AllocError),
     }
+}
+
+// Gives the core an event and then an advance, and adds what it answers.
+fn handle(
+    core: &mut Core,
+    event: CoreEvent,
+    replies: &mut Vec<Reply>,
+    verdicts: &mut Vec<Verdict>,
+) -> Result<(), CoreFault>
+    ensures { OnOk result ((opening : ℕ) (config : Configuration) (h : List Event) → IsAfter opening config (core_state core.old) h
+        → HasFollowed opening config (core_state core.new) (incoming_of event) h replies.old.items replies.new.items verdicts.old.items verdicts.new.items) }
+{
+    let verdict = take(core, event)?;
+    push_verdict(verdicts, verdict)?;
+    let later = core.advance()?;
+    append(replies, later)?;
+    Ok(())
+}
+
+fn is_message(event: &CoreEvent) -> bool
+    ensures { result ≡ is_message (incoming_of event.now) }
+{
+    matches!(event, CoreEvent::Message(_))
+}
+
+// How many of the events are messages.
+fn count_messages(events: &[CoreEvent]) -> usize
+    ensures { result ≡ length (filter is_message (map incoming_of events.now)) }
+{
+    events.iter().filter(|event| is_message(event)).count()
+}
+
+/// Runs a new core on the events, in order. `Memory` where memory is refused, `Exhausted` where a text finds no stamp.
+pub fn run_core(alloc: Global, config: Config, events: Vec<CoreEvent>) -> Result<CoreRun, CoreFault>
+    ensures { IfOk result (λ run. HasRun config (map incoming_of events.items) run.replies.items run.verdicts.items run.processed) }
+{
+    let mut core = Core::new(alloc, config)?;
+    let mut replies = Vec::new(alloc);
+    let mut verdicts = Vec::new(alloc);
+    let arrived = count_messages(events.as_slice());
+    for event in events {
+        handle(&mut core, event, &mut replies, &mut verdicts)?;
+    }
+    let processed = arrived - core.queued();
+    Ok(CoreRun {
+        replies,
+        verdicts,
+        processed,
+    })
 }

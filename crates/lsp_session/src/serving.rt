@@ -11,7 +11,8 @@ ghost use Rattle.lsp_session.specs.Stream.{output, ended, behind_exit, IsExit, H
 use crate::ended::Ended;
 use crate::session_core::Core;
 use crate::taking::take_next;
-use lsp_config::{Config, CoreFault, ServeFault};
+use collector_laws::jobs_and_pieces;
+use lsp_config::{Config, ServeFault};
 use lsp_frame::{ByteSink, ByteSource, FrameReader};
 use std::alloc::Global;
 use std::sync::Wait;
@@ -30,9 +31,10 @@ fn run<R: Wait, S: ByteSource, K: ByteSink>(
     ensures writes { Calls (K.counts writer.old) (K.counts writer.new) result }
     ensures cause { IfErr result (IsCaused (S.counts (source_of reader.old)) (S.counts (source_of reader.new)) (K.counts writer.old) (K.counts writer.new)) }
 {
+    jobs_and_pieces();
     let mut core = match Core::new(alloc, config) {
         Ok(core) => core,
-        Err(CoreFault::Memory) => return Err(ServeFault::Memory),
+        Err(fault) => return Err(ServeFault::from(fault)),
     };
     for _turn in rt.forever() {
         match take_next(reader, writer, &mut core) {
@@ -48,8 +50,8 @@ fn run<R: Wait, S: ByteSource, K: ByteSink>(
 /// each reply, before the next message is read.
 ///
 /// It ends with the message `exit`, behind which nothing is read, or with the input: at its end or at a frame that
-/// can't be read. The faults: `Read` where the source failed, `Write` where the sink did, and `Memory` where
-/// memory was refused. Whatever it ends with, what was written is a prefix of what the session says on the whole
+/// can't be read. The faults: `Read` where the source failed, `Write` where the sink did, `Memory` where memory was refused,
+/// and `Exhausted` where a text found no stamp. Whatever it ends with, what was written is a prefix of what the session says on the whole
 /// input, and all of it where no fault came.
 ///
 /// `reader` must have answered no fault and no end.

@@ -1,5 +1,8 @@
 // The session: one message after the other.
-ghost use Rattle.std.specs.Prelude.{◌≡◌, Some, IfOk, OnOk, IsTrue, option_map, option_and_then, map, string_bytes};
+ghost use Rattle.std.specs.Prelude.{◌≡◌, ◌↔◌, ◌++◌, ◌∷◌, [], ℕ, List, Some, Err, IfOk, IfSome, OnOk, IsTrue, is_some, true, option_map, option_and_then, map, string_bytes};
+ghost use Rattle.piece_collector.specs.Board.{IsAfter, IsComplete, IsFirstWanted, IsFull, current_text};
+ghost use Rattle.piece_collector.specs.Events.{Event, NextJob, Offer, Fail};
+ghost use Rattle.piece_collector.specs.History.{verdict_on, failure_on, stands_at};
 ghost use Rattle.std.specs.Option.{option_to_list};
 ghost use Rattle.serde_json.specs.View.{view};
 ghost use Rattle.serde_json.specs.Written.{compact_text};
@@ -9,28 +12,34 @@ ghost use Rattle.lsp_rpc.specs.Diagnostic.{diagnostic_view};
 ghost use Rattle.lsp_rpc.specs.RequestParams.{query_of, place_of, reference_of, rename_of};
 ghost use Rattle.lsp_rpc.specs.RequestParams as wire;
 ghost use Rattle.lsp_workspace.specs.Files.{text_at, workspace};
+ghost use Rattle.lsp_workspace.specs.Texts.{event_at, events_at, first_events};
 ghost use Rattle.lsp_workspace.specs.View.{files_view};
+ghost use Rattle.lsp_config.specs.Configuration.{files_of};
+ghost use Rattle.workspace_uri.specs.Uri.{path_of};
 ghost use Rattle.workspace_uri.specs.View.{root_text};
 ghost use Rattle.lsp_rpc.specs.Workspace.{document_view};
 ghost use Rattle.lsp_session.specs.Reports.{document_diagnostics, workspace_reports as reports_of};
 ghost use Rattle.lsp_rpc.specs.Reply as reply;
 ghost use Rattle.lsp_session.specs.AnswerViews.{place_view};
 ghost use Rattle.lsp_session.specs.Session as spec;
+ghost use Rattle.lsp_session.specs.Working as working;
 
 use crate::answers::{DocumentPlace, Known};
 use crate::phase::Phase;
 use crate::reply::Reply;
 use crate::reports::{document_diagnostics, workspace_reports};
 use doc_text::{Encoding, Text};
-use lsp_config::Config;
+use lsp_config::{Config, CoreFault};
 use lsp_rpc::{
     Diagnostic, DidChangeParams, DidOpenParams, DocumentPosition, DocumentReport, ErrorCode, Id,
     Message, Method, ReferenceParams, RenameParams, document_uri, error_reply, initialize_reply,
     null_reply, report_reply, symbol_query, workspace_reply,
 };
-use lsp_workspace::{self as files, Document, Edits, Workspace};
+use lsp_workspace::{self as files, Document, Edits, Snapshot, Workspace};
+use piece_collector::{Job, Piece, Verdict};
 use serde_json::Value;
 use std::alloc::{AllocError, Global};
+use work_index::FileWork;
 use workspace_uri::Root;
 
 /// A session with an editor.
@@ -43,14 +52,15 @@ pub struct Session {
 }
 
 impl Session {
-    ghost use Rattle.lsp_session.specs.View.{state_of};
+    ghost use Rattle.lsp_session.specs.View.{state_of, board_of, IsExhausted};
 
-    // The session before its first message.
-    pub(crate) fn new(alloc: Global, config: Config) -> Result<Session, AllocError>
-        ensures { IfOk result (λ s. state_of s ≡ spec.start config) }
+    // The session before its first message, whose board gives stamps from the one after `stamp` on.
+    pub(crate) fn new(alloc: Global, config: Config, stamp: u64) -> Result<Session, CoreFault>
+        ensures state { IfOk result (λ s. state_of s ≡ spec.start config) }
+        ensures board { IfOk result (λ s. IsAfter stamp (board_of s) (first_events (workspace (files_of config)))) }
     {
         let (root, disk_files) = config.into_parts();
-        let workspace = Workspace::from_disk(alloc, disk_files)?;
+        let workspace = Workspace::from_disk(alloc, disk_files, stamp)?;
         Ok(Session {
             alloc,
             root,
@@ -91,61 +101,113 @@ impl Session {
         files::get(self.workspace.files(), path)?.text()
     }
 
-    fn open(&mut self, params: Value) -> Result<(), AllocError>
-        ensures { OnOk result (state_of self.new ≡ spec.opened (state_of self.old) (opened_of (view params))) }
+    fn open(&mut self, params: Value) -> Result<(), CoreFault>
+        ensures state { OnOk result (state_of self.new ≡ spec.opened (state_of self.old) (opened_of (view params))) }
+        ensures board { OnOk result ((opening : ℕ) (events : List Event) → IsAfter opening (board_of self.old) events → IsAfter opening (board_of self.new)
+            (working.events_for_path (λ path. event_at path (state_of self.new).files ∷ []) (option_and_then (λ o. path_of (state_of self.old).roots o.uri) (opened_of (view params))) ++ events)) }
+        ensures exhausted { result ≡ Err CoreFault.Exhausted → IsExhausted (board_of self.new) }
     {
         let Some(opened) = DidOpenParams::from_value(params) else {
             return Ok(());
         };
-        match self.root.path_of(self.alloc, opened.uri.as_str())? {
-            Some(path) => {
-                let document = Document {
-                    version: opened.version,
-                    text: Text::new(opened.text),
-                };
-                self.workspace.open(path, opened.uri, document)
-            }
-            None => Ok(()),
-        }
+        let Some(path) = self.root.path_of(self.alloc, opened.uri.as_str())? else {
+            return Ok(());
+        };
+        let document = Document {
+            version: opened.version,
+            text: Text::new(opened.text),
+        };
+        self.workspace.open(path.as_str(), opened.uri, document)?;
+        Ok(())
     }
 
-    fn change(&mut self, params: Value) -> Result<(), AllocError>
-        ensures { OnOk result (state_of self.new ≡ spec.changed (state_of self.old) (changed_of (view params))) }
+    fn change(&mut self, params: Value) -> Result<(), CoreFault>
+        ensures state { OnOk result (state_of self.new ≡ spec.changed (state_of self.old) (changed_of (view params))) }
+        ensures board { OnOk result ((opening : ℕ) (events : List Event) → IsAfter opening (board_of self.old) events → IsAfter opening (board_of self.new)
+            (working.events_for_path (λ path. events_at path (state_of self.old).files (state_of self.new).files) (option_and_then (λ c. path_of (state_of self.old).roots c.document.uri) (changed_of (view params))) ++ events)) }
+        ensures exhausted { result ≡ Err CoreFault.Exhausted → IsExhausted (board_of self.new) }
     {
         let Some(changed) = DidChangeParams::from_value(self.alloc, params)? else {
             return Ok(());
         };
-        match self
-            .root
-            .path_of(self.alloc, changed.document.uri.as_str())?
-        {
-            Some(path) => {
-                let edits = Edits {
-                    version: changed.document.version,
-                    changes: changed.changes,
-                };
-                self.workspace.change(path.as_str(), edits)
-            }
-            None => Ok(()),
-        }
+        let uri = changed.document.uri.as_str();
+        let Some(path) = self.root.path_of(self.alloc, uri)? else {
+            return Ok(());
+        };
+        let edits = Edits {
+            version: changed.document.version,
+            changes: changed.changes,
+        };
+        self.workspace.change(path.as_str(), edits)?;
+        Ok(())
     }
 
     fn save(&mut self, params: &Value) -> Result<(), AllocError>
-        ensures { OnOk result (state_of self.new ≡ spec.saved (state_of self.old) (view params.now)) }
+        ensures state { OnOk result (state_of self.new ≡ spec.saved (state_of self.old) (view params.now)) }
+        ensures board { board_of self.new ≡ board_of self.old }
     {
         match self.path_in(params)? {
-            Some(path) => self.workspace.save(self.alloc, path.as_str()),
+            Some(path) => self.workspace.save(path.as_str()),
             None => Ok(()),
         }
     }
 
-    fn close(&mut self, params: &Value) -> Result<(), AllocError>
-        ensures { OnOk result (state_of self.new ≡ spec.closed (state_of self.old) (view params.now)) }
+    fn close(&mut self, params: &Value) -> Result<(), CoreFault>
+        ensures state { OnOk result (state_of self.new ≡ spec.closed (state_of self.old) (view params.now)) }
+        ensures board { OnOk result ((opening : ℕ) (events : List Event) → IsAfter opening (board_of self.old) events → IsAfter opening (board_of self.new)
+            (working.events_for_path (λ path. events_at path (state_of self.old).files (state_of self.new).files) (spec.path_in (state_of self.old) (view params.now)) ++ events)) }
+        ensures exhausted { result ≡ Err CoreFault.Exhausted → IsExhausted (board_of self.new) }
     {
-        if let Some(path) = self.path_in(params)? {
-            self.workspace.close(path.as_str());
-        }
+        let Some(path) = self.path_in(params)? else {
+            return Ok(());
+        };
+        self.workspace.close(path.as_str())?;
         Ok(())
+    }
+
+    // ---- work
+
+    /// Gives a job for the first text that is wanted, in the order of the paths; none only where none is wanted.
+    pub(crate) fn next_job(&mut self) -> Result<Option<Job>, AllocError>
+        ensures state { state_of self.new ≡ state_of self.old }
+        ensures board { OnOk result ((opening : ℕ) (events : List Event) → IsAfter opening (board_of self.old) events → IsAfter opening (board_of self.new) (NextJob ∷ events)) }
+        ensures first { IfOk result (λ job. (opening : ℕ) (events : List Event) → IsAfter opening (board_of self.old) events → IsFirstWanted opening events (option_map (λ j. j.path) job)) }
+        ensures text { IfOk result (λ job. (opening : ℕ) (events : List Event) → IsAfter opening (board_of self.old) events → IfSome job (λ j. option_map (current_text j.path) (stands_at opening events j.path) ≡ Some j)) }
+    {
+        self.workspace.next_job()
+    }
+
+    /// Brings the work on a text, and says whether it is taken.
+    pub(crate) fn offer(&mut self, piece: Piece<FileWork>) -> Verdict
+        ensures state { state_of self.new ≡ state_of self.old }
+        ensures board { (opening : ℕ) (events : List Event) → IsAfter opening (board_of self.old) events → IsAfter opening (board_of self.new) (Offer piece.path piece.stamp piece.text ∷ events) }
+        ensures verdict { (opening : ℕ) (events : List Event) → IsAfter opening (board_of self.old) events → result ≡ verdict_on piece.stamp piece.text (stands_at opening events piece.path) }
+    {
+        self.workspace.offer(piece)
+    }
+
+    /// Brings the failure of a job, and says whether it is taken.
+    pub(crate) fn fail(&mut self, path: &str, stamp: u64) -> Verdict
+        ensures state { state_of self.new ≡ state_of self.old }
+        ensures board { (opening : ℕ) (events : List Event) → IsAfter opening (board_of self.old) events → IsAfter opening (board_of self.new) (Fail path.now stamp ∷ events) }
+        ensures verdict { (opening : ℕ) (events : List Event) → IsAfter opening (board_of self.old) events → result ≡ failure_on stamp (stands_at opening events path.now) }
+    {
+        self.workspace.fail(path, stamp)
+    }
+
+    /// Whether the work on each text is there.
+    pub(crate) fn is_complete(&self) -> bool
+        ensures full { IsTrue result ↔ IsFull (board_of self.now) }
+        ensures complete { (opening : ℕ) (events : List Event) → IsAfter opening (board_of self.now) events → (IsTrue result ↔ IsComplete opening events) }
+    {
+        self.workspace.is_complete()
+    }
+
+    /// The last stamp that was given; before the first one, the stamp that the board counts from.
+    pub(crate) fn last_stamp(&self) -> u64
+        ensures { result ≡ (let board = board_of self.now in board.last) }
+    {
+        self.workspace.last_stamp()
     }
 
     // ---- diagnostics
@@ -155,8 +217,8 @@ impl Session {
         requires { IsTrue self.now.workspace.is_current }
         ensures { IfOk result (λ found. map diagnostic_view found.items ≡ document_diagnostics (state_of self.now).files path.now text.now) }
     {
-        let found = document_diagnostics(self.alloc, self.workspace.snapshot(), path, text)?;
-        Ok(found)
+        let snapshot = self.workspace.snapshot();
+        document_diagnostics(self.alloc, &snapshot, path, text)
     }
 
     // Replies the diagnostics of the document at a path, where it is one of the workspace.
@@ -173,19 +235,23 @@ impl Session {
     }
 
     fn diagnose_at(&mut self, id: &Id, path: &str) -> Result<Option<Reply>, AllocError>
+        requires { is_some (spec.document_at path.now (state_of self.old).files) ≡ true → IsFull (board_of self.old) }
         ensures state { OnOk result (state_of self.new ≡ state_of self.old) }
+        ensures board { board_of self.new ≡ board_of self.old }
         ensures reply { IfOk result (λ r. option_to_list r ≡ map compact_text
             (spec.diagnosed (state_of self.old) (id_view id.now) (spec.document_at path.now (state_of self.old).files)).replies) }
     {
         if self.open_or_disk_text(path).is_none() {
             return self.refuse(Some(id), ErrorCode::InvalidParams);
         }
-        self.workspace.refresh(self.alloc)?;
+        self.workspace.refresh()?;
         self.report(id, path)
     }
 
     fn diagnose(&mut self, id: &Id, params: &Value) -> Result<Option<Reply>, AllocError>
+        requires { is_some (spec.document_in (state_of self.old) (view params.now)) ≡ true → IsFull (board_of self.old) }
         ensures state { OnOk result (state_of self.new ≡ state_of self.old) }
+        ensures board { board_of self.new ≡ board_of self.old }
         ensures reply { IfOk result (λ r. option_to_list r ≡ map compact_text
             (spec.diagnosed (state_of self.old) (id_view id.now) (spec.document_in (state_of self.old) (view params.now))).replies) }
     {
@@ -201,16 +267,18 @@ impl Session {
         ensures { IfOk result (λ reports. map document_view reports.items ≡ reports_of (spec.root_of (state_of self.now).roots) (state_of self.now).files) }
     {
         let files = self.workspace.files();
-        let reports = workspace_reports(self.alloc, &self.root, files, self.workspace.snapshot())?;
-        Ok(reports)
+        let snapshot = self.workspace.snapshot();
+        workspace_reports(self.alloc, &self.root, files, &snapshot)
     }
 
     fn diagnose_all(&mut self, id: &Id) -> Result<Option<Reply>, AllocError>
+        requires { IsFull (board_of self.old) }
         ensures state { OnOk result (state_of self.new ≡ state_of self.old) }
+        ensures board { board_of self.new ≡ board_of self.old }
         ensures reply { IfOk result (λ r. option_to_list r ≡ map compact_text
             (spec.all_diagnosed (state_of self.old) (id_view id.now)).replies) }
     {
-        self.workspace.refresh(self.alloc)?;
+        self.workspace.refresh()?;
         let reports = self.all_reports()?;
         let body = workspace_reply(self.alloc, id, reports.as_slice())?;
         Ok(Some(Reply::new(body)))
@@ -219,17 +287,16 @@ impl Session {
     // ---- names
 
     // The files with their analysis.
-    fn known(&self) -> Known<'_>
-        requires { IsTrue self.now.workspace.is_current }
+    fn known<'s>(&'s self, snapshot: &'s Snapshot<'s>) -> Known<'s>
         ensures root { root_text result.root.now ≡ spec.root_of (state_of self.now).roots }
         ensures files { files_view result.files.now.entries ≡ (state_of self.now).files }
-        ensures snapshot { result.snapshot.now ≡ workspace (state_of self.now).files }
+        ensures snapshot { result.snapshot.now ≡ snapshot.now }
     {
         Known {
             alloc: self.alloc,
             root: &self.root,
             files: self.workspace.files(),
-            snapshot: self.workspace.snapshot(),
+            snapshot,
         }
     }
 
@@ -250,17 +317,22 @@ impl Session {
     }
 
     fn search_for(&mut self, id: &Id, query: &str) -> Result<Option<Reply>, AllocError>
+        requires { IsFull (board_of self.old) }
         ensures state { OnOk result (state_of self.new ≡ state_of self.old) }
+        ensures board { board_of self.new ≡ board_of self.old }
         ensures reply { IfOk result (λ r. option_to_list r ≡ map compact_text
             (spec.searched (state_of self.old) (id_view id.now) (Some query.now)).replies) }
     {
-        self.workspace.refresh(self.alloc)?;
-        let body = self.known().symbols_reply(id, query)?;
+        self.workspace.refresh()?;
+        let snapshot = self.workspace.snapshot();
+        let body = self.known(&snapshot).symbols_reply(id, query)?;
         Ok(Some(Reply::new(body)))
     }
 
     fn search(&mut self, id: &Id, params: &Value) -> Result<Option<Reply>, AllocError>
+        requires { is_some (query_of (view params.now)) ≡ true → IsFull (board_of self.old) }
         ensures state { OnOk result (state_of self.new ≡ state_of self.old) }
+        ensures board { board_of self.new ≡ board_of self.old }
         ensures reply { IfOk result (λ r. option_to_list r ≡ map compact_text
             (spec.searched (state_of self.old) (id_view id.now) (query_of (view params.now))).replies) }
     {
@@ -271,17 +343,22 @@ impl Session {
     }
 
     fn define_at(&mut self, id: &Id, at: &DocumentPlace) -> Result<Option<Reply>, AllocError>
+        requires { IsFull (board_of self.old) }
         ensures state { OnOk result (state_of self.new ≡ state_of self.old) }
+        ensures board { board_of self.new ≡ board_of self.old }
         ensures reply { IfOk result (λ r. option_to_list r ≡ map compact_text
             (spec.defined (state_of self.old) (id_view id.now) (Some (place_view at.now))).replies) }
     {
-        self.workspace.refresh(self.alloc)?;
-        let body = self.known().definition_reply(id, at)?;
+        self.workspace.refresh()?;
+        let snapshot = self.workspace.snapshot();
+        let body = self.known(&snapshot).definition_reply(id, at)?;
         Ok(Some(Reply::new(body)))
     }
 
     fn define(&mut self, id: &Id, params: &Value) -> Result<Option<Reply>, AllocError>
+        requires { is_some (option_and_then (spec.place_in (state_of self.old)) (place_of (view params.now))) ≡ true → IsFull (board_of self.old) }
         ensures state { OnOk result (state_of self.new ≡ state_of self.old) }
+        ensures board { board_of self.new ≡ board_of self.old }
         ensures reply { IfOk result (λ r. option_to_list r ≡ map compact_text
             (spec.defined (state_of self.old) (id_view id.now) (option_and_then (spec.place_in (state_of self.old)) (place_of (view params.now)))).replies) }
     {
@@ -300,17 +377,24 @@ impl Session {
         at: &DocumentPlace,
         include_declaration: bool,
     ) -> Result<Option<Reply>, AllocError>
+        requires { IsFull (board_of self.old) }
         ensures state { OnOk result (state_of self.new ≡ state_of self.old) }
+        ensures board { board_of self.new ≡ board_of self.old }
         ensures reply { IfOk result (λ r. option_to_list r ≡ map compact_text
             (spec.referred (state_of self.old) (id_view id.now) include_declaration (Some (place_view at.now))).replies) }
     {
-        self.workspace.refresh(self.alloc)?;
-        let body = self.known().references_reply(id, at, include_declaration)?;
+        self.workspace.refresh()?;
+        let snapshot = self.workspace.snapshot();
+        let body = self
+            .known(&snapshot)
+            .references_reply(id, at, include_declaration)?;
         Ok(Some(Reply::new(body)))
     }
 
     fn refer(&mut self, id: &Id, params: &Value) -> Result<Option<Reply>, AllocError>
+        requires { is_some (option_and_then (λ r. spec.place_in (state_of self.old) r.place) (reference_of (view params.now))) ≡ true → IsFull (board_of self.old) }
         ensures state { OnOk result (state_of self.new ≡ state_of self.old) }
+        ensures board { board_of self.new ≡ board_of self.old }
         ensures reply { IfOk result (λ r. option_to_list r ≡ map compact_text
             (spec.referred_by (state_of self.old) (id_view id.now) (reference_of (view params.now))).replies) }
     {
@@ -329,17 +413,22 @@ impl Session {
         at: &DocumentPlace,
         new_name: &str,
     ) -> Result<Option<Reply>, AllocError>
+        requires { IsFull (board_of self.old) }
         ensures state { OnOk result (state_of self.new ≡ state_of self.old) }
+        ensures board { board_of self.new ≡ board_of self.old }
         ensures reply { IfOk result (λ r. option_to_list r ≡ map compact_text
             (spec.renamed (state_of self.old) (id_view id.now) new_name.now (Some (place_view at.now))).replies) }
     {
-        self.workspace.refresh(self.alloc)?;
-        let body = self.known().rename_reply(id, at, new_name)?;
+        self.workspace.refresh()?;
+        let snapshot = self.workspace.snapshot();
+        let body = self.known(&snapshot).rename_reply(id, at, new_name)?;
         Ok(Some(Reply::new(body)))
     }
 
     fn rename(&mut self, id: &Id, params: &Value) -> Result<Option<Reply>, AllocError>
+        requires { is_some (option_and_then (λ r. spec.place_in (state_of self.old) r.place) (rename_of (view params.now))) ≡ true → IsFull (board_of self.old) }
         ensures state { OnOk result (state_of self.new ≡ state_of self.old) }
+        ensures board { board_of self.new ≡ board_of self.old }
         ensures reply { IfOk result (λ r. option_to_list r ≡ map compact_text
             (spec.renamed_by (state_of self.old) (id_view id.now) (rename_of (view params.now))).replies) }
     {
@@ -360,8 +449,10 @@ impl Session {
         method: Option<Method>,
         params: &Value,
     ) -> Result<Option<Reply>, AllocError>
+        requires { working.waits_in (state_of self.old).phase (state_of self.old) method (view params.now) ≡ true → IsFull (board_of self.old) }
         ensures state { OnOk result (state_of self.new
             ≡ (spec.requested (state_of self.old).phase (state_of self.old) (id_view id.now) method (view params.now)).state) }
+        ensures board { board_of self.new ≡ board_of self.old }
         ensures reply { IfOk result (λ r. option_to_list r ≡ map compact_text
             (spec.requested (state_of self.old).phase (state_of self.old) (id_view id.now) method (view params.now)).replies) }
     {
@@ -391,9 +482,12 @@ impl Session {
         }
     }
 
-    fn notification(&mut self, method: Option<Method>, params: Value) -> Result<(), AllocError>
-        ensures { OnOk result (state_of self.new
+    fn notification(&mut self, method: Option<Method>, params: Value) -> Result<(), CoreFault>
+        ensures state { OnOk result (state_of self.new
             ≡ spec.notified (state_of self.old).phase (state_of self.old) method (view params)) }
+        ensures board { OnOk result ((opening : ℕ) (events : List Event) → IsAfter opening (board_of self.old) events
+            → IsAfter opening (board_of self.new) (working.events_in_phase (state_of self.old).phase (state_of self.old) method (view params) (state_of self.new).files ++ events)) }
+        ensures exhausted { result ≡ Err CoreFault.Exhausted → IsExhausted (board_of self.new) }
     {
         match (self.phase, method) {
             (Phase::Exited { .. }, _) => {}
@@ -416,15 +510,21 @@ impl Session {
         Ok(())
     }
 
-    fn receive(&mut self, message: Message) -> Result<Option<Reply>, AllocError>
+    fn receive(&mut self, message: Message) -> Result<Option<Reply>, CoreFault>
+        requires { working.waits (state_of self.old) (message_view message) ≡ true → IsFull (board_of self.old) }
         ensures state { OnOk result (state_of self.new ≡ (spec.received (state_of self.old) (message_view message)).state) }
         ensures reply { IfOk result (λ r. option_to_list r ≡ map compact_text (spec.received (state_of self.old) (message_view message)).replies) }
+        ensures board { OnOk result ((opening : ℕ) (events : List Event) → IsAfter opening (board_of self.old) events
+            → IsAfter opening (board_of self.new) (working.events_of (state_of self.old) (message_view message) (state_of self.new).files ++ events)) }
+        ensures exhausted { result ≡ Err CoreFault.Exhausted → IsExhausted (board_of self.new) }
     {
         match message {
-            Message::ParseError => self.refuse(None, ErrorCode::ParseError),
-            Message::InvalidRequest { id } => self.refuse(id.as_ref(), ErrorCode::InvalidRequest),
+            Message::ParseError => Ok(self.refuse(None, ErrorCode::ParseError)?),
+            Message::InvalidRequest { id } => {
+                Ok(self.refuse(id.as_ref(), ErrorCode::InvalidRequest)?)
+            }
             Message::Response => Ok(None),
-            Message::Request { id, method, params } => self.request(&id, method, &params),
+            Message::Request { id, method, params } => Ok(self.request(&id, method, &params)?),
             Message::Notification { method, params } => {
                 self.notification(method, params)?;
                 Ok(None)
@@ -432,14 +532,70 @@ impl Session {
         }
     }
 
-    // Takes one message, and gives the reply to it, if there is one.
-    pub(crate) fn turn(&mut self, message: Message) -> Result<Option<Reply>, AllocError>
+    // Takes one message, and gives the reply to it, if there is one. The board has to be complete if the message waits for it.
+    pub(crate) fn turn(&mut self, message: Message) -> Result<Option<Reply>, CoreFault>
+        requires { working.waits (state_of self.old) (message_view message) ≡ true → IsFull (board_of self.old) }
         ensures state { OnOk result (state_of self.new ≡ (spec.turn (state_of self.old) (message_view message)).state) }
         ensures reply { IfOk result (λ r. option_to_list r ≡ map compact_text (spec.turn (state_of self.old) (message_view message)).replies) }
+        ensures board { OnOk result ((opening : ℕ) (events : List Event) → IsAfter opening (board_of self.old) events → IsAfter opening (board_of self.new) (working.board_events_of (state_of self.old) (message_view message) ++ events)) }
+        ensures exhausted { result ≡ Err CoreFault.Exhausted → IsExhausted (board_of self.new) }
     {
         match self.phase {
             Phase::Exited { .. } => Ok(None),
             _ => self.receive(message),
+        }
+    }
+
+    // ---- whether a message waits
+
+    fn has_document(&self, params: &Value) -> Result<bool, AllocError>
+        ensures { IfOk result (λ has. has ≡ is_some (spec.document_in (state_of self.now) (view params.now))) }
+    {
+        match self.path_in(params)? {
+            Some(path) => Ok(self.open_or_disk_text(path.as_str()).is_some()),
+            None => Ok(false),
+        }
+    }
+
+    fn has_place(&self, at: DocumentPosition<'_>) -> Result<bool, AllocError>
+        ensures { IfOk result (λ has. has ≡ is_some (spec.place_in (state_of self.now) (wire.place_view at.entry))) }
+    {
+        Ok(self.place_in(at)?.is_some())
+    }
+
+    // Whether a request with this method and these params asks for an analysis.
+    fn asks_for_analysis(&self, method: Option<Method>, params: &Value) -> Result<bool, AllocError>
+        ensures { IfOk result (λ asks. asks ≡ working.asks_for_analysis (state_of self.now) method (view params.now)) }
+    {
+        match method {
+            Some(Method::DocumentDiagnostic) => self.has_document(params),
+            Some(Method::WorkspaceDiagnostic) => Ok(true),
+            Some(Method::WorkspaceSymbol) => Ok(symbol_query(params).is_some()),
+            Some(Method::Definition) => match DocumentPosition::from_value(params) {
+                Some(at) => self.has_place(at),
+                None => Ok(false),
+            },
+            Some(Method::References) => match ReferenceParams::from_value(params) {
+                Some(asked) => self.has_place(asked.place),
+                None => Ok(false),
+            },
+            Some(Method::Rename) => match RenameParams::from_value(params) {
+                Some(asked) => self.has_place(asked.place),
+                None => Ok(false),
+            },
+            _ => Ok(false),
+        }
+    }
+
+    // Whether a message waits for the work on all texts.
+    pub(crate) fn waits(&self, message: &Message) -> Result<bool, AllocError>
+        ensures { IfOk result (λ waits. waits ≡ working.waits (state_of self.now) (message_view message.now)) }
+    {
+        match (self.phase, message) {
+            (Phase::Running, Message::Request { method, params, .. }) => {
+                self.asks_for_analysis(*method, params)
+            }
+            _ => Ok(false),
         }
     }
 }

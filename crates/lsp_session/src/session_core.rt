@@ -1,9 +1,13 @@
-// The core: messages in, replies out, and nothing of streams.
-ghost use Rattle.std.specs.Prelude.{◌≡◌, ◌↔◌, ◌<◌, ℕ, List, ◌∷◌, [], ◌++◌, length, map, Some, None, IfOk, IfErr, IfSome, OnOk, IsTrue};
-ghost use Rattle.serde_json.specs.Written.{compact_text};
+// The core: messages and work in, replies and jobs out, and nothing of streams.
+ghost use Rattle.std.specs.Prelude.{◌≡◌, ◌↔◌, ◌<◌, ◌++◌, ℕ, List, [], ◌∷◌, length, option_map, Some, None, Err, IfOk, IfErr, IfSome, OnOk, IsTrue, true, false};
+ghost use Rattle.std.specs.Option.{option_to_list};
+ghost use Rattle.piece_collector.specs.Board.{IsFirstWanted, current_text};
+ghost use Rattle.piece_collector.specs.History.{stands_at};
 ghost use Rattle.lsp_config.specs.Configuration.{Configuration};
-ghost use Rattle.lsp_session.specs.Core.{Event, Arrive, messages, processed, IsAfter, Advances};
-ghost use Rattle.lsp_session.specs.Steps.{turns, Knows, replies_to};
+ghost use Rattle.lsp_session.specs.Core.{Event, Arrive, Process, Give, messages, processed, done, board_events, IsAfter, MayProcess, IsSettled, Processes, Advances};
+ghost use Rattle.lsp_session.specs.Run.{event_of, incoming_of_done, verdicts_of};
+ghost use Rattle.lsp_session.specs.Session.{session};
+ghost use Rattle.lsp_session.specs.Steps.{CanProcess};
 ghost use Rattle.lsp_session.specs.Stream.{exit_of};
 ghost use Rattle.lsp_session.specs.View.{core_state};
 
@@ -12,13 +16,16 @@ use crate::reply::Reply;
 use crate::session::Session;
 use lsp_config::{Config, CoreFault};
 use lsp_rpc::Message;
+use piece_collector::{Job, Verdict};
 use std::alloc::{AllocError, Global};
 use std::collections::VecDeque;
+use work_index::Done;
 
-/// A session that takes the bodies of messages and gives the bodies of replies.
+/// A session that takes the bodies of messages and gives the bodies of replies. The work on the texts is done outside: the core
+/// gives jobs, and takes what is made of them, in any order. A request for an analysis waits until the work on each text is there,
+/// and all later messages wait behind it.
 ///
-/// A call that is refused memory answers that fault, and so does each call that follows it, which changes nothing
-/// then.
+/// After a fault each call that answers a `Result` answers that fault, and changes nothing then.
 #[derive(Drop)]
 pub struct Core {
     alloc: Global,
@@ -27,109 +34,230 @@ pub struct Core {
     fault: Option<CoreFault>,
 }
 
-impl Core {
-    ghost use Rattle.lsp_session.specs.View.{last_fault};
+// Adds a reply, if there is one.
+fn push_reply(replies: &mut Vec<Reply>, reply: Option<Reply>) -> Result<(), AllocError>
+    ensures { OnOk result (replies.new.items ≡ replies.old.items ++ option_to_list reply) }
+{
+    if let Some(reply) = reply {
+        replies.push(reply)?;
+    }
+    Ok(())
+}
 
-    /// The core of a session before its first message. `Memory` where memory is refused.
+impl Core {
+    ghost use Rattle.lsp_session.specs.View.{last_fault, IsExhausted};
+
+    /// The core of a session before its first message. The texts of the files on disk get the stamps from 1 on, in the order of
+    /// their paths. `Memory` where memory is refused.
     pub fn new(alloc: Global, config: Config) -> Result<Core, CoreFault>
-        ensures is_after { IfOk result (λ core. IsAfter config (core_state core) []) }
+        ensures is_after { IfOk result (λ core. IsAfter 0 config (core_state core) []) }
         ensures open { IfOk result (λ core. last_fault core ≡ None) }
     {
-        match Session::new(alloc, config) {
-            Ok(session) => Ok(Core {
-                alloc,
-                session,
-                queue: VecDeque::new(alloc),
-                fault: None,
-            }),
-            Err(_) => Err(CoreFault::Memory),
-        }
+        Core::counting_from(alloc, config, 0)
     }
+
+    /// The core of a session before its first message, with stamps from the one after `stamp` on. `Memory` where memory is refused, and `Exhausted` where a file on disk
+    /// finds no stamp.
+    pub fn counting_from(alloc: Global, config: Config, stamp: u64) -> Result<Core, CoreFault>
+        ensures is_after { IfOk result (λ core. IsAfter stamp config (core_state core) []) }
+        ensures open { IfOk result (λ core. last_fault core ≡ None) }
+    {
+        let session = Session::new(alloc, config, stamp)?;
+        Ok(Core {
+            alloc,
+            session,
+            queue: VecDeque::new(alloc),
+            fault: None,
+        })
+    }
+
+    // Keeps a fault as the answer from now on.
+    fn fail(&mut self, fault: CoreFault) -> CoreFault
+        ensures result { result ≡ fault }
+        ensures fault { last_fault self.new ≡ Some fault }
+        ensures state { core_state self.new ≡ core_state self.old }
+    {
+        self.fault = Some(fault);
+        fault
+    }
+
+    // ---- messages
 
     /// Queues a message by its body, to be processed by an advance. `Memory` where memory is refused.
     pub fn message(&mut self, body: &[u8]) -> Result<(), CoreFault>
         // After a fault it answers the same again, and changes nothing.
         ensures repeats { IfSome (last_fault self.old) (λ fault. (result ≡ Err fault) × (self.new ≡ self.old)) }
         ensures fault { IfErr result (λ fault. last_fault self.new ≡ Some fault) }
+        ensures memory { last_fault self.old ≡ None → IfErr result (λ fault. fault ≡ CoreFault.Memory) }
         ensures open { OnOk result (last_fault self.new ≡ None) }
 
         // What the core stood for, it stands for with one more message.
-        ensures arrives { OnOk result ((config : Configuration) (h : List Event) → IsAfter config (core_state self.old) h → IsAfter config (core_state self.new) (Arrive body.now ∷ h)) }
+        ensures arrives { OnOk result ((opening : ℕ) (config : Configuration) (h : List Event) → IsAfter opening config (core_state self.old) h → IsAfter opening config (core_state self.new) (Arrive body.now ∷ h)) }
     {
         if let Some(fault) = self.fault {
             return Err(fault);
         }
         match self.enqueue(body) {
             Ok(()) => Ok(()),
-            Err(_) => Err(self.fail()),
+            Err(_) => Err(self.fail(CoreFault::Memory)),
         }
-    }
-
-    // Keeps want of memory as the answer from now on.
-    fn fail(&mut self) -> CoreFault
-        ensures fault { last_fault self.new ≡ Some result }
-    {
-        self.fault = Some(CoreFault::Memory);
-        CoreFault::Memory
     }
 
     fn enqueue(&mut self, body: &[u8]) -> Result<(), AllocError>
         ensures fault { last_fault self.new ≡ last_fault self.old }
-        ensures arrives { OnOk result ((config : Configuration) (h : List Event) → IsAfter config (core_state self.old) h → IsAfter config (core_state self.new) (Arrive body.now ∷ h)) }
+        ensures arrives { OnOk result ((opening : ℕ) (config : Configuration) (h : List Event) → IsAfter opening config (core_state self.old) h → IsAfter opening config (core_state self.new) (Arrive body.now ∷ h)) }
     {
         let message = Message::parse(self.alloc, body)?;
         self.queue.push_back(message)?;
         Ok(())
     }
 
-    /// Processes the queued messages in order, and gives the replies to them in order. `Memory` where memory is
-    /// refused: then the replies of this call are lost.
+    // ---- work
+
+    /// Gives a job for the first text that is wanted, in the order of the paths; none only where none is wanted. `Memory` where
+    /// memory is refused.
+    pub fn next_job(&mut self) -> Result<Option<Job>, CoreFault>
+        // After a fault it answers the same again, and changes nothing.
+        ensures repeats { IfSome (last_fault self.old) (λ fault. (result ≡ Err fault) × (self.new ≡ self.old)) }
+        ensures fault { IfErr result (λ fault. last_fault self.new ≡ Some fault) }
+        ensures memory { last_fault self.old ≡ None → IfErr result (λ fault. fault ≡ CoreFault.Memory) }
+        ensures open { OnOk result (last_fault self.new ≡ None) }
+
+        // What the core stood for, it stands for with one more job asked for.
+        ensures gives { OnOk result ((opening : ℕ) (config : Configuration) (h : List Event) → IsAfter opening config (core_state self.old) h → IsAfter opening config (core_state self.new) (Give ∷ h)) }
+
+        // The job is for the first wanted path, with the current stamp and text of that path.
+        ensures first { IfOk result (λ job. (opening : ℕ) (config : Configuration) (h : List Event) → IsAfter opening config (core_state self.old) h → IsFirstWanted opening (board_events config h) (option_map (λ j. j.path) job)) }
+        ensures text { IfOk result (λ job. (opening : ℕ) (config : Configuration) (h : List Event) → IsAfter opening config (core_state self.old) h → IfSome job (λ j. option_map (current_text j.path) (stands_at opening (board_events config h) j.path) ≡ Some j)) }
+    {
+        if let Some(fault) = self.fault {
+            return Err(fault);
+        }
+        match self.session.next_job() {
+            Ok(job) => Ok(job),
+            Err(_) => Err(self.fail(CoreFault::Memory)),
+        }
+    }
+
+    /// Brings what became of a job, whether or not that was given, and says whether it is taken. Takes no memory.
+    pub fn offer(&mut self, sent: Done) -> Result<Verdict, CoreFault>
+        // It answers a fault only after one, the same again, and changes nothing then.
+        ensures repeats { IfSome (last_fault self.old) (λ fault. (result ≡ Err fault) × (self.new ≡ self.old)) }
+        ensures fault { IfErr result (λ fault. last_fault self.old ≡ Some fault) }
+        ensures open { OnOk result (last_fault self.new ≡ None) }
+
+        // What the core stood for, it stands for with what was brought.
+        ensures brings { OnOk result ((opening : ℕ) (config : Configuration) (h : List Event) → IsAfter opening config (core_state self.old) h → IsAfter opening config (core_state self.new) (event_of sent ∷ h)) }
+        ensures verdict { IfOk result (λ verdict. (opening : ℕ) (config : Configuration) (h : List Event) → IsAfter opening config (core_state self.old) h → verdict ∷ [] ≡ verdicts_of opening config h (incoming_of_done sent)) }
+    {
+        if let Some(fault) = self.fault {
+            return Err(fault);
+        }
+        Ok(self.take(sent))
+    }
+
+    fn take(&mut self, sent: Done) -> Verdict
+        ensures fault { last_fault self.new ≡ last_fault self.old }
+        ensures brings { (opening : ℕ) (config : Configuration) (h : List Event) → IsAfter opening config (core_state self.old) h → IsAfter opening config (core_state self.new) (event_of sent ∷ h) }
+        ensures verdict { (opening : ℕ) (config : Configuration) (h : List Event) → IsAfter opening config (core_state self.old) h → result ∷ [] ≡ verdicts_of opening config h (incoming_of_done sent) }
+    {
+        match sent {
+            Done::Made(piece) => self.session.offer(piece),
+            Done::Failed { path, stamp } => self.session.fail(path.as_str(), stamp),
+        }
+    }
+
+    // ---- advances
+
+    /// Processes the queued messages in order, and gives the replies to them in order. It stops before a request for an analysis as
+    /// long as the work on some text isn't there. `Memory` where memory is refused, `Exhausted` where a text finds no stamp: then
+    /// the replies of this call are lost.
     pub fn advance(&mut self) -> Result<Vec<Reply>, CoreFault>
         // After a fault it answers the same again, and changes nothing.
         ensures repeats { IfSome (last_fault self.old) (λ fault. (result ≡ Err fault) × (self.new ≡ self.old)) }
         ensures fault { IfErr result (λ fault. last_fault self.new ≡ Some fault) }
+        ensures exhausted { last_fault self.old ≡ None → result ≡ Err CoreFault.Exhausted → IsExhausted (core_state self.new).board }
         ensures open { OnOk result (last_fault self.new ≡ None) }
 
-        // What the core stood for, it stands for with all its messages processed.
-        ensures advances { IfOk result (λ replies. (config : Configuration) (h : List Event) → IsAfter config (core_state self.old) h → Advances config (core_state self.new) h replies.items) }
+        // What the core stood for, it stands for with all messages processed that could be.
+        ensures advances { IfOk result (λ replies. (opening : ℕ) (config : Configuration) (h : List Event) → IsAfter opening config (core_state self.old) h → Advances opening config (core_state self.new) h replies.items) }
     {
         if let Some(fault) = self.fault {
             return Err(fault);
         }
         match self.process_all() {
             Ok(replies) => Ok(replies),
-            Err(_) => Err(self.fail()),
+            Err(fault) => Err(self.fail(fault)),
         }
     }
 
-    fn process_all(&mut self) -> Result<Vec<Reply>, AllocError>
-        ensures fault { last_fault self.new ≡ last_fault self.old }
-        ensures advances { IfOk result (λ replies. (config : Configuration) (h : List Event) → IsAfter config (core_state self.old) h → Advances config (core_state self.new) h replies.items) }
+    // Whether the next message can be processed: there is one, and it doesn't wait or the work on each text is there.
+    fn is_ready(&self) -> Result<bool, AllocError>
+        ensures ready { IfOk result (λ ready. ready ≡ true → CanProcess (core_state self.now)) }
+        ensures legal { IfOk result (λ ready. ready ≡ true → (opening : ℕ) (config : Configuration) (h : List Event) → IsAfter opening config (core_state self.now) h → MayProcess opening config h) }
+        ensures settled { IfOk result (λ ready. ready ≡ false → (opening : ℕ) (config : Configuration) (h : List Event) → IsAfter opening config (core_state self.now) h → IsSettled opening config h) }
     {
-        let replies = self.drain()?;
-        Ok(replies)
+        let Some(message) = self.queue.front() else {
+            return Ok(false);
+        };
+        if self.session.is_complete() {
+            return Ok(true);
+        }
+        Ok(!self.session.waits(message)?)
     }
 
-    fn drain(&mut self) -> Result<Vec<Reply>, AllocError>
+    // Processes the next message, and gives the reply to it, if there is one.
+    fn process(&mut self) -> Result<Option<Reply>, CoreFault>
+        requires { CanProcess (core_state self.old) }
         ensures fault { last_fault self.new ≡ last_fault self.old }
-        ensures queue { OnOk result ((core_state self.new).queue ≡ []) }
-        ensures state { OnOk result ((core_state self.new).state ≡ (turns (core_state self.old).state (core_state self.old).queue).state) }
-        ensures replies { IfOk result (λ replies. replies.items ≡ map compact_text (turns (core_state self.old).state (core_state self.old).queue).replies) }
+        ensures processes { OnOk result ((opening : ℕ) (config : Configuration) (h : List Event) → IsAfter opening config (core_state self.old) h → MayProcess opening config h → IsAfter opening config (core_state self.new) (Process ∷ h)) }
+        ensures reply { IfOk result (λ reply. (opening : ℕ) (config : Configuration) (h : List Event) → IsAfter opening config (core_state self.old) h → (session config (done (Process ∷ h))).replies ≡ (session config (done h)).replies ++ option_to_list reply) }
+        ensures exhausted { result ≡ Err CoreFault.Exhausted → IsExhausted (core_state self.new).board }
+        ensures shorter { OnOk result (length (core_state self.new).queue < length (core_state self.old).queue) }
+    {
+        match self.queue.pop_front() {
+            Some(message) => self.session.turn(message),
+            None => Ok(None),
+        }
+    }
+
+    fn process_all(&mut self) -> Result<Vec<Reply>, CoreFault>
+        ensures fault { last_fault self.new ≡ last_fault self.old }
+        ensures exhausted { result ≡ Err CoreFault.Exhausted → IsExhausted (core_state self.new).board }
+        ensures advances { IfOk result (λ replies. (opening : ℕ) (config : Configuration) (h : List Event) → IsAfter opening config (core_state self.old) h → Advances opening config (core_state self.new) h replies.items) }
     {
         let mut replies = Vec::new(self.alloc);
-        'messages: while let Some(message) = self.queue.pop_front() {
-            if let Some(reply) = self.session.turn(message)? {
-                replies.push(reply)?;
-            }
+        'messages: while self.is_ready()? {
+            let reply = self.process()?;
+            push_reply(&mut replies, reply)?;
         }
         Ok(replies)
     }
 
     /// Whether a message is queued that isn't processed.
     pub fn waits(&self) -> bool
-        ensures { (config : Configuration) (h : List Event) → IsAfter config (core_state self.now) h → IsTrue result ↔ (processed h < length (messages h)) }
+        ensures { (opening : ℕ) (config : Configuration) (h : List Event) → IsAfter opening config (core_state self.now) h → IsTrue result ↔ (processed h < length (messages h)) }
     {
         !self.queue.is_empty()
+    }
+
+    // How many messages are queued that aren't processed.
+    pub(crate) fn queued(&self) -> usize
+        ensures { result ≡ length (core_state self.now).queue }
+    {
+        self.queue.len()
+    }
+
+    // The last stamp that was given; before the first one, the stamp that the board counts from.
+    pub(crate) fn last_stamp(&self) -> u64
+        ensures { result ≡ (let board = (core_state self.now).board in board.last) }
+    {
+        self.session.last_stamp()
+    }
+
+    // The allocator that the core was made with.
+    pub(crate) fn alloc(&self) -> Global {
+        self.alloc
     }
 
     // Whether an exit was processed, and if so, whether a shutdown came before it.
@@ -141,14 +269,4 @@ impl Core {
             _ => None,
         }
     }
-}
-
-// Gives the core a message, and then an advance. None waited before.
-pub fn answer(core: &mut Core, body: &[u8]) -> Result<Vec<Reply>, CoreFault>
-    ensures { IfOk result (λ replies. (config : Configuration) (bodies : List (List ℕ)) → Knows config (core_state core.old) bodies
-        → Knows config (core_state core.new) (bodies ++ body.now ∷ []) × (replies.items ≡ replies_to config bodies body.now)) }
-{
-    core.message(body)?;
-    let replies = core.advance()?;
-    Ok(replies)
 }

@@ -5,7 +5,7 @@ ghost use Rattle.lsp_frame.specs.Counts.{HasFailed};
 ghost use Rattle.lsp_frame.specs.FrameReader.{source_of, last_answer, IsOpen};
 ghost use Rattle.lsp_frame.specs.Reading.{TakesFrame};
 ghost use Rattle.lsp_config.specs.Configuration.{Configuration};
-ghost use Rattle.lsp_config.specs.Fault.{IsWriteOrMemory};
+ghost use Rattle.lsp_config.specs.Fault.{IsWriteOrCore};
 ghost use Rattle.lsp_config.specs.Sending.{SendsPrefix};
 ghost use Rattle.lsp_session.specs.Serving.{Calls, IsCaused, Serving, Comes, exit_in, end_by};
 ghost use Rattle.lsp_session.specs.Steps.{Knows, replies_to};
@@ -14,8 +14,9 @@ ghost use Rattle.lsp_session.specs.View.{core_state};
 
 use crate::ended::Ended;
 use crate::reply::Reply;
-use crate::session_core::{Core, answer};
-use lsp_config::{CoreFault, ServeFault};
+use crate::session_core::Core;
+use crate::working::answer;
+use lsp_config::ServeFault;
 use lsp_frame::{ByteSink, ByteSource, Frame, FrameFault, FrameReader, write_frame};
 
 // Writes a frame for each reply, in order.
@@ -40,12 +41,12 @@ fn reply_to<K: ByteSink>(writer: &mut K, core: &mut Core, body: &[u8]) -> Result
     ensures knows { OnOk result ((config : Configuration) (bodies : List (List ℕ)) → Knows config (core_state core.old) bodies → Knows config (core_state core.new) (bodies ++ body.now ∷ [])) }
     ensures ok { OnOk result ((config : Configuration) (bodies : List (List ℕ)) → Knows config (core_state core.old) bodies → Appends (K.written writer.old) (K.written writer.new) (frames_of (replies_to config bodies body.now))) }
     ensures err { OnErr result ((config : Configuration) (bodies : List (List ℕ)) → Knows config (core_state core.old) bodies → SendsPrefix (K.written writer.old) (K.written writer.new) (frames_of (replies_to config bodies body.now))) }
-    ensures fault { IfErr result (IsWriteOrMemory (K.counts writer.old) (K.counts writer.new)) }
+    ensures fault { IfErr result (IsWriteOrCore (K.counts writer.old) (K.counts writer.new)) }
     ensures calls { Calls (K.counts writer.old) (K.counts writer.new) result }
 {
     let replies = match answer(core, body) {
         Ok(replies) => replies,
-        Err(CoreFault::Memory) => return Err(ServeFault::Memory),
+        Err(fault) => return Err(ServeFault::from(fault)),
     };
     write_all(writer, replies.as_slice())
 }
@@ -68,7 +69,7 @@ fn take_message<K: ByteSink>(
 ) -> Result<Option<Ended>, ServeFault>
     ensures comes { (config : Configuration) (a b c v : Option (List ℕ)) → Serving config a b (core_state core.old) v (K.written writer.old) → is_exited (core_state core.old).state.phase ≡ false
         → IfSome b (λ rest. TakesFrame rest c body.now) → Comes config a c (core_state core.new) v (K.written writer.new) None result }
-    ensures fault { IfErr result (IsWriteOrMemory (K.counts writer.old) (K.counts writer.new)) }
+    ensures fault { IfErr result (IsWriteOrCore (K.counts writer.old) (K.counts writer.new)) }
     ensures calls { Calls (K.counts writer.old) (K.counts writer.new) result }
 {
     match reply_to(writer, core, body) {

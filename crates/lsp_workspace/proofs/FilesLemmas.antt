@@ -1,15 +1,14 @@
 -- The map of the files beside the list that it stands for.
-use Rattle.std.proofs.Common.{◌≡◌, ℕ, ℤ, List, [], ◌∷◌, ◌++◌, Bool, true, false, ◌&&◌, cond, Option, Some, None, is_some, is_none, option_map, String, Global, MutBor, string_bytes, string_cmp, nat_cmp, Ordering, Less, Equal, Greater, refl, sym, ap, ◌∙◌, Bor}
+use Rattle.std.proofs.Common.{◌≡◌, ℕ, List, [], ◌∷◌, ◌++◌, Bool, true, false, ◌&&◌, cond, Option, Some, None, is_some, is_none, option_map, String, Global, MutBor, string_bytes, string_cmp, nat_cmp, Ordering, Less, Equal, Greater, refl, sym, ap, ◌∙◌, Bor}
 use Rattle.std.specs.Option.{option_copied, option_copied_mut}
 use Rattle.std.specs.Ordering.{match_ordering}
 use Rattle.std.specs.Cmp.Lexicographic.{slice_cmp}
 use Rattle.std.specs.Map.{lookup, set_value, remove_entry}
 use Rattle.std.specs.BTreeMap.{insert_entry, is_at}
 use Rattle.std.proofs.lemmas.Map.Steps.{set_value_same}
-use Rattle.doc_text.specs.Edits.{ChangeData}
 use Rattle.lsp_workspace.specs.Disk.{FileData}
-use Rattle.lsp_workspace.specs.Files.{OpenDocument, File, Files, file_at, disk_file, with_disk_files, with_file, set_file, without_file, opened_file, opened_at, opened_files, with_document, with_open_file, changed_file, changed_files, saved_file, saved_files, closed_at, closed_files}
-use Rattle.lsp_workspace.specs.Steps.{changed_from, saved_from, leaves, with_none_open}
+use Rattle.lsp_workspace.specs.Files.{OpenDocument, File, Files, file_at, disk_file, with_disk_files, with_file, set_file, without_file, opened_file, opened_at, opened_files, with_document, with_open_file, closed_at, closed_files}
+use Rattle.lsp_workspace.specs.Steps.{with_new_document, with_document_at, with_new_kept, with_kept_at, leaves, with_none_open}
 use Rattle.lsp_workspace.specs.View.{file_view, entry_view, files_view}
 use Rattle.lsp_workspace.specs.declared.files.FileEntry.{FileEntry}
 
@@ -57,23 +56,23 @@ view_of_ref (Some f) = refl
 
 -- ---- one file changed in its place
 
-module _ (path : List ℕ) (files : Files) (f : File) where
-  kept_as_it_is : file_at path files ≡ Some f → set_file path f files ≡ files
-  kept_as_it_is found = set_value_same (is_at (slice_cmp nat_cmp path)) files f found
+module _ (path : List ℕ) (files : Files) (f : File) (found : file_at path files ≡ Some f) where
+  kept_as_it_is : set_file path f files ≡ files
+  kept_as_it_is = set_value_same (is_at (slice_cmp nat_cmp path)) files f found
 
-  changed-document : (version : ℤ) (changes : List ChangeData) (o : Option OpenDocument) → file_at path files ≡ Some f → set_file path (changed_from version changes f o) files ≡ with_document (λ f d. set_file path (changed_file version changes f d) files) files f o
-  changed-document version changes None found = kept_as_it_is found
-  changed-document version changes (Some d) found = refl
+  document-set : (document : OpenDocument) (o : Option OpenDocument) → set_file path (with_new_document document f o) files ≡ with_document (λ f d. set_file path (record f { document = Some document }) files) files f o
+  document-set document None = kept_as_it_is
+  document-set document (Some d) = refl
 
-  pub changed_in_place : (version : ℤ) (changes : List ChangeData) → file_at path files ≡ Some f → set_file path (changed_from version changes f f.document) files ≡ changed_files version changes path files
-  changed_in_place version changes found = changed-document version changes f.document found ∙ sym (ap (with_open_file (λ f d. set_file path (changed_file version changes f d) files) files) found)
+  pub document_in_place : (document : OpenDocument) → set_file path (with_new_document document f f.document) files ≡ with_document_at path document files
+  document_in_place document = document-set document f.document ∙ sym (ap (with_open_file (λ f d. set_file path (record f { document = Some document }) files) files) found)
 
-  saved-document : (o : Option OpenDocument) → file_at path files ≡ Some f → set_file path (saved_from f o) files ≡ with_document (λ f d. set_file path (saved_file f d) files) files f o
-  saved-document None found = kept_as_it_is found
-  saved-document (Some d) found = refl
+  kept-set : (text : List ℕ) (o : Option OpenDocument) → set_file path (with_new_kept text f o) files ≡ with_document (λ f d. set_file path (record f { kept = Some text }) files) files f o
+  kept-set text None = kept_as_it_is
+  kept-set text (Some d) = refl
 
-  pub saved_in_place : file_at path files ≡ Some f → set_file path (saved_from f f.document) files ≡ saved_files path files
-  saved_in_place found = saved-document f.document found ∙ sym (ap (with_open_file (λ f d. set_file path (saved_file f d) files) files) found)
+  pub kept_in_place : (text : List ℕ) → set_file path (with_new_kept text f f.document) files ≡ with_kept_at path text files
+  kept_in_place text = kept-set text f.document ∙ sym (ap (with_open_file (λ f d. set_file path (record f { kept = Some text }) files) files) found)
 
 -- ---- what `get_mut` found, and what was written there
 
@@ -91,14 +90,11 @@ written_at path es ns f is = ap files_view is ∙ view-set path es f
 -- ---- where no file is at a path
 
 module _ (path : List ℕ) (files : Files) (none : file_at path files ≡ None) where
-  pub nothing_changed : (version : ℤ) (changes : List ChangeData) → files ≡ changed_files version changes path files
-  nothing_changed version changes = sym (ap (with_open_file (λ f d. set_file path (changed_file version changes f d) files) files) none)
+  pub no_document : (document : OpenDocument) → files ≡ with_document_at path document files
+  no_document document = sym (ap (with_open_file (λ f d. set_file path (record f { document = Some document }) files) files) none)
 
-  pub nothing_saved : files ≡ saved_files path files
-  nothing_saved = sym (ap (with_open_file (λ f d. set_file path (saved_file f d) files) files) none)
-
-  pub newly_opened : (uri : List ℕ) (d : OpenDocument) → with_file path (opened_file uri d None) files ≡ opened_files uri d path files
-  newly_opened uri d = sym (ap (opened_at uri d path files) none)
+  pub nothing_kept : (text : List ℕ) → files ≡ with_kept_at path text files
+  nothing_kept text = sym (ap (with_open_file (λ f d. set_file path (record f { kept = Some text }) files) files) none)
 
 pub opened_again : (path : List ℕ) (files : Files) (f : File) (uri : List ℕ) (d : OpenDocument) → file_at path files ≡ Some f → set_file path (opened_file uri d f.kept) files ≡ opened_files uri d path files
 opened_again path files f uri d found = sym (ap (opened_at uri d path files) found)

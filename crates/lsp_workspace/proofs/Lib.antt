@@ -1,5 +1,9 @@
 pub mod PathOrder
-mod Ascending
+pub mod MapOrder
 mod FilesLemmas
+pub mod DocumentLemmas
 pub mod WorkspaceLemmas
-mod Changed
+pub mod TextChanges
+pub mod Held
+pub mod FirstEvents
+mod Keeps

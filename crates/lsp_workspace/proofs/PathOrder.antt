@@ -41,7 +41,7 @@ order-match path f e es Less is order later = ((is, behind-later path e.0 (keys_
 order-match path f e es Equal is order later = order
 order-match path f e es Greater is order later = (behind-with_file e.0 path f es (nat_list_cmp_total.antisymm e.0 path ∙ ap ordering_reverse is) order.0, later)
 
-with_file-order : (path : List ℕ) (f : File) (files : Files) → AreInPathOrder files → AreInPathOrder (with_file path f files)
+pub with_file-order : (path : List ℕ) (f : File) (files : Files) → AreInPathOrder files → AreInPathOrder (with_file path f files)
 unfolding IsStrictlySortedBy
 with_file-order path f [] order = (tt, tt)
 with_file-order path f (e ∷ es) order = order-match path f e es (slice_cmp nat_cmp path e.0) refl order (with_file-order path f es order.1)

@@ -2,3 +2,5 @@ pub mod Disk
 pub mod Files
 pub mod View
 pub mod Steps
+pub mod Texts
+pub mod Kept

@@ -1,17 +1,36 @@
 -- What the private steps of files promise each other.
-use Rattle.std.specs.Prelude.{ℤ, ℕ, List, Bool, false, ◌&&◌, Option, Some, None, is_some, is_none}
-use Rattle.doc_text.specs.Edits.{ChangeData}
-use Rattle.lsp_workspace.specs.Files.{OpenDocument, File, Files, set_file, changed_file, saved_file}
+use Rattle.std.specs.Prelude.{ℕ, List, Bool, false, ◌&&◌, Option, Some, None, is_some, is_none}
+use Rattle.lsp_workspace.specs.Files.{OpenDocument, File, Files, file_at, with_file, set_file, where_open}
 
--- a file after changes of its document, if one is open
-abbrev pub changed_from : ℤ → List ChangeData → File → Option OpenDocument → File
-changed_from version changes f None = f
-changed_from version changes f (Some d) = changed_file version changes f d
+-- a file without a text
+abbrev pub empty_file : File
+empty_file = record { document = None; kept = None; uri = None }
 
--- a file after a save of its document, if one is open
-abbrev pub saved_from : File → Option OpenDocument → File
-saved_from f None = f
-saved_from f (Some d) = saved_file f d
+abbrev pub room_for : List ℕ → Files → Option File → Files
+room_for path files None = with_file path empty_file files
+room_for path files (Some f) = files
+
+-- the files with one at the path, without a text if there was none
+abbrev pub with_room : List ℕ → Files → Files
+with_room path files = room_for path files (file_at path files)
+
+-- a file with another document, if one is open
+abbrev pub with_new_document : OpenDocument → File → Option OpenDocument → File
+with_new_document document f None = f
+with_new_document document f (Some d) = record f { document = Some document }
+
+-- the files with another document in the place of the one that is open at a path
+abbrev pub with_document_at : List ℕ → OpenDocument → Files → Files
+with_document_at path document files = where_open (λ f d. set_file path (record f { document = Some document }) files) path files
+
+-- a file with another kept text, if a document is open
+abbrev pub with_new_kept : List ℕ → File → Option OpenDocument → File
+with_new_kept text f None = f
+with_new_kept text f (Some d) = record f { kept = Some text }
+
+-- the files with another kept text for the path of a document that is open
+abbrev pub with_kept_at : List ℕ → List ℕ → Files → Files
+with_kept_at path text files = where_open (λ f d. set_file path (record f { kept = Some text }) files) path files
 
 -- whether a document is open in a file and no text is kept
 abbrev pub leaves : Option File → Bool

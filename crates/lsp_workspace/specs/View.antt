@@ -1,6 +1,7 @@
 -- What is kept of files, as their definitions see it.
 use Rattle.std.specs.Prelude.{ℕ, Bool, List, option_map, map, String, string_bytes}
 use Rattle.std.specs.declared.alloc.Global.{Global}
+use Rattle.piece_collector.specs.Views.{BoardView}
 use Rattle.lsp_workspace.specs.Files.{OpenDocument, File, Files}
 use Rattle.lsp_workspace.specs.declared.files.Document.{Document}
 use Rattle.lsp_workspace.specs.declared.files.FileEntry.{FileEntry}
@@ -17,10 +18,8 @@ entry_view e = (string_bytes e.0, file_view e.1)
 abbrev pub files_view : List (String Global × FileEntry) → Files
 files_view es = map entry_view es
 
--- the files of a workspace, and whether the analysis that is kept is that of these files
+-- the files of a workspace, the board of their texts, and whether an analysis of the files as they are is known
 pub record WorkspaceData : Type 0 where
   pub files : Files
+  pub board : BoardView
   pub is_current : Bool
-
-abbrev pub workspace_data : Files → Bool → WorkspaceData
-workspace_data files is_current = record { files = files; is_current = is_current }

@@ -1,9 +1,10 @@
 // The files that a session knows.
-ghost use Rattle.std.specs.Prelude.{◌≡◌, OnOk, IfOk, Some, None, map, option_map, string_bytes};
+ghost use Rattle.std.specs.Prelude.{◌≡◌, ℕ, List, OnOk, OnErr, IfOk, Some, None, map, option_map, option_and_then, string_bytes, IsSome};
 ghost use Rattle.doc_text.specs.Edits.{change_view};
 ghost use Rattle.lsp_workspace.specs.Disk.{disk_view};
-ghost use Rattle.lsp_workspace.specs.Files.{file_at, with_file, disk_file, from_disk, text_of, opened_file, opened_files, edited_all, changed_files, saved_files, closed_files};
-ghost use Rattle.lsp_workspace.specs.Steps.{changed_from, saved_from, leaves, with_none_open};
+ghost use Rattle.lsp_workspace.specs.Files.{file_at, text_at, with_file, disk_file, from_disk, text_of, opened_file, opened_files, edited_all, closed_files, AreInPathOrder};
+ghost use Rattle.lsp_workspace.specs.Steps.{with_room, with_new_document, with_document_at, with_new_kept, with_kept_at, leaves, with_none_open};
+ghost use Rattle.lsp_workspace.specs.Texts.{open_document, is_open};
 ghost use Rattle.lsp_workspace.specs.View.{document_view, file_view, files_view};
 
 use crate::disk::DiskFile;
@@ -70,7 +71,8 @@ pub fn from_disk(alloc: Global, files: Vec<DiskFile>) -> Result<Files, AllocErro
 
 // Puts a file under a path, in the place of one that is there.
 fn put(files: &mut Files, path: String, file: FileEntry) -> Result<(), AllocError>
-    ensures { OnOk result (files_view files.new.entries ≡ with_file (string_bytes path) (file_view file) (files_view files.old.entries)) }
+    ensures ok { OnOk result (files_view files.new.entries ≡ with_file (string_bytes path) (file_view file) (files_view files.old.entries)) }
+    ensures err { OnErr result (files_view files.new.entries ≡ files_view files.old.entries) }
 {
     files.insert(path, file)?;
     Ok(())
@@ -95,22 +97,54 @@ pub fn get<'f>(files: &'f Files, path: &str) -> Option<&'f FileEntry>
     files.get(path)
 }
 
-/// Opens a document at a path, in the place of one that is open, and notes the URI that the editor gave it. The kept text
-/// stays. An `Err` comes only where memory was refused.
-pub fn open(
-    files: &mut Files,
-    path: String,
-    uri: String,
-    document: Document,
-) -> Result<(), AllocError>
-    ensures { OnOk result (files_view files.new.entries ≡ opened_files (string_bytes uri) (document_view document) (string_bytes path) (files_view files.old.entries)) }
+// The document that is open at a path.
+fn document_at<'f>(files: &'f Files, path: &str) -> Option<&'f Document>
+    ensures { option_map (λ d. document_view d.now) result ≡ open_document path.now (files_view files.now.entries) }
 {
-    match files.get_mut(path.as_str()) {
-        Some(file) => {
-            reopen(file, uri, document);
-            Ok(())
-        }
-        None => insert(files, path, uri, document),
+    get(files, path)?.document.as_ref()
+}
+
+/// Whether a document is open at a path.
+pub fn is_open(files: &Files, path: &str) -> bool
+    ensures { result ≡ is_open path.now (files_view files.now.entries) }
+{
+    document_at(files, path).is_some()
+}
+
+/// The text that is kept for a path.
+pub fn kept_at<'f>(files: &'f Files, path: &str) -> Option<&'f Text>
+    ensures { option_map (λ t. t.now) result ≡ option_and_then (λ f. f.kept) (file_at path.now (files_view files.now.entries)) }
+{
+    get(files, path)?.kept.as_ref()
+}
+
+/// Puts a file without a text at a path where there is none. An `Err` comes only where memory was refused. The texts stay
+/// as they are in any case.
+pub fn make_room(alloc: Global, files: &mut Files, path: &str) -> Result<(), AllocError>
+    ensures room { OnOk result (files_view files.new.entries ≡ with_room path.now (files_view files.old.entries)) }
+    ensures texts { (q : List ℕ) → text_at q (files_view files.new.entries) ≡ text_at q (files_view files.old.entries) }
+    ensures ordered { AreInPathOrder (files_view files.old.entries) → AreInPathOrder (files_view files.new.entries) }
+{
+    if get(files, path).is_some() {
+        return Ok(());
+    }
+    let entry = FileEntry {
+        document: None,
+        kept: None,
+        uri: None,
+    };
+    put(files, String::from_str(alloc, path)?, entry)
+}
+
+/// Opens a document in the file at a path, in the place of one that is open, and notes the URI that the editor gave it. The
+/// kept text stays.
+pub fn open(files: &mut Files, path: &str, uri: String, document: Document)
+    requires { IsSome (file_at path.now (files_view files.old.entries)) }
+    ensures { files_view files.new.entries ≡ opened_files (string_bytes uri) (document_view document) path.now (files_view files.old.entries) }
+{
+    match files.get_mut(path) {
+        Some(file) => reopen(file, uri, document),
+        None => {}
     }
 }
 
@@ -122,43 +156,36 @@ fn reopen(file: &mut FileEntry, uri: String, document: Document)
     file.uri = Some(uri);
 }
 
-// Puts the file of a new document under its path.
-fn insert(
-    files: &mut Files,
-    path: String,
-    uri: String,
-    document: Document,
-) -> Result<(), AllocError>
-    ensures { OnOk result (files_view files.new.entries ≡ with_file (string_bytes path) (opened_file (string_bytes uri) (document_view document) None) (files_view files.old.entries)) }
+/// A copy of the text of the document that is open at a path; `None` where none is open. An `Err` comes only where memory was
+/// refused.
+pub fn open_text(alloc: Global, files: &Files, path: &str) -> Result<Option<Text>, AllocError>
+    ensures { IfOk result (λ text. text ≡ option_map (λ d. d.text) (open_document path.now (files_view files.now.entries))) }
 {
-    let entry = FileEntry {
-        document: Some(document),
-        kept: None,
-        uri: Some(uri),
+    let Some(document) = document_at(files, path) else {
+        return Ok(None);
     };
-    put(files, path, entry)
+    let text = String::from_str(alloc, document.text.as_str())?;
+    Ok(Some(Text::new(text)))
 }
 
-/// Makes these edits in the document that is open at a path, and gives it their version. Where none is open, nothing
-/// changes. An `Err` comes only where memory was refused; some of the changes may have been made then.
-pub fn change(files: &mut Files, path: &str, edits: Edits) -> Result<(), AllocError>
-    ensures { OnOk result (files_view files.new.entries
-        ≡ changed_files edits.version (map change_view edits.changes.items) path.now (files_view files.old.entries)) }
+/// The document that is open at a path with these edits made, each change at places of the text that those before it leave;
+/// `None` where none is open. An `Err` comes only where memory was refused.
+pub fn edited(
+    alloc: Global,
+    files: &Files,
+    path: &str,
+    edits: Edits,
+) -> Result<Option<Document>, AllocError>
+    ensures { IfOk result (λ document. option_map document_view document
+        ≡ option_map (λ d. record { version = edits.version; text = edited_all (map change_view edits.changes.items) d.text }) (open_document path.now (files_view files.now.entries))) }
 {
-    match files.get_mut(path) {
-        Some(file) => change_file(file, edits),
-        None => Ok(()),
-    }
-}
-
-fn change_file(file: &mut FileEntry, edits: Edits) -> Result<(), AllocError>
-    ensures { OnOk result (file_view file.new ≡ changed_from edits.version (map change_view edits.changes.items) (file_view file.old) (file_view file.old).document) }
-{
-    if let Some(document) = &mut file.document {
-        edit(&mut document.text, edits.changes)?;
-        document.version = edits.version;
-    }
-    Ok(())
+    let Some(text) = open_text(alloc, files, path)? else {
+        return Ok(None);
+    };
+    let mut text = text;
+    edit(&mut text, edits.changes)?;
+    let version = edits.version;
+    Ok(Some(Document { version, text }))
 }
 
 // Applies the changes in order.
@@ -171,25 +198,40 @@ fn edit(text: &mut Text, changes: Vec<Change>) -> Result<(), AllocError>
     Ok(())
 }
 
-/// Keeps the text of the document that is open at a path. Where none is open, nothing changes. An `Err` comes only where memory
-/// was refused.
-pub fn save(alloc: Global, files: &mut Files, path: &str) -> Result<(), AllocError>
-    ensures { OnOk result (files_view files.new.entries ≡ saved_files path.now (files_view files.old.entries)) }
+/// Puts another document in the place of the one that is open at a path. Where none is open, nothing changes.
+pub fn set_document(files: &mut Files, path: &str, document: Document)
+    ensures { files_view files.new.entries ≡ with_document_at path.now (document_view document) (files_view files.old.entries) }
 {
     match files.get_mut(path) {
-        Some(file) => save_file(alloc, file),
-        None => Ok(()),
+        Some(file) => replace_document(file, document),
+        None => {}
     }
 }
 
-fn save_file(alloc: Global, file: &mut FileEntry) -> Result<(), AllocError>
-    ensures { OnOk result (file_view file.new ≡ saved_from (file_view file.old) (file_view file.old).document) }
+fn replace_document(file: &mut FileEntry, document: Document)
+    ensures { file_view file.new ≡ with_new_document (document_view document) (file_view file.old) (file_view file.old).document }
 {
-    if let Some(document) = &file.document {
-        let text = String::from_str(alloc, document.text.as_str())?;
-        file.kept = Some(Text::new(text));
+    if file.document.is_some() {
+        file.document = Some(document);
     }
-    Ok(())
+}
+
+/// Keeps a text for the path of a document that is open. Where none is open, nothing changes.
+pub fn keep(files: &mut Files, path: &str, text: Text)
+    ensures { files_view files.new.entries ≡ with_kept_at path.now text (files_view files.old.entries) }
+{
+    match files.get_mut(path) {
+        Some(file) => replace_kept(file, text),
+        None => {}
+    }
+}
+
+fn replace_kept(file: &mut FileEntry, text: Text)
+    ensures { file_view file.new ≡ with_new_kept text (file_view file.old) (file_view file.old).document }
+{
+    if file.document.is_some() {
+        file.kept = Some(text);
+    }
 }
 
 /// Closes the document that is open at a path. A file with no kept text leaves. Where none is open, nothing changes. Takes

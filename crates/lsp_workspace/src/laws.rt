@@ -1,5 +1,6 @@
 // What the definitions of files say, beside what the code meets.
 ghost use Rattle.lsp_workspace.specs.Files.{TextsAreOfTheWorkspace, FilesStayInPathOrder, FilesInPathOrderAreApart};
+ghost use Rattle.lsp_workspace.specs.Texts.{TextsChangeAtOnePath};
 
 /// A law. Of files that have different paths the text at a path is that of the workspace's file there: what a request
 /// asks for is a document of the workspace, and no other.
@@ -16,4 +17,10 @@ pub fn files_stay_in_path_order()
 /// A law. Files whose paths ascend have different paths.
 pub fn files_in_path_order_are_apart()
     ensures { FilesInPathOrderAreApart }
+{}
+
+/// A law. An open, changes, a save and a close of a document change the text of its path alone: an open gives it the document's
+/// text, and a save changes none.
+pub fn documents_change_one_text()
+    ensures { TextsChangeAtOnePath }
 {}

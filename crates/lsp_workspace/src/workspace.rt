@@ -1,50 +1,129 @@
-// The files of a workspace, with the analysis of them.
-ghost use Rattle.std.specs.Prelude.{◌≡◌, IfOk, OnOk, IsTrue, IsFalse, map, string_bytes};
+// The files of a workspace, the board of their texts, and the analysis of them.
+ghost use Rattle.std.specs.Prelude.{◌≡◌, ℕ, List, [], ◌∷◌, ◌++◌, false, IfOk, IfSome, OnOk, OnErr, IsTrue, IsFalse, Option, Some, Err, option_map, map, string_bytes, ◌↔◌, bytes_eq};
+ghost use Rattle.std.specs.Map.{update};
 ghost use Rattle.doc_text.specs.Edits.{change_view};
+ghost use Rattle.piece_collector.specs.Board.{IsAfter, IsFirstWanted, IsComplete, IsFull, current_text};
+ghost use Rattle.piece_collector.specs.Events.{Event, NextJob, Offer, Fail};
+ghost use Rattle.piece_collector.specs.History.{verdict_on, failure_on, stands_at};
+ghost use Rattle.piece_collector.specs.Views.{known_text};
 ghost use Rattle.lsp_workspace.specs.Disk.{disk_view};
-ghost use Rattle.lsp_workspace.specs.Files.{from_disk, opened_files, changed_files, saved_files, closed_files, workspace};
-ghost use Rattle.lsp_workspace.specs.View.{document_view, files_view};
+ghost use Rattle.lsp_workspace.specs.Files.{from_disk, opened_files, changed_files, saved_files, closed_files, text_at, workspace};
+ghost use Rattle.lsp_workspace.specs.Texts.{HoldsTexts, text_event, event_at, events_at, first_events};
+ghost use Rattle.lsp_workspace.specs.View.{document_view, file_view, files_view};
 
 use crate::disk::DiskFile;
-use crate::files::{self, Document, Edits, Files};
-use crate::snapshot::{Snapshot, snapshot_of};
+use crate::files::{self, Document, Edits, FileEntry, Files};
+use crate::known::{Known, analyse, known_after};
+use crate::snapshot::Snapshot;
+use collector_laws::texts_of_events;
+use doc_text::Text;
+use piece_collector::{Board, BoardFault, Job, Piece, Verdict};
 use std::alloc::{AllocError, Global};
 use std::marker::Model;
+use work_index::FileWork;
 
-/// The files that an editor's session knows, with the analysis of them. Contracts see it as these files, and whether the
-/// analysis is that of the files as they are.
+/// The files that an editor's session knows, the board of their texts with the work on them, and the analysis of them.
+///
+/// Each change of a text is told to the board, which then wants work on it. Once the board is complete the files can be
+/// analysed. Contracts see a workspace as its files, its board, and whether an analysis of the files as they are is known.
 #[derive(Drop)]
 pub struct Workspace {
+    alloc: Global,
     files: Files,
-    // The analysis of the files, or of an earlier state of them.
-    snapshot: Option<Snapshot>,
-    // Whether it is that of the files as they are.
-    is_current: bool,
+    board: Board<FileWork>,
+    known: Option<Known>,
 }
 
 impl Model for Workspace {
-    ghost use Rattle.std.specs.Prelude.{◌≡◌, true, Some};
-    ghost use Rattle.lsp_workspace.specs.Files.{workspace};
-    ghost use Rattle.lsp_workspace.specs.View as known;
+    ghost use Rattle.lsp_workspace.specs.Kept as kept;
+    ghost use Rattle.lsp_workspace.specs.View as seen;
 
-    ghost Value = { known.WorkspaceData };
+    ghost Value = { seen.WorkspaceData };
 
-    ghost view = { λ w. known.workspace_data (known.files_view w.files.entries) w.is_current };
+    ghost view = { λ w. kept.workspace_data (seen.files_view w.files.entries) w.board w.known };
 
-    ghost invariant = { λ w. w.is_current ≡ true → w.snapshot ≡ Some (workspace (known.files_view w.files.entries)) };
+    ghost invariant = { λ w. kept.IsKept (seen.files_view w.files.entries) w.board w.known };
+}
+
+// Sets the text of a file on a board, if the file has one.
+fn set_first(
+    alloc: Global,
+    board: &mut Board<FileWork>,
+    path: &str,
+    file: &FileEntry,
+) -> Result<(), BoardFault>
+    requires { board.old.is_lent ≡ false }
+    ensures is_after { OnOk result ((opening : ℕ) (events : List Event) → IsAfter opening board.old events → IsAfter opening board.new (first_events (workspace ((path.now, file_view file.now) ∷ [])) ++ events)) }
+    ensures here { board.new.is_lent ≡ false }
+{
+    let Some(text) = file.text() else {
+        return Ok(());
+    };
+    let copy = String::from_str(alloc, text.as_str())?;
+    board.set_text(String::from_str(alloc, path)?, copy)?;
+    Ok(())
+}
+
+// A board of the texts of the files, whose first stamp is the one after `stamp`.
+fn board_of(alloc: Global, files: &Files, stamp: u64) -> Result<Board<FileWork>, BoardFault>
+    ensures is_after { IfOk result (λ board. IsAfter stamp board (first_events (workspace (files_view files.now.entries)))) }
+    ensures texts { IfOk result (λ board. HoldsTexts (files_view files.now.entries) board) }
+    ensures here { IfOk result (λ board. board.is_lent ≡ false) }
+{
+    texts_of_events();
+    let mut board = Board::counting_from(alloc, FileWork::new(alloc), stamp);
+    for (path, file) in files.iter() {
+        set_first(alloc, &mut board, path.as_str(), file)?;
+    }
+    Ok(board)
+}
+
+// Gives a board another text of a path, or lets it forget the path.
+fn tell(
+    alloc: Global,
+    board: &mut Board<FileWork>,
+    path: &str,
+    text: Option<&Text>,
+) -> Result<(), BoardFault>
+    requires { board.old.is_lent ≡ false }
+    ensures is_after { OnOk result ((opening : ℕ) (events : List Event) → IsAfter opening board.old events → IsAfter opening board.new (text_event path.now (option_map (λ t. t.now) text.entry) ∷ events)) }
+    ensures texts { OnOk result ((q : List ℕ) → known_text q board.new ≡ update bytes_eq (λ p. known_text p board.old) path.now (option_map (λ t. t.now) text.entry) q) }
+    ensures here { board.new.is_lent ≡ false }
+    ensures exhausted { result ≡ Err BoardFault.Exhausted → board.new.last ≡ 18446744073709551615 }
+    ensures err { OnErr result (board.new ≡ board.old) }
+{
+    match text {
+        Some(text) => {
+            let copy = String::from_str(alloc, text.as_str())?;
+            board.set_text(String::from_str(alloc, path)?, copy)?;
+        }
+        None => {
+            board.remove(path);
+        }
+    }
+    Ok(())
 }
 
 impl Workspace {
-    /// The workspace of the files on disk. Of two files with one path the earlier counts. An `Err` comes only where memory was
-    /// refused.
-    pub fn from_disk(alloc: Global, disk_files: Vec<DiskFile>) -> Result<Workspace, AllocError>
-        ensures { IfOk result (λ w. w.files ≡ from_disk (map disk_view disk_files.items)) }
+    /// The workspace of the files on disk. Of two files with one path the earlier counts. The texts get stamps from the one after
+    /// `stamp` on, in the order of their paths.
+    ///
+    /// Refused with 502 where no stamp is left, and with 501 where memory was refused.
+    pub fn from_disk(
+        alloc: Global,
+        disk_files: Vec<DiskFile>,
+        stamp: u64,
+    ) -> Result<Workspace, BoardFault>
+        ensures files { IfOk result (λ w. w.files ≡ from_disk (map disk_view disk_files.items)) }
+        ensures board { IfOk result (λ w. IsAfter stamp w.board (first_events (workspace w.files))) }
     {
         let files = files::from_disk(alloc, disk_files)?;
+        let board = board_of(alloc, &files, stamp)?;
         Ok(Workspace {
+            alloc,
             files,
-            snapshot: None,
-            is_current: false,
+            board,
+            known: None,
         })
     }
 
@@ -55,65 +134,168 @@ impl Workspace {
         &self.files
     }
 
-    /// Opens a document at a path, as [`files::open`] does. An `Err` comes only where memory was refused.
-    pub fn open(&mut self, path: String, uri: String, document: Document) -> Result<(), AllocError>
-        ensures files { OnOk result (self.new.files ≡ opened_files (string_bytes uri) (document_view document) (string_bytes path) self.old.files) }
-        ensures stale { IsFalse self.new.is_current }
-    {
-        self.is_current = false;
-        files::open(&mut self.files, path, uri, document)
-    }
+    // ---- documents
 
-    /// Makes these edits in the document that is open at a path, as [`files::change`] does. An `Err` comes only where memory
-    /// was refused.
-    pub fn change(&mut self, path: &str, edits: Edits) -> Result<(), AllocError>
-        ensures files { OnOk result (self.new.files ≡ changed_files edits.version (map change_view edits.changes.items) path.now self.old.files) }
-        ensures stale { IsFalse self.new.is_current }
-    {
-        self.is_current = false;
-        files::change(&mut self.files, path, edits)
-    }
+    /// Opens a document at a path, in the place of one that is open, and notes the URI that the editor gave it. The kept text
+    /// stays. Refused with 502 where no stamp is left, and with 501 where memory was refused; the texts are as before then.
+    pub fn open(&mut self, path: &str, uri: String, document: Document) -> Result<(), BoardFault>
+        ensures files { OnOk result (self.new.files ≡ opened_files (string_bytes uri) (document_view document) path.now self.old.files) }
+        ensures board { OnOk result ((opening : ℕ) (events : List Event) → IsAfter opening self.old.board events → IsAfter opening self.new.board (event_at path.now self.new.files ∷ events)) }
 
-    /// Keeps the text of the document that is open at a path, as [`files::save`] does. An `Err` comes only where memory was
-    /// refused.
-    pub fn save(&mut self, alloc: Global, path: &str) -> Result<(), AllocError>
-        ensures files { OnOk result (self.new.files ≡ saved_files path.now self.old.files) }
-        ensures stale { IsFalse self.new.is_current }
+        // No stamp is left only where the last one was given.
+        ensures exhausted { result ≡ Err BoardFault.Exhausted → (let board = self.new.board in board.last) ≡ 18446744073709551615 }
+        ensures err { OnErr result ((self.new.board ≡ self.old.board) × ((q : List ℕ) → text_at q self.new.files ≡ text_at q self.old.files)) }
     {
-        self.is_current = false;
-        files::save(alloc, &mut self.files, path)
-    }
-
-    /// Closes the document that is open at a path, as [`files::close`] does.
-    pub fn close(&mut self, path: &str)
-        ensures files { self.new.files ≡ closed_files path.now self.old.files }
-        ensures stale { IsFalse self.new.is_current }
-    {
-        self.is_current = false;
-        files::close(&mut self.files, path);
-    }
-
-    /// Analyses the files where they aren't those that were analysed last. An `Err` comes only where memory was refused.
-    pub fn refresh(&mut self, alloc: Global) -> Result<(), AllocError>
-        ensures files { self.new.files ≡ self.old.files }
-        ensures current { OnOk result (IsTrue self.new.is_current) }
-    {
-        if self.is_current {
-            return Ok(());
-        }
-        let snapshot = snapshot_of(alloc, self.snapshot.take(), &self.files)?;
-        self.snapshot = Some(snapshot);
-        self.is_current = true;
+        files::make_room(self.alloc, &mut self.files, path)?;
+        tell(self.alloc, &mut self.board, path, Some(&document.text))?;
+        files::open(&mut self.files, path, uri, document);
+        self.known = known_after(self.known.take(), path, true);
         Ok(())
     }
 
-    /// The analysis of the files. Takes no memory.
-    pub fn snapshot(&self) -> &Snapshot
-        requires { IsTrue self.now.is_current }
-        ensures { result.now ≡ workspace self.now.files }
+    /// Makes these edits in the document that is open at a path, and gives it their version. Where none is open, nothing changes.
+    /// Refused as [`open`](Workspace::open) is.
+    pub fn change(&mut self, path: &str, edits: Edits) -> Result<(), BoardFault>
+        ensures files { OnOk result (self.new.files ≡ changed_files edits.version (map change_view edits.changes.items) path.now self.old.files) }
+        ensures board { OnOk result ((opening : ℕ) (events : List Event) → IsAfter opening self.old.board events → IsAfter opening self.new.board (events_at path.now self.old.files self.new.files ++ events)) }
+
+        // No stamp is left only where the last one was given.
+        ensures exhausted { result ≡ Err BoardFault.Exhausted → (let board = self.new.board in board.last) ≡ 18446744073709551615 }
+        ensures err { OnErr result (self.new ≡ self.old) }
     {
-        match &self.snapshot {
-            Some(snapshot) => snapshot,
+        let Some(document) = files::edited(self.alloc, &self.files, path, edits)? else {
+            return Ok(());
+        };
+        tell(self.alloc, &mut self.board, path, Some(&document.text))?;
+        files::set_document(&mut self.files, path, document);
+        self.known = known_after(self.known.take(), path, true);
+        Ok(())
+    }
+
+    /// Keeps the text of the document that is open at a path. Where none is open, nothing changes. An `Err` comes only where
+    /// memory was refused; nothing changes then.
+    pub fn save(&mut self, path: &str) -> Result<(), AllocError>
+        ensures files { OnOk result (self.new.files ≡ saved_files path.now self.old.files) }
+        ensures board { self.new.board ≡ self.old.board }
+        ensures err { OnErr result (self.new ≡ self.old) }
+    {
+        let Some(text) = files::open_text(self.alloc, &self.files, path)? else {
+            return Ok(());
+        };
+        files::keep(&mut self.files, path, text);
+        Ok(())
+    }
+
+    /// Closes the document that is open at a path. A file with no kept text leaves. Where none is open, nothing changes. Refused
+    /// as [`open`](Workspace::open) is.
+    pub fn close(&mut self, path: &str) -> Result<(), BoardFault>
+        ensures files { OnOk result (self.new.files ≡ closed_files path.now self.old.files) }
+        ensures board { OnOk result ((opening : ℕ) (events : List Event) → IsAfter opening self.old.board events → IsAfter opening self.new.board (events_at path.now self.old.files self.new.files ++ events)) }
+
+        // No stamp is left only where the last one was given.
+        ensures exhausted { result ≡ Err BoardFault.Exhausted → (let board = self.new.board in board.last) ≡ 18446744073709551615 }
+        ensures err { OnErr result (self.new ≡ self.old) }
+    {
+        if !files::is_open(&self.files, path) {
+            return Ok(());
+        }
+        let kept = files::kept_at(&self.files, path);
+        let stays = kept.is_some();
+        tell(self.alloc, &mut self.board, path, kept)?;
+        files::close(&mut self.files, path);
+        self.known = known_after(self.known.take(), path, stays);
+        Ok(())
+    }
+
+    // ---- work
+
+    /// Gives a job for the first path whose text is wanted, in path order; none only where none is wanted. Where memory is refused
+    /// nothing changes.
+    pub fn next_job(&mut self) -> Result<Option<Job>, AllocError>
+        ensures files { self.new.files ≡ self.old.files }
+        ensures board { OnOk result ((opening : ℕ) (events : List Event) → IsAfter opening self.old.board events → IsAfter opening self.new.board (NextJob ∷ events)) }
+        ensures first { IfOk result (λ job. (opening : ℕ) (events : List Event) → IsAfter opening self.old.board events → IsFirstWanted opening events (option_map (λ j. j.path) job)) }
+
+        // The job has the path's current stamp and text.
+        ensures text { IfOk result (λ job. (opening : ℕ) (events : List Event) → IsAfter opening self.old.board events → IfSome job (λ j. option_map (current_text j.path) (stands_at opening events j.path) ≡ Some j)) }
+        ensures err { OnErr result (self.new ≡ self.old) }
+    {
+        self.board.next_job()
+    }
+
+    /// Brings the work on a text, whether or not its job was given. The verdict says whether it was taken.
+    pub fn offer(&mut self, piece: Piece<FileWork>) -> Verdict
+        ensures files { self.new.files ≡ self.old.files }
+        ensures board { (opening : ℕ) (events : List Event) → IsAfter opening self.old.board events → IsAfter opening self.new.board (Offer piece.path piece.stamp piece.text ∷ events) }
+        ensures verdict { (opening : ℕ) (events : List Event) → IsAfter opening self.old.board events → result ≡ verdict_on piece.stamp piece.text (stands_at opening events piece.path) }
+    {
+        self.board.offer(piece)
+    }
+
+    /// Brings the failure of a job, whether or not the job was given. The verdict says whether it was taken.
+    pub fn fail(&mut self, path: &str, stamp: u64) -> Verdict
+        ensures files { self.new.files ≡ self.old.files }
+        ensures board { (opening : ℕ) (events : List Event) → IsAfter opening self.old.board events → IsAfter opening self.new.board (Fail path.now stamp ∷ events) }
+        ensures verdict { (opening : ℕ) (events : List Event) → IsAfter opening self.old.board events → result ≡ failure_on stamp (stands_at opening events path.now) }
+    {
+        self.board.fail(path, stamp)
+    }
+
+    /// Whether the work on each text is there.
+    pub fn is_complete(&self) -> bool
+        ensures full { IsTrue result ↔ IsFull self.now.board }
+        ensures complete { (opening : ℕ) (events : List Event) → IsAfter opening self.now.board events → (IsTrue result ↔ IsComplete opening events) }
+    {
+        self.board.is_complete()
+    }
+
+    /// The last stamp that was given; before the first one, the stamp that the board counts from.
+    pub fn last_stamp(&self) -> u64
+        ensures { result ≡ (let board = self.now.board in board.last) }
+    {
+        self.board.last_stamp()
+    }
+
+    // ---- the analysis
+
+    // Whether the analysis that is known is that of the files as they are.
+    fn is_current(&self) -> bool
+        ensures { result ≡ self.now.is_current }
+    {
+        match &self.known {
+            Some(known) => known.changed.is_none(),
+            None => false,
+        }
+    }
+
+    /// Analyses the files, unless their analysis is known. The board has to be complete. An `Err` comes only where memory was
+    /// refused.
+    pub fn refresh(&mut self) -> Result<(), AllocError>
+        requires { IsFull self.old.board }
+        ensures files { self.new.files ≡ self.old.files }
+        ensures board { self.new.board ≡ self.old.board }
+        ensures current { OnOk result (IsTrue self.new.is_current) }
+    {
+        if self.is_current() {
+            return Ok(());
+        }
+        let lent = self.board.lend_all()?;
+        let analysis = analyse(self.alloc, self.known.take(), lent.pieces());
+        self.board.take_back(lent);
+        self.known = Some(Known {
+            analysis: analysis?,
+            changed: None,
+        });
+        Ok(())
+    }
+
+    /// The files with their analysis. Takes no memory.
+    pub fn snapshot(&self) -> Snapshot<'_>
+        requires { IsTrue self.now.is_current }
+        ensures { result ≡ workspace self.now.files }
+    {
+        match &self.known {
+            Some(known) => Snapshot::of(&self.files, &known.analysis),
             None => unreachable!(),
         }
     }

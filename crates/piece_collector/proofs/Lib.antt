@@ -4,8 +4,10 @@ mod Index
 mod Lends
 mod Listed
 mod Next
+mod Passed
 mod Same
 mod Search
 mod Standing
+mod Texts
 mod IsAfter
 mod Writes

@@ -1,5 +1,5 @@
 -- How contracts see a job, a piece, a slot and a board.
-use Rattle.std.specs.Prelude.{◌≡◌, ℕ, Bool, false, cond, not, ◌&&◌, List, Option, Some, None, is_some, IfSome, IsTrue, bytes_eq, map, string_bytes, String}
+use Rattle.std.specs.Prelude.{◌≡◌, ℕ, Bool, false, cond, not, ◌&&◌, List, Option, Some, None, option_map, is_some, IfSome, IsTrue, bytes_eq, map, string_bytes, String}
 use Rattle.std.specs.Bool.{nat_lt}
 use Rattle.piece_collector.specs.declared.verdict.Verdict.{Verdict}
 use Rattle.piece_collector.specs.declared.verdict.Verdict.TheVariants.{Taken, Stale, Foreign, Doubled}
@@ -8,6 +8,7 @@ use Rattle.std.specs.BTreeSet.{BTreeSet, contains_text}
 use Rattle.std.specs.BTreeMap.{BTreeMap, get_by_text, IsOrdered}
 use Rattle.std.specs.String.{string_cmp}
 use Rattle.std.specs.Map.{lookup}
+use Rattle.piece_collector.specs.History.{is_before}
 
 -- a text at a path, with its stamp: what a job asks for, and what a piece was made of
 pub record TextAt : Type 0 where
@@ -48,6 +49,10 @@ seen last slots is_lent = record { last = last; slots = map (shown is_lent) slot
 abbrev pub slot_of : List ℕ → BoardView → Option SlotView
 slot_of p b = lookup (λ q. bytes_eq p q) b.slots
 
+-- the text of p, if p is known
+abbrev pub known_text : List ℕ → BoardView → Option (List ℕ)
+known_text p b = option_map (λ s. s.text) (slot_of p b)
+
 -- the path is known and has no piece
 abbrev pub is_unheld : Option SlotView → Bool
 is_unheld None = false
@@ -66,9 +71,18 @@ IsIndexed slots unheld is_lent = is_lent ≡ false → (p : List ℕ) → IsTrue
 abbrev pub AreCurrent : BTreeMap (String Global) SlotView → Bool → Type 0
 AreCurrent slots is_lent = is_lent ≡ false → (p : List ℕ) → IfSome (get_by_text slots p) (λ s. IfSome s.piece (λ piece. piece ≡ text_in p s))
 
+-- no path before this one is wanted
+abbrev pub IsNoneWantedBefore : List ℕ → BTreeMap (String Global) SlotView → Type 0
+IsNoneWantedBefore p slots = (q : List ℕ) → IsTrue (is_before q p) → is_wanting (get_by_text slots q) ≡ false
+
+-- unless the pieces are lent, no path before this one is wanted
+abbrev pub IsPassed : BTreeMap (String Global) SlotView → String Global → Bool → Type 0
+IsPassed slots from is_lent = is_lent ≡ false → IsNoneWantedBefore (string_bytes from) slots
+
 -- what is true of the fields of every board
-pub record IsKept (slots : BTreeMap (String Global) SlotView) (unheld : BTreeSet (String Global)) (is_lent : Bool) : Type 0 where
+pub record IsKept (slots : BTreeMap (String Global) SlotView) (unheld : BTreeSet (String Global)) (from : String Global) (is_lent : Bool) : Type 0 where
   pub indexed : IsIndexed slots unheld is_lent
+  pub passed : IsPassed slots from is_lent
   pub current : AreCurrent slots is_lent
   pub ordered : IsOrdered string_cmp slots
 

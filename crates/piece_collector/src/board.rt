@@ -1,9 +1,10 @@
 // The texts of the known paths, each with its stamp, and the pieces that were made of them.
-ghost use Rattle.std.specs.Prelude.{◌≡◌, ℕ, ◌+◌, ◌↔◌, List, [], ◌∷◌, Bool, true, false, IfOk, OnOk, OnErr, Err, Some, None, option_map, string_bytes, is_some, IsTrue, IfSome};
+ghost use Rattle.std.specs.Prelude.{◌≡◌, ℕ, ◌+◌, ◌↔◌, List, [], ◌∷◌, Bool, true, false, IfOk, OnOk, OnErr, Err, Some, None, option_map, string_bytes, is_some, IsTrue, IfSome, bytes_eq};
 ghost use Rattle.piece_collector.specs.Events.{Event, SetText, Remove, NextJob, Offer, Fail};
 ghost use Rattle.piece_collector.specs.History.{verdict_on, failure_on, stands_at, first_wanted, history};
 ghost use Rattle.piece_collector.specs.Board.{IsAfter, IsFirstWanted, IsComplete, IsFull, IsTextsOf, IsTextsIn, current_text};
-ghost use Rattle.piece_collector.specs.Views.{slot_of};
+ghost use Rattle.std.specs.Map.{update};
+ghost use Rattle.piece_collector.specs.Views.{slot_of, known_text};
 ghost use Rattle.piece_collector.specs.declared.fault.BoardFault.TheVariants.{Exhausted};
 
 use crate::fault::BoardFault;
@@ -27,13 +28,16 @@ use std::marker::Model;
 /// Contracts speak of what was done to a board as a list of events, the latest first. A board that stands for a list
 /// stands after each call for that list and the call's event, unless the call was refused.
 ///
-/// Each path that has no piece is among `unheld`, so that the search for the next job passes over no held path.
+/// Each path that has no piece is among `unheld`, so that the search for the next job passes over no held path. No path
+/// before `from` is wanted, so that the search begins there: it passes again over the paths that are out only after a
+/// failed job, or a new text of a path before `from`.
 #[derive(Drop)]
 pub struct Board<W: Work> {
     alloc: Global,
     last: u64,
     slots: BTreeMap<String, Slot<W>>,
     unheld: BTreeSet<String>,
+    from: String,
     is_lent: bool,
 }
 
@@ -44,7 +48,7 @@ impl<W: Work> Model for Board<W> {
 
     ghost view = { λ b. seen b.last b.slots b.is_lent };
 
-    ghost invariant = { λ b. IsKept b.slots b.unheld b.is_lent };
+    ghost invariant = { λ b. IsKept b.slots b.unheld b.from b.is_lent };
 }
 
 impl<W: Work> Board<W> {
@@ -52,6 +56,7 @@ impl<W: Work> Board<W> {
     /// memory yet.
     pub fn new(alloc: Global, work: W) -> Board<W>
         ensures is_after { IsAfter 0 result [] }
+        ensures texts { (q : List ℕ) → known_text q result ≡ None }
         ensures here { result.is_lent ≡ false }
     {
         Board::counting_from(alloc, work, 0)
@@ -61,6 +66,7 @@ impl<W: Work> Board<W> {
     /// allocator, and takes no memory yet.
     pub fn counting_from(alloc: Global, _work: W, stamp: u64) -> Board<W>
         ensures is_after { IsAfter stamp result [] }
+        ensures texts { (q : List ℕ) → known_text q result ≡ None }
         ensures here { result.is_lent ≡ false }
     {
         Board {
@@ -68,6 +74,7 @@ impl<W: Work> Board<W> {
             last: stamp,
             slots: BTreeMap::new(alloc),
             unheld: BTreeSet::new(alloc),
+            from: String::new(alloc),
             is_lent: false,
         }
     }
@@ -79,6 +86,7 @@ impl<W: Work> Board<W> {
     pub fn set_text(&mut self, path: String, text: String) -> Result<u64, BoardFault>
         requires { self.old.is_lent ≡ false }
         ensures is_after { OnOk result ((opening : ℕ) (events : List Event) → IsAfter opening self.old events → IsAfter opening self.new (SetText (string_bytes path) (string_bytes text) ∷ events)) }
+        ensures texts { OnOk result ((q : List ℕ) → known_text q self.new ≡ update bytes_eq (λ p. known_text p self.old) (string_bytes path) (Some (string_bytes text)) q) }
         ensures stamp { IfOk result (λ stamp. (stamp ≡ self.old.last + 1) × (stamp ≡ self.new.last)) }
         ensures here { self.new.is_lent ≡ false }
 
@@ -91,6 +99,7 @@ impl<W: Work> Board<W> {
         }
         let stamp = self.last + 1;
         self.unheld.insert(path.clone()?)?;
+        slots::look_back(&mut self.from, path.as_str());
         self.slots.insert(path, Slot::new(text, stamp))?;
         self.last = stamp;
         Ok(stamp)
@@ -100,6 +109,7 @@ impl<W: Work> Board<W> {
     pub fn remove(&mut self, path: &str) -> bool
         requires { self.old.is_lent ≡ false }
         ensures is_after { (opening : ℕ) (events : List Event) → IsAfter opening self.old events → IsAfter opening self.new (Remove path.now ∷ events) }
+        ensures texts { (q : List ℕ) → known_text q self.new ≡ update bytes_eq (λ p. known_text p self.old) path.now None q }
         ensures known { result ≡ is_some (slot_of path.now self.old) }
         ensures here { self.new.is_lent ≡ false }
     {
@@ -116,12 +126,17 @@ impl<W: Work> Board<W> {
 
         // The job has the path's current stamp and text.
         ensures text { IfOk result (λ job. (opening : ℕ) (events : List Event) → IsAfter opening self.old events → IfSome job (λ j. option_map (current_text j.path) (stands_at opening events j.path) ≡ Some j)) }
+        ensures texts { (q : List ℕ) → known_text q self.new ≡ known_text q self.old }
         ensures here { self.new.is_lent ≡ false }
         ensures err { OnErr result (self.new ≡ self.old) }
     {
-        let Some(job) = slots::first_job(&self.slots, &self.unheld)? else {
+        let Some(job) = slots::first_job(&self.slots, &self.unheld, &self.from)? else {
+            if let Some(last) = self.unheld.last() {
+                self.from = last.clone()?;
+            }
             return Ok(None);
         };
+        self.from = String::from_str(self.alloc, job.path())?;
         slots::set_out(&mut self.slots, job.path(), true);
         Ok(Some(job))
     }
@@ -132,6 +147,7 @@ impl<W: Work> Board<W> {
     pub fn offer(&mut self, piece: Piece<W>) -> Verdict
         requires { self.old.is_lent ≡ false }
         ensures is_after { (opening : ℕ) (events : List Event) → IsAfter opening self.old events → IsAfter opening self.new (Offer piece.path piece.stamp piece.text ∷ events) }
+        ensures texts { (q : List ℕ) → known_text q self.new ≡ known_text q self.old }
         ensures verdict { (opening : ℕ) (events : List Event) → IsAfter opening self.old events → result ≡ verdict_on piece.stamp piece.text (stands_at opening events piece.path) }
         ensures here { self.new.is_lent ≡ false }
     {
@@ -149,6 +165,7 @@ impl<W: Work> Board<W> {
     pub fn fail(&mut self, path: &str, stamp: u64) -> Verdict
         requires { self.old.is_lent ≡ false }
         ensures is_after { (opening : ℕ) (events : List Event) → IsAfter opening self.old events → IsAfter opening self.new (Fail path.now stamp ∷ events) }
+        ensures texts { (q : List ℕ) → known_text q self.new ≡ known_text q self.old }
         ensures verdict { (opening : ℕ) (events : List Event) → IsAfter opening self.old events → result ≡ failure_on stamp (stands_at opening events path.now) }
         ensures here { self.new.is_lent ≡ false }
     {
@@ -156,6 +173,7 @@ impl<W: Work> Board<W> {
         if verdict != Verdict::Taken {
             return verdict;
         }
+        self.from.clear();
         slots::set_out(&mut self.slots, path, false);
         verdict
     }
@@ -167,6 +185,13 @@ impl<W: Work> Board<W> {
         ensures complete { (opening : ℕ) (events : List Event) → IsAfter opening self.now events → (IsTrue result ↔ IsComplete opening events) }
     {
         slots::are_held(&self.slots, &self.unheld)
+    }
+
+    /// The last stamp that was given; before the first one that which the board counts from.
+    pub fn last_stamp(&self) -> u64
+        ensures { result ≡ self.now.last }
+    {
+        self.last
     }
 
     /// Whether the pieces are lent.

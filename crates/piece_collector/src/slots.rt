@@ -1,12 +1,13 @@
 // The slots of the known paths, and what is done to one of them.
-ghost use Rattle.std.specs.Prelude.{◌≡◌, ℕ, List, Some, None, true, false, string_bytes, option_map, IfOk, IfSome, OnOk, map, vec_len, vec_capacity, ◌+◌, ◌≤◌, ◌<◌, ◌++◌, option_to_list, is_none, option_copied};
+ghost use Rattle.std.specs.Prelude.{◌≡◌, ℕ, List, Some, None, true, false, string_bytes, option_map, IfOk, IfSome, OnOk, map, vec_len, vec_capacity, ◌+◌, ◌≤◌, ◌<◌, ◌++◌, option_to_list, is_none, option_copied, IsTrue};
 ghost use Rattle.std.specs.BTreeMap.{get_by_text, keys};
 ghost use Rattle.std.specs.BTreeMap.{IsOrdered as IsOrderedMap};
 ghost use Rattle.std.specs.BTreeSet.{IsOrdered};
 ghost use Rattle.piece_collector.specs.Lending.{TakesAll, emptied, piece_in, put_back};
 ghost use Rattle.std.specs.String.{string_cmp};
 ghost use Rattle.std.specs.List.{find};
-ghost use Rattle.piece_collector.specs.Views.{SlotView, done_at, is_wanting, is_unheld, failure_at, verdict_at};
+ghost use Rattle.piece_collector.specs.Views.{SlotView, done_at, is_wanting, is_unheld, failure_at, verdict_at, IsNoneWantedBefore};
+ghost use Rattle.piece_collector.specs.History.{is_before};
 
 use crate::job::Job;
 use crate::piece::{Piece, Work};
@@ -87,15 +88,17 @@ fn is_missing<W: Work>(slots: &BTreeMap<String, Slot<W>>, path: &str) -> bool
     }
 }
 
-/// The first wanted path among these.
+/// The first wanted path among these, where none before `from` is wanted.
 fn first_wanted<'a, W: Work>(
     slots: &BTreeMap<String, Slot<W>>,
     paths: &'a BTreeSet<String>,
+    from: &String,
 ) -> Option<&'a String>
+    requires { IsNoneWantedBefore (string_bytes from.now) slots.now }
     ensures first { option_copied result ≡ find (λ k. is_wanting (get_by_text slots.now (string_bytes k))) paths.now.keys }
     ensures ordered { IsOrdered string_cmp paths.now }
 {
-    for path in paths {
+    for path in paths.range(from..) {
         if is_wanted(slots, path.as_str()) {
             return Some(path);
         }
@@ -128,20 +131,32 @@ fn job_of<W: Work>(
     Ok(Some(Job::new(path.clone()?, slot.stamp(), slot.text().clone()?)))
 }
 
-/// The job of the first wanted path among these.
+/// The job of the first wanted path among these, where none before `from` is wanted.
 pub fn first_job<W: Work>(
     slots: &BTreeMap<String, Slot<W>>,
     paths: &BTreeSet<String>,
+    from: &String,
 ) -> Result<Option<Job>, AllocError>
+    requires { IsNoneWantedBefore (string_bytes from.now) slots.now }
     ensures first { IfOk result (λ job. option_map (λ j. j.path) job ≡ option_map string_bytes (find (λ k. is_wanting (get_by_text slots.now (string_bytes k))) paths.now.keys)) }
     ensures text { IfOk result (λ job. IfSome job (λ j. option_map (λ s. record { path = j.path; stamp = s.stamp; text = s.text }) (get_by_text slots.now j.path) ≡ Some j)) }
     ensures ordered { IsOrdered string_cmp paths.now }
 {
-    let Some(path) = first_wanted(slots, paths) else {
+    let Some(path) = first_wanted(slots, paths, from) else {
         return Ok(None);
     };
     let job = job_of(slots, path)?;
     Ok(job)
+}
+
+/// The path is wanted now: where it comes before `from`, the search begins at the first path again.
+pub fn look_back(from: &mut String, path: &str)
+    ensures earlier { (q : List ℕ) → IsTrue (is_before q (string_bytes from.new)) → IsTrue (is_before q (string_bytes from.old)) }
+    ensures path { is_before path.now (string_bytes from.new) ≡ false }
+{
+    if path < from.as_str() {
+        from.clear();
+    }
 }
 
 /// The known paths, in order.

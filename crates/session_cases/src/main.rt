@@ -3,6 +3,7 @@
 #![tactic(auto)]
 
 mod configs;
+mod cores;
 mod devices;
 mod frames;
 mod sessions;
@@ -27,7 +28,11 @@ fn answer<R: Wait>(
         "serve" => streams::serve_stream(rt, names.alloc(), line, fields),
         "check" => streams::check_files(names.alloc(), line, fields),
         "config" => configs::answer(names.alloc(), line, fields),
-        "session" | "core" | "codes" => sessions::answer(names, line, call, fields),
+        "session" => sessions::answer(names, line, fields),
+        "codes" => sessions::answer_codes(line),
+        "run" => cores::answer_run(names, line, fields),
+        "core" => cores::answer_core(names, line, fields),
+        "core from" => cores::answer_counting(names, line, fields),
         _ => frames::answer(names, line, call, fields),
     }
 }

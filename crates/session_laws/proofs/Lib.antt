@@ -1,2 +1,4 @@
+mod BoardTexts
 pub mod Documents
 pub mod Groups
+mod WorkedMessages

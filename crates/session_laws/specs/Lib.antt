@@ -1,1 +1,2 @@
+pub mod CoreLaws
 pub mod DocumentLaws

@@ -8,10 +8,12 @@
 mod again;
 mod analyse;
 mod analysis;
+mod done;
 mod file_work;
 mod table_of;
 
 pub use again::analyse_again;
 pub use analyse::analyse_here;
 pub use analysis::Analysis;
+pub use done::Done;
 pub use file_work::{FileOut, FileWork};

@@ -9,14 +9,14 @@ pub loop-number-preserved : goal.loop-number-preserved
 loop-number-preserved g c =
     let written = g.K.ByteSink.written in
     let at = c.loop-number in
-    let a = analysis c.args.snapshot.now in
+    let a = analysis c.args.checked.now in
     let piece = c.index-pieces-number.result in
     let lines = lines_of c.path.result.now c.text.result.now c.diagnostics.result.now in
     let of : lines ≡ numbered_lines a (at.number, (piece.path, piece.text)) = rw (c.path.ensures, c.text.ensures, c.diagnostics.ensures) refl in
     record {
       none_fell = NoneFell-trans at.invariant.none_fell c.send_lines.ensures.counts;
       no_error = c.in_ok-send_lines.ensures.calm ∙ at.invariant.no_error;
-      sent = sent-more a c.args.pieces.now at.number piece (written c.args.writer.now) (written at.writer) (written c.send_lines.new.writer) (listing c.args.snapshot.now) lines
+      sent = sent-more a c.args.pieces.now at.number piece (written c.args.writer.now) (written at.writer) (written c.send_lines.new.writer) (listing c.args.checked.now) lines
           c.loop-number-test.true c.index-pieces-number.is of at.invariant.sent c.in_ok-send_lines.ensures.ok;
     }
 
@@ -24,10 +24,10 @@ pub returns-in_err-send_lines-clause-err : goal.returns-in_err-send_lines-clause
 returns-in_err-send_lines-clause-err g c =
     let written = g.K.ByteSink.written in
     let at = c.loop-number in
-    let a = analysis c.args.snapshot.now in
+    let a = analysis c.args.checked.now in
     let piece = c.index-pieces-number.result in
     let lines = lines_of c.path.result.now c.text.result.now c.diagnostics.result.now in
     let of : lines ≡ numbered_lines a (at.number, (piece.path, piece.text)) = rw (c.path.ensures, c.text.ensures, c.diagnostics.ensures) refl in
     on_err c.from_residual.result
-    (sent-part a c.args.pieces.now at.number piece (written c.args.writer.now) (written at.writer) (written c.send_lines.new.writer) (listing c.args.snapshot.now) lines
+    (sent-part a c.args.pieces.now at.number piece (written c.args.writer.now) (written at.writer) (written c.send_lines.new.writer) (listing c.args.checked.now) lines
     c.loop-number-test.true c.index-pieces-number.is of at.invariant.sent c.in_err-send_lines.ensures.err)

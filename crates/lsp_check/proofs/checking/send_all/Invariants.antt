@@ -14,5 +14,5 @@ invariant-loop-number g l =
     record {
       none_fell : NoneFell (counts l.initial.writer) (counts l.writer);
       no_error : NoError (counts l.initial.writer) (counts l.writer);
-      sent : Sent (written l.initial.writer) (written l.writer) (listing l.snapshot) (left_from (analysis l.snapshot) l.number l.pieces);
+      sent : Sent (written l.initial.writer) (written l.writer) (listing l.checked) (left_from (analysis l.checked) l.number l.pieces);
     }

@@ -1,4 +1,4 @@
-use Rattle.std.proofs.Common.{◌≡◌, ◌==◌, Some, get_or, ap, sym, ◌∙◌}
+use Rattle.std.proofs.Common.{◌==◌, Some, get_or, ap, sym, ◌∙◌}
 use Rattle.std.specs.Prelude.{if◌then◌else◌}
 use Rattle.lsp_session.proofs.AnswersLemmas.{last_dot-more, dot-within}
 use Rattle.lsp_session.proofs.answers.last_dot.Goals as goal

@@ -1,14 +1,11 @@
-use Rattle.std.proofs.Common.{append-nil}
+use Rattle.std.specs.Option.{option_to_list}
+use Rattle.lsp_session.specs.Run.{incoming_of}
 use Rattle.lsp_session.specs.View.{core_state}
-use Rattle.lsp_session.proofs.CoreLemmas.{advanced, replied-more}
+use Rattle.lsp_session.proofs.RunLemmas.{followed}
 use Rattle.lsp_session.proofs.run.handle.Goals as goal
 
-pub returns-in_ok-replies-in-Message : goal.returns-in_ok-replies-in-Message
-returns-in_ok-replies-in-Message c = λ config bodies knows.
-    let more = rw c.as_slice.ensures.value at (c.in_ok-replies-in-Message.ensures config bodies knows) in
-    rw c.in-Message.is (more.0, replied-more config bodies c.in-Message.body.items c.in_ok-replies-in-Message.replies.items more.1)
-
-pub returns-in_ok-replies-in-Work : goal.returns-in_ok-replies-in-Work
-returns-in_ok-replies-in-Work c = λ config bodies knows.
-    let more = advanced config (core_state c.args.core.now) (core_state c.advance.new.self) bodies c.in_ok-replies-in-Work.replies.items knows (c.in_ok-replies-in-Work.ensures.advances config) in
-    rw (c.in-Work.is, append-nil bodies) (more.knows, more.replied)
+pub returns : goal.returns
+returns c = λ opening config h before.
+    followed opening config (core_state c.args.core.now) (core_state c.take.new.core) (core_state c.advance.new.self) (incoming_of c.args.event) h c.args.replies.now.items c.in_ok-later.later.items c.append.new.replies.items
+    c.args.verdicts.now.items (option_to_list c.in_ok-verdict.verdict) c.push_verdict.new.verdicts.items before (c.in_ok-verdict.ensures.comes opening config h before) (c.in_ok-later.ensures.advances opening config)
+    (c.in_ok-verdict.ensures.verdict opening config h before) c.in_ok-push_verdict.ensures c.in_ok-append.ensures

@@ -1,28 +1,46 @@
-use Rattle.std.proofs.Common.{refl, sym, ap, ◌∙◌, ◌++◌, arith, take, [], ◌∷◌, length-append}
-use Rattle.lsp_session.specs.Run.{bodies_of}
+use Rattle.std.proofs.Common.{rules, ◌≡◌, ◌-◌, ◌++◌, ◌∷◌, [], length, filter, map, sym, ap, subst, ◌∙◌, arith, append_assoc, append-nil}
+use Rattle.std.proofs.lemmas.List.{map-append, nil_from_length}
+use Rattle.std.specs.Vec.Iter.{into_iter_items}
+use Rattle.lsp_session.specs.Core.{processed}
+use Rattle.lsp_session.specs.Run.{incoming_of, is_message, HasRun}
 use Rattle.lsp_session.specs.View.{core_state}
-use Rattle.lsp_session.proofs.CoreLemmas.{session-none, knows-none}
-use Rattle.lsp_session.proofs.RunLemmas.{bodies_of-more}
+use Rattle.lsp_session.proofs.RunLemmas.{HasRunTo, run_none, run_more, run_counted, has_run}
 use Rattle.lsp_session.proofs.run.run_core.Goals as goal
 
 pub loop-event-init : goal.loop-event-init
 loop-event-init c = record {
-  knows = knows-none c.args.config (core_state c.in_ok-core.core) c.in_ok-core.ensures.is_after;
-  replied = c.new-replies.ensures.items ∙ sym (ap (λ r. r.replies) (session-none c.args.config));
-  counted = refl;
-  within = omega arith;
+  parts = search rules;
+  run = run_none c.args.config (core_state c.in_ok-core.core) c.new-replies.result.items c.new-verdicts.result.items c.in_ok-core.ensures.is_after c.new-replies.ensures.items c.new-verdicts.ensures.items;
 }
 
 pub loop-event-preserved : goal.loop-event-preserved
 loop-event-preserved c =
     let at = c.loop-event in
-    let before = bodies_of (take at.event-index c.args.events.items) in
-    let new = bodies_of (c.event-item.result ∷ []) in
-    let all = bodies_of-more c.args.events.items at.event-index c.event-item.result (rw c.deref-event-items.ensures.value at c.loop-event-test.true) (rw c.deref-event-items.ensures.value at c.event-item.is) in
-    let more = c.in_ok-new_replies.ensures c.args.config before at.invariant.knows in
-    rw all (record {
-      knows = more.0;
-      replied = c.in_ok-append.ensures ∙ ap (λ l. l ++ c.in_ok-new_replies.new_replies.items) at.invariant.replied ∙ sym more.1;
-      counted = omega (arith, at.invariant.counted, c.message_count-processed.ensures.count, length-append before new);
-      within = omega (arith, at.invariant.within, c.message_count-processed.ensures.few);
-    })
+    let next : into_iter_items at.event-iterator ≡ c.in-Some.event ∷ into_iter_items c.next.new.self = search rules in
+    record {
+      parts = append_assoc at.yielded (c.in-Some.event ∷ []) (into_iter_items c.next.new.self) ∙ ap (λ l. at.yielded ++ l) (sym next) ∙ at.invariant.parts;
+      run = subst (λ es. HasRunTo c.args.config (core_state c.handle.new.core) es c.handle.new.replies.items c.handle.new.verdicts.items) (sym (map-append incoming_of at.yielded (c.in-Some.event ∷ [])))
+          (run_more c.args.config (core_state at.core) (core_state c.handle.new.core) (map incoming_of at.yielded) (incoming_of c.in-Some.event) at.replies.items c.handle.new.replies.items at.verdicts.items c.handle.new.verdicts.items at.invariant.run
+          (λ h before. c.in_ok-handle.ensures 0 c.args.config h before));
+    }
+
+pub overflow_sub-processed : goal.overflow_sub-processed
+overflow_sub-processed c =
+    let at = c.loop-event in
+    let none : into_iter_items at.event-iterator ≡ [] = nil_from_length (into_iter_items at.event-iterator) (sym at.event-iterator.rest.ok.0 ∙ c.in-None.ensures.steps.0) in
+    let all : at.yielded ≡ c.args.events.items = sym (append-nil at.yielded) ∙ ap (λ l. at.yielded ++ l) (sym none) ∙ at.invariant.parts in
+    let counted = run_counted c.args.config (core_state at.core) (map incoming_of at.yielded) at.replies.items at.verdicts.items at.invariant.run in
+    let arrived : c.count_messages-arrived.result ≡ length (filter is_message (map incoming_of at.yielded)) = c.count_messages-arrived.ensures ∙ ap (λ es. length (filter is_message (map incoming_of es))) (c.as_slice.ensures.value ∙ sym all) in
+    omega (arith, counted, arrived, c.queued.ensures)
+
+pub returns : goal.returns
+returns c =
+    let at = c.loop-event in
+    let none : into_iter_items at.event-iterator ≡ [] = nil_from_length (into_iter_items at.event-iterator) (sym at.event-iterator.rest.ok.0 ∙ c.in-None.ensures.steps.0) in
+    let all : at.yielded ≡ c.args.events.items = sym (append-nil at.yielded) ∙ ap (λ l. at.yielded ++ l) (sym none) ∙ at.invariant.parts in
+    let run = at.invariant.run in
+    let counted = run_counted c.args.config (core_state at.core) (map incoming_of at.yielded) at.replies.items at.verdicts.items run in
+    let arrived : c.count_messages-arrived.result ≡ length (filter is_message (map incoming_of at.yielded)) = c.count_messages-arrived.ensures ∙ ap (λ es. length (filter is_message (map incoming_of es))) (c.as_slice.ensures.value ∙ sym all) in
+    let count : c.count_messages-arrived.result - c.queued.result ≡ processed run.history = omega (arith, counted, arrived, c.queued.ensures) in
+    subst (λ es. HasRun c.args.config (map incoming_of es) at.replies.items at.verdicts.items (c.count_messages-arrived.result - c.queued.result)) all
+    (has_run c.args.config (core_state at.core) (map incoming_of at.yielded) at.replies.items at.verdicts.items (c.count_messages-arrived.result - c.queued.result) run count)

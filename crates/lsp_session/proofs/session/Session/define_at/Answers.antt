@@ -16,6 +16,6 @@ pub returns-clause-reply : goal.returns-clause-reply
 returns-clause-reply c =
     let text : List ℕ → Files → Workspace → List ℕ = λ root files texts. compact_text (result_reply (id_view c.args.id.now) (locations_or_null (definition_at root files texts (place_view c.args.at.now)))) in
     let body : c.in_ok-body.body.items ≡ text (root_text c.known.result.root.now) (files_view c.known.result.files.now.entries) c.known.result.snapshot.now = c.in_ok-body.ensures in
-    let known = of-same text c.known.ensures.root c.known.ensures.files c.known.ensures.snapshot in
+    let known = of-same text c.known.ensures.root c.known.ensures.files (c.known.ensures.snapshot ∙ c.snapshot-snapshot.ensures) in
     let fresh = ap (λ files. text (root_text c.args.self.now.root) files (workspace files)) c.refresh.ensures.files in
     ap (λ b. b ∷ []) (c.new.ensures ∙ body ∙ known ∙ fresh)

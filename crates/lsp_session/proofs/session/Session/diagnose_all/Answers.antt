@@ -3,7 +3,6 @@ use Rattle.serde_json.specs.Written.{compact_text}
 use Rattle.lsp_rpc.specs.Message.{id_view}
 use Rattle.lsp_rpc.specs.Reply.{result_reply}
 use Rattle.lsp_rpc.specs.Workspace.{DocumentData, document_view, workspace_value}
-use Rattle.lsp_workspace.specs.Files.{Files}
 use Rattle.workspace_uri.specs.View.{root_text}
 use Rattle.lsp_session.specs.Reports.{workspace_reports}
 use Rattle.lsp_session.proofs.session.Session.diagnose_all.Goals as goal

@@ -1,5 +1,4 @@
-use Rattle.std.proofs.Common.{◌≡◌, ℕ, List, [], ◌∷◌, Some, map, ap, ◌∙◌}
-use Rattle.std.specs.Prelude.{option_map}
+use Rattle.std.proofs.Common.{ℕ, List, [], ◌∷◌, map, ap, ◌∙◌}
 use Rattle.std.specs.Option.{option_to_list}
 use Rattle.serde_json.specs.Written.{compact_text}
 use Rattle.lsp_rpc.specs.Message.{id_view}
@@ -20,6 +19,6 @@ returns-clause-reply c =
     let k = c.known.result in
     let edits = edits_at (root_text k.root.now) (files_view k.files.now.entries) k.snapshot.now (place_view c.args.at.now) new_name in
     let body = one_reply compact_text c.in_ok-body.body.items (rename_reply id new_name edits) c.in_ok-body.ensures in
-    let known = of-same text c.known.ensures.root c.known.ensures.files c.known.ensures.snapshot in
+    let known = of-same text c.known.ensures.root c.known.ensures.files (c.known.ensures.snapshot ∙ c.snapshot-snapshot.ensures) in
     let fresh = ap (λ files. text (root_text c.args.self.now.root) files (workspace files)) c.refresh.ensures.files in
     ap (λ b. b ∷ []) c.new.ensures ∙ body ∙ known ∙ fresh

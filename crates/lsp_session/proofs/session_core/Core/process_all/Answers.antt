@@ -1,8 +1,22 @@
+use Rattle.std.proofs.Common.{◌∙◌, ◌++◌, replicate}
+use Rattle.std.specs.Option.{option_to_list}
+use Rattle.lsp_session.specs.Core.{Process}
 use Rattle.lsp_session.specs.View.{core_state}
-use Rattle.lsp_session.proofs.CoreLemmas.{advances}
+use Rattle.lsp_session.proofs.CoreLemmas.{processes-more}
 use Rattle.lsp_session.proofs.session_core.Core.process_all.Goals as goal
 
+pub messages-preserved : goal.messages-preserved
+messages-preserved c = record {
+  fault = c.process.ensures.fault ∙ c.messages.invariant.fault;
+  processes = λ opening config h before.
+      let p = c.messages.invariant.processes opening config h before in
+      let now = replicate p.count Process ++ h in
+      let may = c.in_ok-is_ready.ensures.legal c.if-branch.true opening config now p.is_after in
+      processes-more opening config (core_state c.messages.self) (core_state c.process.new.self) h c.messages.replies.items (option_to_list c.in_ok-reply.reply) c.push_reply.new.replies.items p (c.in_ok-reply.ensures.processes opening config now p.is_after may)
+      (c.in_ok-reply.ensures.reply opening config now p.is_after) c.in_ok-push_reply.ensures;
+}
+
 pub returns-clause-advances : goal.returns-clause-advances
-returns-clause-advances c = λ config h stands.
-    let done = c.in_ok-replies.ensures in
-    advances config (core_state c.args.self.now) (core_state c.drain.new.self) h c.in_ok-replies.replies.items done.queue done.state done.replies stands
+returns-clause-advances c = λ opening config h before.
+    let p = c.messages.invariant.processes opening config h before in
+    record { processes = p; settled = c.in_ok-is_ready.ensures.settled c.if-branch.false opening config (replicate p.count Process ++ h) p.is_after }

@@ -10,6 +10,7 @@ use Rattle.piece_collector.proofs.board.Board.lend_all.Goals as goal
 pub invariant_of-self : goal.invariant_of-self
 invariant_of-self g c = record {
   indexed = λ here. absurd (cc);
+  passed = λ here. absurd (cc);
   current = λ here. absurd (cc);
   ordered = ordered_as c.self.inside.slots c.take_all.new.slots c.take_all.ensures.keys c.self.invariant.ordered;
 }

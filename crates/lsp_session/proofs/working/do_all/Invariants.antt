@@ -1,0 +1,10 @@
+use Rattle.std.proofs.Common.{ℕ, List}
+use Rattle.lsp_config.specs.Configuration.{Configuration}
+use Rattle.lsp_session.specs.Core.{Event, IsAfter}
+use Rattle.lsp_session.specs.Steps.{with_rounds}
+use Rattle.lsp_session.specs.View.{core_state}
+use Rattle.lsp_session.proofs.working.do_all.Given as goal
+
+-- so many rounds are done
+abbrev pub invariant-loop-round : goal.invariant-loop-round
+invariant-loop-round l = (opening : ℕ) (config : Configuration) (h : List Event) → IsAfter opening config (core_state l.initial.core) h → IsAfter opening config (core_state l.core) (with_rounds l._round opening config h)

@@ -1,0 +1,71 @@
+// The work of a core, done on this thread, and messages that are answered at once.
+ghost use Rattle.std.specs.Prelude.{◌≡◌, ℕ, List, [], ◌∷◌, ◌++◌, false, None, IfOk, OnOk};
+ghost use Rattle.piece_collector.specs.Board.{IsFirstWanted};
+ghost use Rattle.lsp_config.specs.Configuration.{Configuration};
+ghost use Rattle.lsp_session.specs.Core.{Event, Offer, IsAfter, board_events};
+ghost use Rattle.lsp_session.specs.Run.{event_of};
+ghost use Rattle.lsp_session.specs.Steps.{with_round, HasWorked, Knows, replies_to};
+ghost use Rattle.lsp_session.specs.View.{core_state};
+
+use crate::reply::Reply;
+use crate::session_core::Core;
+use collector_laws::{jobs_and_pieces, rounds_of_work};
+use lsp_config::CoreFault;
+use piece_collector::{Job, Piece, next_jobs};
+use std::alloc::Global;
+use work_index::{Done, FileWork};
+
+// Does a job.
+fn do_job(alloc: Global, job: Job) -> Result<Done, CoreFault>
+    ensures { IfOk result (λ sent. event_of sent ≡ Offer job.path job.stamp job.text) }
+{
+    match Piece::make(&FileWork::new(alloc), job) {
+        Ok(piece) => Ok(Done::Made(piece)),
+        Err(_) => Err(CoreFault::Memory),
+    }
+}
+
+// Does the next job, and says whether there was one.
+fn do_next(core: &mut Core) -> Result<bool, CoreFault>
+    ensures round { OnOk result ((opening : ℕ) (config : Configuration) (h : List Event) → IsAfter opening config (core_state core.old) h → IsAfter opening config (core_state core.new) (with_round opening config h)) }
+    ensures none { IfOk result (λ more. more ≡ false → (opening : ℕ) (config : Configuration) (h : List Event) → IsAfter opening config (core_state core.old) h → IsFirstWanted opening (board_events config h) None) }
+{
+    next_jobs();
+    let Some(job) = core.next_job()? else {
+        return Ok(false);
+    };
+    let sent = do_job(core.alloc(), job)?;
+    core.offer(sent)?;
+    Ok(true)
+}
+
+/// Does all the work that a core has to give. `Memory` where memory is refused.
+pub fn do_all(core: &mut Core) -> Result<(), CoreFault>
+    ensures { OnOk result ((opening : ℕ) (config : Configuration) (h : List Event) → IsAfter opening config (core_state core.old) h → HasWorked opening config (core_state core.new) h) }
+{
+    next_jobs();
+    jobs_and_pieces();
+    rounds_of_work();
+    for _round in 0..core.last_stamp() {
+        if !do_next(core)? {
+            return Ok(());
+        }
+    }
+    Ok(())
+}
+
+/// Gives the core a message, and does the work that its reply needs. None waited before.
+pub fn answer(core: &mut Core, body: &[u8]) -> Result<Vec<Reply>, CoreFault>
+    ensures { IfOk result (λ replies. (config : Configuration) (bodies : List (List ℕ)) → Knows config (core_state core.old) bodies
+        → Knows config (core_state core.new) (bodies ++ body.now ∷ []) × (replies.items ≡ replies_to config bodies body.now)) }
+{
+    jobs_and_pieces();
+    rounds_of_work();
+    core.message(body)?;
+    let replies = core.advance()?;
+    if !core.waits() {
+        return Ok(replies);
+    }
+    do_all(core)?;
+    core.advance()
+}

@@ -1,0 +1,46 @@
+use Rattle.std.proofs.Common.{◌∙◌, ◌++◌, ℕ, List, Option, Some, option_map, ap, sym, subst, refl, true, map}
+use Rattle.doc_text.specs.Edits.{change_view}
+use Rattle.piece_collector.specs.Board.{IsAfter}
+use Rattle.piece_collector.specs.Events.{Event}
+use Rattle.lsp_workspace.specs.Files.{AreInPathOrder}
+use Rattle.lsp_workspace.specs.Kept.{IsKept}
+use Rattle.lsp_workspace.specs.Texts.{TextsChangeAt, events_at}
+use Rattle.lsp_workspace.specs.View.{WorkspaceData, document_view, files_view}
+use Rattle.lsp_workspace.specs.declared.known.Known.{Known}
+use Rattle.lsp_workspace.proofs.DocumentLemmas.{changed_text}
+use Rattle.lsp_workspace.proofs.Keeps.{keeps, document-texts, some_open, event_open}
+use Rattle.lsp_workspace.proofs.PathOrder.{changed_files-order}
+use Rattle.lsp_workspace.proofs.TextChanges.{own}
+use Rattle.lsp_workspace.proofs.workspace.Workspace.change.Goals as goal
+
+pub invariant_of-self-2 : goal.invariant_of-self-2
+invariant_of-self-2 c =
+    let path = c.args.path.now in
+    let old = files_view c.self.inside.files.entries in
+    let new = files_view c.set_document.new.files.entries in
+    let version = c.args.edits.version in
+    let changes = map change_view c.args.edits.changes.items in
+    let document = document_view c.in-Some.document in
+    let text = document.text in
+    let both = changed_text path old version changes document (ap (option_map document_view) (sym c.in-Some.is) ∙ c.in_ok-document.ensures) in
+    let open_there = some_open path old both.0 in
+    let order : AreInPathOrder new = subst AreInPathOrder (sym (c.set_document.ensures ∙ both.1)) (changed_files-order version changes path old c.self.invariant.ordered) in
+    let texts : TextsChangeAt path (Some text) old new = subst (λ f. TextsChangeAt path (Some text) old f) (sym c.set_document.ensures) (document-texts path document old open_there.0 open_there.1) in
+    let kept : IsKept old c.self.inside.board c.take.result = subst (λ (k : Option Known). IsKept old c.self.inside.board k) (sym c.take.ensures.value) c.self.invariant in
+    keeps path (Some text) true old new c.self.inside.board c.tell.new.board c.take.result c.known_after.result kept order c.tell.ensures.here c.in_ok-tell.ensures.texts texts refl c.known_after.ensures
+
+pub returns-clause-board : goal.returns-clause-board
+returns-clause-board c =
+    let path = c.args.path.now in
+    let old = files_view c.self.inside.files.entries in
+    let new = files_view c.set_document.new.files.entries in
+    let version = c.args.edits.version in
+    let changes = map change_view c.args.edits.changes.items in
+    let document = document_view c.in-Some.document in
+    let text = document.text in
+    let both = changed_text path old version changes document (ap (option_map document_view) (sym c.in-Some.is) ∙ c.in_ok-document.ensures) in
+    let open_there = some_open path old both.0 in
+    let texts : TextsChangeAt path (Some text) old new = subst (λ f. TextsChangeAt path (Some text) old f) (sym c.set_document.ensures) (document-texts path document old open_there.0 open_there.1) in
+    let event = event_open path old new (Some text) both.0 (own path (Some text) old new texts) in
+    subst (λ (w : WorkspaceData). (opening : ℕ) (events : List Event) → IsAfter opening w.board events → IsAfter opening c.tell.new.board (events_at path w.files new ++ events)) c.self.view_is
+    (λ opening events after. subst (λ es. IsAfter opening c.tell.new.board (es ++ events)) (sym event) (c.in_ok-tell.ensures.is_after opening events after))

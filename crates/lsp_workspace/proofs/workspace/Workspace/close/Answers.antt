@@ -1,0 +1,41 @@
+use Rattle.std.proofs.Common.{◌≡◌, ◌∙◌, ◌++◌, ℕ, List, Option, option_map, sym, subst, true}
+use Rattle.piece_collector.specs.Board.{IsAfter}
+use Rattle.piece_collector.specs.Events.{Event}
+use Rattle.lsp_workspace.specs.Files.{AreInPathOrder, closed_files}
+use Rattle.lsp_workspace.specs.Kept.{IsKept}
+use Rattle.lsp_workspace.specs.Texts.{TextsChangeAt, is_open, events_at}
+use Rattle.lsp_workspace.specs.View.{WorkspaceData, files_view}
+use Rattle.lsp_workspace.specs.declared.known.Known.{Known}
+use Rattle.lsp_workspace.proofs.Keeps.{keeps, close-texts, some_open, event_open, some_map}
+use Rattle.lsp_workspace.proofs.PathOrder.{closed_files-order}
+use Rattle.lsp_workspace.proofs.TextChanges.{own}
+use Rattle.lsp_workspace.proofs.workspace.Workspace.close.Goals as goal
+
+pub invariant_of-self-2 : goal.invariant_of-self-2
+invariant_of-self-2 c =
+    let path = c.args.path.now in
+    let old = files_view c.self.inside.files.entries in
+    let new = files_view c.close.new.files.entries in
+    let is_open_there : is_open path old ≡ true = sym c.is_open.ensures ∙ c.if-not-is_open.false in
+    let open_there = some_open path old is_open_there in
+    let t = option_map (λ t. t.now) c.kept_at-kept.result in
+    let order : AreInPathOrder new = subst AreInPathOrder (sym c.close.ensures) (closed_files-order path old c.self.invariant.ordered) in
+    let at_once : TextsChangeAt path t old (closed_files path old) = subst (λ u. TextsChangeAt path u old (closed_files path old)) (sym c.kept_at-kept.ensures) (close-texts path old open_there.0 c.self.invariant.ordered open_there.1) in
+    let texts : TextsChangeAt path t old new = subst (λ f. TextsChangeAt path t old f) (sym c.close.ensures) at_once in
+    let kept : IsKept old c.self.inside.board c.take.result = subst (λ (k : Option Known). IsKept old c.self.inside.board k) (sym c.take.ensures.value) c.self.invariant in
+    keeps path t c.is_some-stays.result old new c.self.inside.board c.tell.new.board c.take.result c.known_after.result kept order c.tell.ensures.here c.in_ok-tell.ensures.texts texts
+    (c.is_some-stays.ensures ∙ some_map (λ t. t.now) c.kept_at-kept.result) c.known_after.ensures
+
+pub returns-clause-board : goal.returns-clause-board
+returns-clause-board c =
+    let path = c.args.path.now in
+    let old = files_view c.self.inside.files.entries in
+    let new = files_view c.close.new.files.entries in
+    let is_open_there : is_open path old ≡ true = sym c.is_open.ensures ∙ c.if-not-is_open.false in
+    let open_there = some_open path old is_open_there in
+    let t = option_map (λ t. t.now) c.kept_at-kept.result in
+    let at_once : TextsChangeAt path t old (closed_files path old) = subst (λ u. TextsChangeAt path u old (closed_files path old)) (sym c.kept_at-kept.ensures) (close-texts path old open_there.0 c.self.invariant.ordered open_there.1) in
+    let texts : TextsChangeAt path t old new = subst (λ f. TextsChangeAt path t old f) (sym c.close.ensures) at_once in
+    let event = event_open path old new t is_open_there (own path t old new texts) in
+    subst (λ (w : WorkspaceData). (opening : ℕ) (events : List Event) → IsAfter opening w.board events → IsAfter opening c.tell.new.board (events_at path w.files new ++ events)) c.self.view_is
+    (λ opening events after. subst (λ es. IsAfter opening c.tell.new.board (es ++ events)) (sym event) (c.in_ok-tell.ensures.is_after opening events after))

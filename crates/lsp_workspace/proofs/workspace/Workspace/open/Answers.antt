@@ -1,0 +1,67 @@
+use Rattle.std.proofs.Common.{◌≡◌, ◌∙◌, ◌∷◌, ℕ, List, Option, Some, ap, sym, subst, refl, true, string_bytes}
+use Rattle.std.specs.Prelude.{IsSome}
+use Rattle.piece_collector.specs.Board.{IsAfter}
+use Rattle.piece_collector.specs.Events.{Event}
+use Rattle.lsp_workspace.specs.Files.{AreInPathOrder, file_at, opened_files}
+use Rattle.lsp_workspace.specs.Kept.{IsKept}
+use Rattle.lsp_workspace.specs.Texts.{TextsChangeAt, text_event, event_at}
+use Rattle.lsp_workspace.specs.View.{WorkspaceData, document_view, files_view}
+use Rattle.lsp_workspace.specs.declared.known.Known.{Known}
+use Rattle.lsp_workspace.proofs.DocumentLemmas.{opened_in_room, there_is_room}
+use Rattle.lsp_workspace.proofs.Keeps.{keeps, keeps_same}
+use Rattle.lsp_workspace.proofs.PathOrder.{opened_files-order}
+use Rattle.lsp_workspace.proofs.TextChanges.{own, texts_change}
+use Rattle.lsp_workspace.proofs.workspace.Workspace.open.Goals as goal
+
+pub invariant_of-self : goal.invariant_of-self
+invariant_of-self c =
+    let old = files_view c.self.inside.files.entries in
+    let room = files_view c.make_room.new.files.entries in
+    keeps_same old room c.self.inside.board c.self.inside.known c.self.invariant (c.make_room.ensures.ordered c.self.invariant.ordered) c.make_room.ensures.texts
+
+pub invariant_of-self-in_err-tell : goal.invariant_of-self-in_err-tell
+invariant_of-self-in_err-tell c =
+    let old = files_view c.self.inside.files.entries in
+    let room = files_view c.make_room.new.files.entries in
+    subst (λ b. IsKept room b c.self.inside.known) (sym c.in_err-tell.ensures.err)
+    (keeps_same old room c.self.inside.board c.self.inside.known c.self.invariant (c.make_room.ensures.ordered c.self.invariant.ordered) c.make_room.ensures.texts)
+
+pub open-requires : goal.open-requires
+open-requires c =
+    let path = c.args.path.now in
+    let old = files_view c.self.inside.files.entries in
+    subst (λ f. IsSome (file_at path f)) (sym c.in_ok-make_room.ensures.room) (there_is_room path old (file_at path old) refl)
+
+pub invariant_of-self-2 : goal.invariant_of-self-2
+invariant_of-self-2 c =
+    let path = c.args.path.now in
+    let uri = string_bytes c.args.uri in
+    let document = document_view c.args.document in
+    let old = files_view c.self.inside.files.entries in
+    let new = files_view c.open.new.files.entries in
+    let opened : new ≡ opened_files uri document path old = c.open.ensures ∙ ap (opened_files uri document path) c.in_ok-make_room.ensures.room ∙ opened_in_room uri document path old in
+    let order : AreInPathOrder new = subst AreInPathOrder (sym opened) (opened_files-order uri document path old c.self.invariant.ordered) in
+    let texts : TextsChangeAt path (Some document.text) old new = subst (λ f. TextsChangeAt path (Some document.text) old f) (sym opened) (texts_change.opened uri document path old) in
+    let kept : IsKept old c.self.inside.board c.take.result = subst (λ (k : Option Known). IsKept old c.self.inside.board k) (sym c.take.ensures.value) c.self.invariant in
+    keeps path (Some document.text) true old new c.self.inside.board c.tell.new.board c.take.result c.known_after.result kept order c.tell.ensures.here c.in_ok-tell.ensures.texts texts refl c.known_after.ensures
+
+pub returns-clause-files : goal.returns-clause-files
+returns-clause-files c =
+    let path = c.args.path.now in
+    let uri = string_bytes c.args.uri in
+    let document = document_view c.args.document in
+    let old = files_view c.self.inside.files.entries in
+    c.open.ensures ∙ ap (opened_files uri document path) c.in_ok-make_room.ensures.room ∙ opened_in_room uri document path old ∙ ap (λ w. opened_files uri document path w.files) c.self.view_is
+
+pub returns-clause-board : goal.returns-clause-board
+returns-clause-board c =
+    let path = c.args.path.now in
+    let uri = string_bytes c.args.uri in
+    let document = document_view c.args.document in
+    let old = files_view c.self.inside.files.entries in
+    let new = files_view c.open.new.files.entries in
+    let opened : new ≡ opened_files uri document path old = c.open.ensures ∙ ap (opened_files uri document path) c.in_ok-make_room.ensures.room ∙ opened_in_room uri document path old in
+    let texts : TextsChangeAt path (Some document.text) old new = subst (λ f. TextsChangeAt path (Some document.text) old f) (sym opened) (texts_change.opened uri document path old) in
+    let event : event_at path new ≡ text_event path (Some document.text) = ap (text_event path) (own path (Some document.text) old new texts) in
+    subst (λ (w : WorkspaceData). (opening : ℕ) (events : List Event) → IsAfter opening w.board events → IsAfter opening c.tell.new.board (event_at path new ∷ events)) c.self.view_is
+    (λ opening events after. subst (λ e. IsAfter opening c.tell.new.board (e ∷ events)) (sym event) (c.in_ok-tell.ensures.is_after opening events after))

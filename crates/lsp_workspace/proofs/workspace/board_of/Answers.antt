@@ -1,0 +1,33 @@
+use Rattle.std.proofs.Common.{◌≡◌, ◌++◌, [], ◌∷◌, rules, ap, subst}
+use Rattle.piece_collector.specs.Board.{IsAfter}
+use Rattle.lsp_workspace.specs.Files.{workspace}
+use Rattle.lsp_workspace.specs.Texts.{first_events}
+use Rattle.lsp_workspace.specs.View.{entry_view, file_view, files_view}
+use Rattle.lsp_workspace.proofs.FirstEvents.{HasSet, set_more, set_all, first_texts}
+use Rattle.lsp_workspace.proofs.MapOrder.{in_path_order}
+use Rattle.lsp_workspace.proofs.workspace.board_of.Goals as goal
+
+pub returns-clause-is_after : goal.returns-clause-is_after
+returns-clause-is_after c =
+    let done : c.loop-path.path-iterator ≡ [] = search rules in
+    set_all c.args.stamp c.loop-path.board (files_view c.loop-path.path-iterator) (files_view c.args.files.now.entries) c.loop-path.invariant.set (ap files_view done)
+
+pub returns-clause-texts : goal.returns-clause-texts
+returns-clause-texts c =
+    let done : c.loop-path.path-iterator ≡ [] = search rules in
+    let all = files_view c.args.files.now.entries in
+    first_texts c.texts_of_events.ensures c.args.stamp c.loop-path.board all (in_path_order c.args.files.now.entries c.iter-path-items.ensures.ordered)
+    (set_all c.args.stamp c.loop-path.board (files_view c.loop-path.path-iterator) all c.loop-path.invariant.set (ap files_view done))
+
+pub loop-path-preserved : goal.loop-path-preserved
+loop-path-preserved c =
+    let stamp = c.args.stamp in
+    let all = files_view c.args.files.now.entries in
+    let file = c.in-Some.file.now in
+    let step : c.loop-path.path-iterator ≡ (c.in-Some.path.now, file) ∷ c.next.new.self = search rules in
+    let before : HasSet stamp c.loop-path.board (entry_view (c.in-Some.path.now, file) ∷ files_view c.next.new.self) all = subst (λ es. HasSet stamp c.loop-path.board (files_view es) all) step c.loop-path.invariant.set in
+    record {
+      here = c.set_first.ensures.here;
+      set = set_more stamp c.loop-path.board c.set_first.new.board (entry_view (c.in-Some.path.now, file)) (files_view c.next.new.self) all before
+          (λ events after. subst (λ p. IsAfter stamp c.set_first.new.board (first_events (workspace ((p, file_view file) ∷ [])) ++ events)) c.as_str.ensures.value (c.in_ok-set_first.ensures.is_after stamp events after));
+    }

@@ -1,0 +1,69 @@
+-- Messages that are each followed by all work are all processed.
+use Rattle.std.proofs.Common.{◌≡◌, ℕ, ◌+◌, List, [], ◌∷◌, ◌++◌, length, replicate, refl, sym, ap, subst, ◌∙◌, arith, append-nil, append_assoc, length-append, ⊎_elim}
+use Rattle.collector_laws.specs.WorkLaws.{NoneIsOut, OnlyJobsMakePathsOut, CompleteIsNoneWantedAndNoneOut, RoundsLeaveNoneOut}
+use Rattle.piece_collector.specs.Board.{IsComplete}
+use Rattle.piece_collector.specs.declared.verdict.Verdict.{Verdict}
+use Rattle.lsp_config.specs.Configuration.{Configuration}
+use Rattle.lsp_session.specs.Core.{Event, Process, messages, processed, board_events}
+use Rattle.lsp_session.specs.Run.{Message, Work, Follows, Runs, HasRun}
+use Rattle.lsp_session.specs.Session.{session}
+use Rattle.lsp_session.proofs.CoreLemmas.{messages-processed, processed-processed, done-all, none-out-first, none-out-processed, messages-rounds, processed-rounds, worked-complete}
+use Rattle.session_laws.specs.CoreLaws.{with_work}
+
+-- all messages are processed, and no job is out
+record IsIdle (config : Configuration) (bodies : List (List ℕ)) (h : List Event) : Type 0 where
+  pub came : messages h ≡ bodies
+  pub idle : processed h ≡ length (messages h)
+  pub none_out : NoneIsOut 0 (board_events config h)
+
+module _ (config : Configuration) (only : OnlyJobsMakePathsOut) (complete : CompleteIsNoneWantedAndNoneOut) (rounds : RoundsLeaveNoneOut) where
+  one-more : (bodies : List (List ℕ)) (body : List ℕ) (h mid last : List Event) → IsIdle config bodies h → Follows 0 config (Message body) h mid → Follows 0 config Work mid last → IsIdle config (bodies ++ body ∷ []) last
+  one-more bodies body h mid last k f w =
+      let n = f.count in
+      let m = w.count in
+      let n2 = w.comes.rounds in
+      let first : messages mid ≡ bodies ++ body ∷ [] = ap messages f.is ∙ messages-processed n f.after ∙ ap messages f.comes ∙ ap (λ b. b ++ body ∷ []) k.came in
+      let count : processed mid ≡ processed h + n = ap processed f.is ∙ processed-processed n f.after ∙ ap (λ g. processed g + n) f.comes in
+      let behind : messages w.after ≡ bodies ++ body ∷ [] = ap messages w.comes.is ∙ messages-rounds 0 config n2 mid ∙ first in
+      let counted : processed w.after ≡ processed h + n = ap processed w.comes.is ∙ processed-rounds 0 config n2 mid ∙ count in
+      let none : NoneIsOut 0 (board_events config mid) =
+      subst (λ g. NoneIsOut 0 (board_events config g)) (sym f.is) (none-out-processed 0 config only n f.after (subst (λ g. NoneIsOut 0 (board_events config g)) (sym f.comes) k.none_out)) in
+      let ready = worked-complete 0 config complete rounds mid w.after w.comes none in
+      let came : messages last ≡ bodies ++ body ∷ [] = ap messages w.is ∙ messages-processed m w.after ∙ behind in
+      let all : processed last ≡ processed h + n + m = ap processed w.is ∙ processed-processed m w.after ∙ ap (λ c. c + m) counted in
+      let size : length (messages last) ≡ processed h + 1 = ap length came ∙ length-append bodies (body ∷ []) ∙ ap (λ c. c + 1) (sym (k.idle ∙ ap length k.came)) in
+      record {
+        came = came;
+        idle = ⊎_elim
+            (λ whole. whole)
+            (λ held.
+            let zero_more : m ≡ 0 = omega (arith, held.there, all, size) in
+            let same : last ≡ w.after = w.is ∙ ap (λ c. replicate c Process ++ w.after) zero_more in
+            absurd (held.incomplete (subst (λ g. IsComplete 0 (board_events config g)) (sym same) ready.1)))
+            w.settled;
+        none_out = subst (λ g. NoneIsOut 0 (board_events config g)) (sym w.is) (none-out-processed 0 config only m w.after ready.0);
+      }
+
+  record Worked (bodies : List (List ℕ)) (last : List Event) (verdicts : List Verdict) : Type 0 where
+    pub idle : IsIdle config bodies last
+    pub silent : verdicts ≡ []
+
+  worked-from : (bodies rest : List (List ℕ)) (h last : List Event) (verdicts : List Verdict) → IsIdle config bodies h → Runs 0 config h (with_work rest) last verdicts → Worked (bodies ++ rest) last verdicts
+  worked-from bodies [] h last verdicts k runs = record {
+    idle = subst (λ g. IsIdle config (bodies ++ []) g) (sym runs.0) (subst (λ b. IsIdle config b h) (sym (append-nil bodies)) k);
+    silent = runs.1;
+  }
+  worked-from bodies (body ∷ rest) h last verdicts k runs =
+      let mid = runs.0 in
+      let more = runs.2.2 in
+      let next = more.0 in
+      let later = worked-from (bodies ++ body ∷ []) rest next last more.2.0 (one-more bodies body h mid next k runs.1 more.1) more.2.2 in
+      record {
+        idle = subst (λ b. IsIdle config b last) (append_assoc bodies (body ∷ []) rest) later.idle;
+        silent = runs.2.1 ∙ more.2.1 ∙ later.silent;
+      }
+
+  pub worked_all : (bodies replies : List (List ℕ)) (verdicts : List Verdict) (count : ℕ) → HasRun config (with_work bodies) replies verdicts count → (replies ≡ (session config bodies).replies) × (verdicts ≡ []) × (count ≡ length bodies)
+  worked_all bodies replies verdicts count run =
+      let k = worked-from [] bodies [] run.history verdicts (record { came = refl; idle = refl; none_out = none-out-first 0 config only }) run.runs in
+      (run.replied ∙ ap (λ b. (session config b).replies) (done-all run.history k.idle.idle ∙ k.idle.came), k.silent, run.counted ∙ k.idle.idle ∙ ap length k.idle.came)
