@@ -6,12 +6,14 @@ own and of the files that it imports. Four times the files may take at most 4.8 
 its library of Debian is there (protoc.c), it is timed on the same files (`--descriptor_set_out=/dev/null`), and `check` may take
 at most 3 times its time and at most its memory. After a change of one file, a blank, a declaration or an import more, its
 diagnostics may take at most 0.25 of the time of the first analysis. The status is 1 where a limit is passed. A declaration more in
-a file that all others import is timed too, and not judged: the names of all files are looked up again then.
+a file that all others import is timed too, and not judged: the names of all files are looked up again then. Nor is a typed character judged,
+in workspaces of 100 to 10,000 files.
 
 A time is the best of 5. The program is crates/protols/out/protols, or the one that PROTOLS names."""
 import os
 import pathlib
 import shutil
+import statistics
 import subprocess
 import sys
 import tempfile
@@ -41,6 +43,10 @@ PROTOC = 3
 # The most that the diagnostics of a changed file may take, as a part of the time of the first analysis.
 CHANGED = 0.25
 
+
+# The sizes of the workspaces in which characters are typed, and how many are.
+TYPED_IN = [100, 1_000, 4_000, 10_000]
+KEYSTROKES = 200
 
 # A file that all others import.
 HUB = "hub.proto"
@@ -115,6 +121,11 @@ class Editor:
         self.server.stdout.close()
         self.server.wait()
 
+    def memory(self):
+        """The most memory that the server has taken so far, in megabytes."""
+        lines = pathlib.Path(f"/proc/{self.server.pid}/status").read_text().splitlines()
+        return next(int(line.split()[1]) for line in lines if line.startswith("VmHWM:")) / 1024
+
     def ask(self, *bodies):
         """The seconds from some messages to the reply to the last one, which tells no fault."""
         start = time.perf_counter()
@@ -152,6 +163,18 @@ def answer_times(size):
         return first, blank, declared, imported
 
 
+def keystrokes(size):
+    """The median of the seconds from a typed character to the diagnostics of its document, in a workspace of so many files, and the most memory that
+    the session took, in megabytes."""
+    with tempfile.TemporaryDirectory() as holder:
+        put_tree(pathlib.Path(holder), size)
+        with Editor(holder, path(size // 2), ordinary(size // 2)) as editor:
+            editor.open()
+            middle = statistics.median(editor.change(0, " ") for _ in range(KEYSTROKES))
+            memory = editor.memory()
+        return middle, memory
+
+
 def hub_times(size):
     """The seconds of the first answer about a file that all others import, and of that after a declaration more in it."""
     with tempfile.TemporaryDirectory() as holder:
@@ -182,6 +205,9 @@ def main():
     for what, changed in zip(("a blank", "a declaration", "an import"), changes):
         print(f"the answer after {what} more in that file: {changed:.4f} s ({changed / first:.3f} of it)")
         kept = kept and changed <= CHANGED * first
+    for size in TYPED_IN:
+        middle, memory = keystrokes(size)
+        print(f"a typed character among {size:,} files: {1000 * middle:.2f} ms to the diagnostics, half of the times; {memory:.0f} MB")
     first, changed = hub_times(SIZES[0])
     print(f"a file that all import: first answer {first:.2f} s; after a declaration more in it {changed:.4f} s ({changed / first:.3f} of it)")
     print("kept" if kept else "NOT kept")

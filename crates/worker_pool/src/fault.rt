@@ -1,0 +1,25 @@
+// Why a pool can't be started.
+ghost use Rattle.std.specs.Prelude.{◌≡◌};
+ghost use Rattle.worker_pool.specs.declared.fault.PoolFault.TheVariants.{Memory};
+
+use std::alloc::AllocError;
+use thiserror::Error;
+
+/// Why a pool can't be started.
+#[derive(Clone, Copy, Debug, PartialEq, Eq, Error)]
+pub enum PoolFault {
+    /// Memory was refused.
+    #[error("out of memory")]
+    Memory,
+    /// A thread was refused.
+    #[error("thread refused")]
+    ThreadRefused,
+}
+
+impl From<AllocError> for PoolFault {
+    ghost from_gives = { λ _ e. e ≡ Memory };
+
+    fn from(_refused: AllocError) -> PoolFault {
+        PoolFault::Memory
+    }
+}

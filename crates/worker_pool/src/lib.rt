@@ -1,0 +1,19 @@
+//! Workers that make pieces of files' texts in threads of their own.
+//!
+//! A [`Pool`] has one channel of jobs, from which all its workers take, and one of results, into which all of them send. A
+//! worker does one job after the other ([`worker_loop`]). Each piece that a pool gives is made of
+//! its text: that is a fact of its type. Nothing else is promised of what comes back, nor in which order.
+#![tactic(auto)]
+
+mod fault;
+mod gate;
+mod pool;
+mod worker;
+
+pub use fault::PoolFault;
+pub use gate::{Gate, OpenGate};
+pub use pool::Pool;
+pub use worker::worker_loop;
+
+#[cfg(test)]
+mod tests;
