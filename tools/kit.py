@@ -1,7 +1,7 @@
 """What the tools of this folder share: the kit's command `rt` as a module, the crates of this repository, and tasks side by side.
 
 Relied on of the kit: `rt` on the PATH is a Python file with `rtlib.py` beside it. Of `rt`: KIT, processors(), free(), checked(), read_edit(),
-must_fail(), unread(), read_files(). Of `rtlib`: RATTLE, STALE, crates_below(), guarded(), lock(), text_of() and the class Crate with name, folder,
+must_fail() with REFUSED, AT_LIMIT and MISSED, unread(), read_files(). Of `rtlib`: RATTLE, STALE, crates_below(), guarded(), lock(), text_of() and the class Crate with name, folder,
 is_program, of_kit, deps, out, below(), stamp(), need(), words(), prove(), build_rlib(), check(), has_tests() and test_whole().
 """
 import importlib.machinery

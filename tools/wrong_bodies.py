@@ -392,9 +392,10 @@ class Trial:
     def alone(self, edit, kept):
         with self.slots:
             self.checks += 1
-            well, text = self.over_a_copy(kept, lambda room: kit.rt.must_fail(self.crate, edit.file, FLAGS, room))
+            outcome, text = self.over_a_copy(kept, lambda room: kit.rt.must_fail(self.crate, edit.file, FLAGS, room))
         said = text.partition(f"{edit.name}: ")[2] or text
-        return REFUSED if well else PASSED if said.startswith("NOT REFUSED") else BAD, f"alone: {said}"
+        of_the_kit = {kit.rt.REFUSED: REFUSED, kit.rt.AT_LIMIT: REFUSED, kit.rt.MISSED: PASSED}
+        return of_the_kit.get(outcome, BAD), f"alone: {said}"
 
     def together(self, group, kept):
         """The verdicts that one check of these edits gives. Those that it leaves open aren't in it."""
