@@ -1,7 +1,7 @@
 """What the tools of this folder share: the kit's command `rt` as a module, the crates of this repository, and tasks side by side.
 
 Relied on of the kit: `rt` on the PATH is a Python file with `rtlib.py` beside it. Of `rt`: KIT, processors(), free(), checked(), read_edit(),
-must_fail() with REFUSED, AT_LIMIT and MISSED, unread(), read_files(). Of `rtlib`: RATTLE, STALE, crates_below(), guarded(), lock(), text_of() and the class Crate with name, folder,
+must_fail(), with REFUSED and AT_LIMIT in some kits, unread(), read_files(). Of `rtlib`: RATTLE, STALE, crates_below(), guarded(), lock(), text_of() and the class Crate with name, folder,
 is_program, of_kit, deps, out, below(), stamp(), need(), words(), prove(), build_rlib(), check(), has_tests() and test_whole().
 """
 import importlib.machinery
@@ -35,6 +35,12 @@ def load():
 
 rt = load()
 rtlib = rt.rtlib
+
+
+def logic():
+    """The kit's logic, by the last part of its line: kits that share it prove the same."""
+    line = rtlib.text_of(f"{rt.KIT}/KIT-ID").strip()
+    return line[line.find("logic") :] if "logic" in line else line
 
 
 def in_order(some):

@@ -13,7 +13,7 @@ file. Its verdict is
 
 What is refused is kept in crates/NAME/wrong-bodies/verdicts.json, under a sum of all that it rests on: the edit, the edited function with its own
 proof files, the crate's definitions, lemmas and sources but for the bodies of other functions, what the crate sees of those below it (the definitions
-that it cites, the sources without bodies and private functions) and the kit. Comments, layout and an edit's description don't count. What is current
+that it cites, the sources without bodies and private functions) and the kit's logic. Comments, layout and an edit's description don't count. What is current
 isn't tried again; --anew tries all. --must-fail takes the edits of must-fail/ in the same way, and keeps their verdicts in the crate's out/. --gate also fails where verdicts.json names an edit that isn't there. --alone tries each edit in a check of its own.
 
 The status is 0 if each edit is refused, else 1. The last line is `N refused, M not; ..`.
@@ -316,6 +316,14 @@ def judge(said, group, placed):
     return refused
 
 
+def verdict_alone(outcome, said):
+    """The verdict of an edit that the kit tried alone. Kits answer a word, or only whether it is refused."""
+    refused = [True, *(getattr(kit.rt, word) for word in ("REFUSED", "AT_LIMIT") if hasattr(kit.rt, word))]
+    if outcome in refused:
+        return REFUSED
+    return PASSED if said.startswith("NOT REFUSED") else BAD
+
+
 # -- the edits of a crate
 
 class Trial:
@@ -347,10 +355,9 @@ class Trial:
         """What the verdict of each edit of the crate rests on."""
         below = [(it.name, self.surfaces.of(it)) for it in self.crate.below()]
         cited = [(os.path.relpath(file, kit.ROOT if self.given.root is None else self.given.root), text) for file, text in cited_definitions(self.crate)]
-        kit_id = kit.rtlib.text_of(f"{kit.rt.KIT}/KIT-ID").strip()
         outside = [(path, source.words_outside()) for path, source in self.sources.items()]
         rest = [(path, text) for path, text in self.definitions.items() if not path.endswith(OWN_PROOFS)]
-        return sum_of(FORM, kit_id, sorted(self.crate.of_kit), outside, rest, cited, below)
+        return sum_of(FORM, kit.logic(), sorted(self.crate.of_kit), outside, rest, cited, below)
 
     def own_key(self, edit):
         """What else that of this one rests on: the edited function, or all functions where it isn't one alone."""
@@ -394,8 +401,7 @@ class Trial:
             self.checks += 1
             outcome, text = self.over_a_copy(kept, lambda room: kit.rt.must_fail(self.crate, edit.file, FLAGS, room))
         said = text.partition(f"{edit.name}: ")[2] or text
-        of_the_kit = {kit.rt.REFUSED: REFUSED, kit.rt.AT_LIMIT: REFUSED, kit.rt.MISSED: PASSED}
-        return of_the_kit.get(outcome, BAD), f"alone: {said}"
+        return verdict_alone(outcome, said), f"alone: {said}"
 
     def together(self, group, kept):
         """The verdicts that one check of these edits gives. Those that it leaves open aren't in it."""
