@@ -101,7 +101,7 @@ class FolderTest(unittest.TestCase):
 
 
 class CommandLine(FolderTest):
-    def check_wrong(self, *words, shown=b"Usage: protols serve [--root DIR] [--stdio] [--clientProcessId ID]\n"):
+    def check_wrong(self, *words, shown=b"Usage: protols serve [--root DIR] [--workers N] [--stdio] [--clientProcessId ID]\n"):
         """The words are refused, with a message that shows how the program is called, and where more is said."""
         with self.subTest(words=words):
             out, err, status = run(FIRST_INPUT, words)
@@ -179,7 +179,7 @@ class CommandLine(FolderTest):
             with self.subTest(words=words):
                 out, err, status = run(FIRST_INPUT, words)
                 self.assertEqual((err, status), (b"", 0))
-                for part in (b"protols serve [--root DIR] [--stdio] [--clientProcessId ID]", b"Example", b"status"):
+                for part in (b"protols serve [--root DIR] [--workers N] [--stdio] [--clientProcessId ID]", b"Example", b"status"):
                     self.assertIn(part, out)
 
     def test_help_on_serve(self):
@@ -187,7 +187,7 @@ class CommandLine(FolderTest):
             with self.subTest(words=words):
                 out, err, status = run(FIRST_INPUT, words)
                 self.assertEqual((err, status), (b"", 0))
-                for part in (b"--root <DIR>", b"--stdio", b"--clientProcessId <ID>", b"default", b"Example"):
+                for part in (b"--root <DIR>", b"--workers <N>", b"--stdio", b"--clientProcessId <ID>", b"default", b"Example"):
                     self.assertIn(part, out)
 
     def test_version(self):

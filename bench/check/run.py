@@ -10,19 +10,18 @@ a file that all others import is timed too, and not judged: the names of all fil
 in workspaces of 100 to 10,000 files.
 
 A time is the best of 5. The program is crates/protols/out/protols, or the one that PROTOLS names."""
-import os
 import pathlib
 import shutil
 import statistics
 import subprocess
 import sys
 import tempfile
-import time
 
 HERE = pathlib.Path(__file__).resolve().parent
 sys.path[:0] = [str(HERE.parent), str(HERE.parent.parent / "tests")]
 import lab
 import stream
+from editors import HUB, HUB_TEXT, LAST_LINE, Editor, cost, put_tree
 from trees import ordinary, path
 
 SIZES = [1_000, 4_000]
@@ -34,47 +33,15 @@ GROWTH = 4.8
 # Where Debian's package libprotoc32 has protoc's library, and that of Protocol Buffers beside it.
 LIBRARIES = [pathlib.Path("/usr/lib/x86_64-linux-gnu") / name for name in ("libprotoc.so.32", "libprotobuf.so.32")]
 
-# A line behind the last one of each text.
-LAST_LINE = 1_000_000
-
 # The most that a check may take, as a multiple of protoc's time.
 PROTOC = 3
 
 # The most that the diagnostics of a changed file may take, as a part of the time of the first analysis.
 CHANGED = 0.25
 
-
 # The sizes of the workspaces in which characters are typed, and how many are.
 TYPED_IN = [100, 1_000, 4_000, 10_000]
 KEYSTROKES = 200
-
-# A file that all others import.
-HUB = "hub.proto"
-HUB_TEXT = 'syntax = "proto3";\npackage shop;\nmessage Hub { }\n'
-
-
-def put_tree(folder, size, hub=False):
-    """Writes the files of a workspace, on request with one that all others import, and gives their paths."""
-    paths = [path(n) for n in range(size)]
-    for n, place in enumerate(paths):
-        file = folder / place
-        file.parent.mkdir(parents=True, exist_ok=True)
-        file.write_text(ordinary(n) + (f'import "{HUB}";\n' if hub else ""))
-    if hub:
-        (folder / HUB).write_text(HUB_TEXT)
-    return paths
-
-
-def cost(command, cwd):
-    """The seconds of a run, and the most memory that it took, in megabytes."""
-    start = time.perf_counter()
-    run = subprocess.Popen(command, cwd=cwd, stdin=subprocess.DEVNULL, stdout=subprocess.DEVNULL, stderr=subprocess.PIPE)
-    told = run.stderr.read()
-    _, status, usage = os.wait4(run.pid, 0)
-    taken = time.perf_counter() - start
-    if status != 0:
-        raise SystemExit(f"{command[0]} ended with status {os.waitstatus_to_exitcode(status)}: {told[-500:]!r}")
-    return taken, usage.ru_maxrss / 1024
 
 
 def least(runs):
@@ -102,52 +69,6 @@ def checked(size, other):
             if other is not None:
                 theirs.append(cost([other, "--descriptor_set_out=/dev/null", "@files"], holder))
         return least(ours), least(theirs) if theirs else None
-
-
-class Editor:
-    """An editor over a folder: it opens one document, changes it, and asks for its diagnostics."""
-
-    def __init__(self, holder, place, text):
-        self.uri = f"file://{holder}/{place}"
-        self.text = text
-        self.server = subprocess.Popen([*stream.command(), "--root", holder], stdin=subprocess.PIPE, stdout=subprocess.PIPE)
-        self.ask('{"jsonrpc":"2.0","id":1,"method":"initialize","params":{}}')
-
-    def __enter__(self):
-        return self
-
-    def __exit__(self, *_):
-        self.server.stdin.close()
-        self.server.stdout.close()
-        self.server.wait()
-
-    def memory(self):
-        """The most memory that the server has taken so far, in megabytes."""
-        lines = pathlib.Path(f"/proc/{self.server.pid}/status").read_text().splitlines()
-        return next(int(line.split()[1]) for line in lines if line.startswith("VmHWM:")) / 1024
-
-    def ask(self, *bodies):
-        """The seconds from some messages to the reply to the last one, which tells no fault."""
-        start = time.perf_counter()
-        self.server.stdin.write(stream.frames(bodies))
-        self.server.stdin.flush()
-        length = int(self.server.stdout.readline().split(b":")[1])
-        self.server.stdout.readline()
-        reply = self.server.stdout.read(length)
-        if b'"items":[]' not in reply and b'"capabilities"' not in reply:
-            raise SystemExit(f"the reply is {reply[:300]!r}")
-        return time.perf_counter() - start
-
-    def after(self, notification):
-        return self.ask(notification, f'{{"jsonrpc":"2.0","id":2,"method":"textDocument/diagnostic","params":{{"textDocument":{{"uri":"{self.uri}"}}}}}}')
-
-    def open(self):
-        text = self.text.replace('"', '\\"').replace("\n", "\\n")
-        return self.after(f'{{"jsonrpc":"2.0","method":"textDocument/didOpen","params":{{"textDocument":{{"uri":"{self.uri}","version":1,"text":"{text}"}}}}}}')
-
-    def change(self, line, text):
-        place = f'{{"line":{line},"character":0}}'
-        return self.after(f'{{"jsonrpc":"2.0","method":"textDocument/didChange","params":{{"textDocument":{{"uri":"{self.uri}","version":2}},"contentChanges":[{{"range":{{"start":{place},"end":{place}}},"text":"{text}"}}]}}}}')
 
 
 def answer_times(size):

@@ -27,6 +27,7 @@ abbrev pub serve_code : ServeFault → ℕ
 serve_code serve.Read = 801
 serve_code serve.Write = 802
 serve_code serve.Memory = 803
+serve_code serve.ThreadRefused = 804
 serve_code serve.Exhausted = 805
 serve_code serve.BadRoot = 806
 serve_code (serve.BadPath index) = 807
@@ -42,15 +43,19 @@ abbrev pub IsWriteOrMemory : Counts → Counts → ServeFault → Type 0
 IsWriteOrMemory old new serve.Read = ⊥
 IsWriteOrMemory old new serve.Write = HasFailed old new
 IsWriteOrMemory old new serve.Memory = ⊤
+IsWriteOrMemory old new serve.ThreadRefused = ⊥
 IsWriteOrMemory old new serve.Exhausted = ⊥
 IsWriteOrMemory old new serve.BadRoot = ⊥
 IsWriteOrMemory old new (serve.BadPath index) = ⊥
 
--- a fault where only a writer and a core can fail: the writer's only where it failed between these counts
+-- a fault of a core or of its workers
+abbrev pub IsOfCore : ServeFault → Type 0
+IsOfCore serve.Memory = ⊤
+IsOfCore serve.ThreadRefused = ⊤
+IsOfCore serve.Exhausted = ⊤
+IsOfCore _ = ⊥
+
+-- a fault where only a writer, a core and its workers can fail: the writer's only where it failed between these counts
 abbrev pub IsWriteOrCore : Counts → Counts → ServeFault → Type 0
-IsWriteOrCore old new serve.Read = ⊥
 IsWriteOrCore old new serve.Write = HasFailed old new
-IsWriteOrCore old new serve.Memory = ⊤
-IsWriteOrCore old new serve.Exhausted = ⊤
-IsWriteOrCore old new serve.BadRoot = ⊥
-IsWriteOrCore old new (serve.BadPath index) = ⊥
+IsWriteOrCore old new fault = IsOfCore fault

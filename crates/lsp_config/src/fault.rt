@@ -63,6 +63,9 @@ pub enum ServeFault {
     /// 803: memory was refused.
     #[error("out of memory")]
     Memory,
+    /// 804: a thread was refused, or no worker is left.
+    #[error("thread refused")]
+    ThreadRefused,
     /// 805: a text needed a stamp after `u64::MAX`.
     #[error("no stamp is left")]
     Exhausted,
@@ -80,7 +83,7 @@ pub enum ServeFault {
 impl ServeFault {
     ghost use Rattle.lsp_config.specs.Fault.{serve_code};
 
-    /// The fault's number, one of 801 to 803 and 805 to 807.
+    /// The fault's number, from 801 to 807.
     pub fn code(&self) -> u32
         ensures { result ≡ serve_code self.now }
     {
@@ -88,6 +91,7 @@ impl ServeFault {
             ServeFault::Read => 801,
             ServeFault::Write => 802,
             ServeFault::Memory => 803,
+            ServeFault::ThreadRefused => 804,
             ServeFault::Exhausted => 805,
             ServeFault::BadRoot => 806,
             ServeFault::BadPath { .. } => 807,

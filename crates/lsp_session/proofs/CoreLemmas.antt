@@ -4,7 +4,7 @@ use Rattle.std.proofs.lemmas.List.{append_cancel_left, drop_all, take_all, take-
 use Rattle.std.proofs.lemmas.List.Sums.{fold-append}
 use Rattle.std.specs.Option.{option_to_list}
 use Rattle.serde_json.specs.Written.{compact_text}
-use Rattle.std.specs.Prelude.{option_map, option_and_then, if◌then◌else◌, IfOk, OnOk}
+use Rattle.std.specs.Prelude.{option_map, option_and_then, if◌then◌else◌, string_bytes, IfOk, OnOk}
 use Rattle.collector_laws.specs.WorkLaws.{NoneIsOut, NoJobChangesNothing, OnlyJobsMakePathsOut, CompleteIsNoneWantedAndNoneOut, RoundsLeaveNoneOut, RoundsEnd, right_piece, after_round, after_rounds}
 use Rattle.piece_collector.specs.Board.{IsComplete, IsFull, IsFirstWanted, current_text}
 use Rattle.piece_collector.specs.History.{Standing, wants, sets, first_wanted, history, stands_at}
@@ -18,13 +18,16 @@ use Rattle.lsp_rpc.specs.Params.{opened_of, changed_of}
 use Rattle.lsp_rpc.specs.declared.method.Method.{Method}
 use Rattle.lsp_rpc.specs.declared.method.Method.TheVariants.{DidOpen, DidChange, DidClose}
 use Rattle.workspace_uri.specs.Uri.{path_of}
+use Rattle.work_index.specs.declared.done.Done.{Done}
+use Rattle.work_index.specs.declared.done.Done.TheVariants as job
 use Rattle.lsp_workspace.specs.Files.{Files, text_at, workspace}
 use Rattle.work_index.specs.Workspace.{Workspace}
 use Rattle.lsp_workspace.specs.Texts.{text_event, event_at, is_open, events_at}
 use Rattle.lsp_config.specs.Configuration.{Configuration, files_of}
-use Rattle.lsp_session.specs.Core.{Event, Arrive, Process, Give, Offer, messages, processed, done, waiting, next_body, state_after, board_events, MayProcess, IsSettled, CoreState, IsAfter, Processes, Advances}
+use Rattle.lsp_session.specs.Core.{Event, Arrive, Process, Give, Offer, Fail, messages, processed, done, waiting, next_body, state_after, board_events, MayProcess, IsSettled, CoreState, IsAfter, Processes, Advances}
+use Rattle.lsp_session.specs.Run.{event_of}
 use Rattle.lsp_session.specs.Session.{State, start, turn, path_in, next, session}
-use Rattle.lsp_session.specs.Steps.{right_work, with_round, with_rounds, IsWorked, HasWorked, Knows, replies_to}
+use Rattle.lsp_session.specs.Steps.{right_work, with_round, with_rounds, IsWorked, HasWorked, Knows, Awaits, WorksOn, Progresses, replies_to}
 use Rattle.lsp_session.specs.Working.{events_for_path, events_by_method, events_in_phase, events_of, board_events_of, waits}
 use Rattle.lsp_session.specs.declared.phase.Phase.{Phase}
 use Rattle.lsp_session.specs.declared.phase.Phase.TheVariants.{Running}
@@ -299,96 +302,93 @@ module _ (o : ℕ) (config : Configuration) where
       let still : NoneIsOut o (board_events config after) = subst (λ es. NoneIsOut o es) (sym same) (rounds worked.rounds o (board_events config h) none) in
       (still, (complete o (board_events config after)).1 (worked.finished, still))
 
--- ---- messages that are answered at once
+-- ---- messages of a stream
 
-pub knows-none : (config : Configuration) (core : CoreState) → NoneIsOut 0 (board_events config []) → IsAfter 0 config core [] → Knows config core []
-knows-none config core none after = record { history = []; is_after = after; came = refl; idle = refl; none_out = none }
+pub knows-none : (config : Configuration) (core : CoreState) → IsAfter 0 config core [] → Knows config core []
+knows-none config core after = record { history = []; is_after = after; came = refl; idle = refl }
 
 pub knows-state : (config : Configuration) (core : CoreState) (bodies : List (List ℕ)) → Knows config core bodies → core.state ≡ (session config bodies).state
 knows-state config core bodies k = k.is_after.state ∙ ap (λ b. (session config b).state) (done-all k.history k.idle ∙ k.came)
 
--- the core knows one message more, and replied so
-pub record KnowsMore (config : Configuration) (core : CoreState) (before after replies : List (List ℕ)) : Type 0 where
-  pub knows : Knows config core after
-  pub replied : (session config after).replies ≡ (session config before).replies ++ replies
+-- ---- work that comes behind a history
 
--- an advance that processed all messages behind a history
-pub knows-more : (config : Configuration) → OnlyJobsMakePathsOut → (core : CoreState) (h : List Event) (before after replies : List (List ℕ)) → done h ≡ before → messages h ≡ after → NoneIsOut 0 (board_events config h) → (p : Processes 0 config core h replies)
-    → processed h + p.count ≡ length (messages h) → KnowsMore config core before after replies
-knows-more config only core h before after replies first all none p whole =
-    let later = replicate p.count Process ++ h in
-    let came : messages later ≡ messages h = messages-processed p.count h in
-    let idle : processed later ≡ length (messages later) = processed-processed p.count h ∙ whole ∙ ap length (sym came) in
-    record {
-      knows = record { history = later; is_after = p.is_after; came = came ∙ all; idle = idle; none_out = none-out-processed 0 config only p.count h none };
-      replied = ap (λ b. (session config b).replies) (sym (done-all later idle ∙ came ∙ all)) ∙ p.replied ∙ ap (λ b. (session config b).replies ++ replies) first;
-    }
+pub works-none : (o : ℕ) (config : Configuration) (core : CoreState) (h : List Event) → IsAfter o config core h → WorksOn o config core h
+works-none o config core h after = record { after = h; is_after = after; came = refl; count = refl }
 
--- what a core knows, with a message that it didn't process yet
-pub record HasCome (config : Configuration) (core : CoreState) (bodies : List (List ℕ)) (body : List ℕ) (h : List Event) : Type 0 where
-  pub is_after : IsAfter 0 config core h
-  pub done_are : done h ≡ bodies
-  pub messages_are : messages h ≡ bodies ++ body ∷ []
-  pub processed_are : processed h ≡ length bodies
-  pub none_out : NoneIsOut 0 (board_events config h)
+pub works-more : (o : ℕ) (config : Configuration) (mid new : CoreState) (h : List Event) → WorksOn o config mid h → ((g : List Event) → IsAfter o config mid g → WorksOn o config new g) → WorksOn o config new h
+works-more o config mid new h w more =
+    let later = more w.after w.is_after in
+    record { after = later.after; is_after = later.is_after; came = later.came ∙ w.came; count = later.count ∙ w.count }
 
-pub come : (config : Configuration) (old new : CoreState) (bodies : List (List ℕ)) (body : List ℕ) → (k : Knows config old bodies) → IsAfter 0 config new (Arrive body ∷ k.history) → HasCome config new bodies body (Arrive body ∷ k.history)
-come config old new bodies body k after = record {
-  is_after = after;
-  done_are = take-append-le (processed k.history) (messages k.history) (body ∷ []) (omega (arith, k.idle)) ∙ done-all k.history k.idle ∙ k.came;
-  messages_are = ap (λ b. b ++ body ∷ []) k.came;
-  processed_are = k.idle ∙ ap length k.came;
-  none_out = k.none_out;
+pub works-job : (o : ℕ) (config : Configuration) (core : CoreState) (h : List Event) → IsAfter o config core (Give ∷ h) → WorksOn o config core h
+works-job o config core h after = record { after = Give ∷ h; is_after = after; came = refl; count = refl }
+
+pub works-result : (o : ℕ) (config : Configuration) (core : CoreState) (h : List Event) (sent : Done) → IsAfter o config core (event_of sent ∷ h) → WorksOn o config core h
+works-result o config core h (job.Made piece) after = record { after = Offer piece.path piece.stamp piece.text ∷ h; is_after = after; came = refl; count = refl }
+works-result o config core h (job.Failed path stamp) after = record { after = Fail (string_bytes path) stamp ∷ h; is_after = after; came = refl; count = refl }
+
+pub knows-on : (config : Configuration) (old new : CoreState) (bodies : List (List ℕ)) → Knows config old bodies → ((h : List Event) → IsAfter 0 config old h → WorksOn 0 config new h) → Knows config new bodies
+knows-on config old new bodies k works =
+    let w = works k.history k.is_after in
+    record { history = w.after; is_after = w.is_after; came = w.came ∙ k.came; idle = w.count ∙ k.idle ∙ ap length (sym w.came) }
+
+pub awaits-on : (config : Configuration) (old new : CoreState) (bodies : List (List ℕ)) (body : List ℕ) → Awaits config old bodies body → ((h : List Event) → IsAfter 0 config old h → WorksOn 0 config new h) → Awaits config new bodies body
+awaits-on config old new bodies body a works =
+    let w = works a.history a.is_after in
+    record { history = w.after; is_after = w.is_after; came = w.came ∙ a.came; count = w.count ∙ a.count }
+
+-- ---- one more message
+
+pub awaits-message : (config : Configuration) (old new : CoreState) (bodies : List (List ℕ)) (body : List ℕ) → Knows config old bodies → ((h : List Event) → IsAfter 0 config old h → IsAfter 0 config new (Arrive body ∷ h)) → Awaits config new bodies body
+awaits-message config old new bodies body k arrives = record {
+  history = Arrive body ∷ k.history;
+  is_after = arrives k.history k.is_after;
+  came = ap (λ b. b ++ body ∷ []) k.came;
+  count = k.idle ∙ ap length k.came;
 }
 
-length-more : (bodies : List (List ℕ)) (body : List ℕ) → length (bodies ++ body ∷ []) ≡ length bodies + 1
-length-more bodies body = length-append bodies (body ∷ [])
+-- the messages that are processed before it
+done-before : (bodies : List (List ℕ)) (body : List ℕ) (h : List Event) → messages h ≡ bodies ++ body ∷ [] → processed h ≡ length bodies → done h ≡ bodies
+done-before bodies body h came count = ap₂ take count came ∙ take-append-le (length bodies) bodies (body ∷ []) (omega arith) ∙ take_all (length bodies) bodies (omega arith)
 
--- the message was processed at once
-pub answered-now : (config : Configuration) → OnlyJobsMakePathsOut → (mid new : CoreState) (bodies : List (List ℕ)) (body : List ℕ) (h : List Event) (replies : List (List ℕ)) → HasCome config mid bodies body h → (a : Advances 0 config new h replies)
-    → ¬ (processed (replicate a.processes.count Process ++ h) < length (messages (replicate a.processes.count Process ++ h))) → KnowsMore config new bodies (bodies ++ body ∷ []) replies
-answered-now config only mid new bodies body h replies c a idle =
-    let later = replicate a.processes.count Process ++ h in
-    let all : processed later ≡ length (messages later) = omega (arith, a.processes.is_after.known, idle) in
-    knows-more config only new h bodies (bodies ++ body ∷ []) replies c.done_are c.messages_are c.none_out a.processes (sym (processed-processed a.processes.count h) ∙ all ∙ ap length (messages-processed a.processes.count h))
+-- its replies
+replies-are : (config : Configuration) (bodies : List (List ℕ)) (body : List ℕ) (replies : List (List ℕ)) → (session config (bodies ++ body ∷ [])).replies ≡ (session config bodies).replies ++ replies → replies ≡ replies_to config bodies body
+replies-are config bodies body replies replied =
+    append_cancel_left (session config bodies).replies replies (replies_to config bodies body) (sym replied ∙ ap (λ r. r.replies) (session-snoc config bodies body))
 
--- the message waits: nothing was processed
-pub record IsWaiting (config : Configuration) (core : CoreState) (bodies : List (List ℕ)) (body : List ℕ) (h : List Event) (replies : List (List ℕ)) : Type 0 where
-  pub come : HasCome config core bodies body h
-  pub silent : replies ≡ []
-
-pub waiting-still : (config : Configuration) (mid new : CoreState) (bodies : List (List ℕ)) (body : List ℕ) (h : List Event) (replies : List (List ℕ)) → HasCome config mid bodies body h → (a : Advances 0 config new h replies)
-    → processed (replicate a.processes.count Process ++ h) < length (messages (replicate a.processes.count Process ++ h)) → IsWaiting config new bodies body h replies
-waiting-still config mid new bodies body h replies c a there =
+-- an advance processed it, or it is held up
+pub progresses : (config : Configuration) (old new : CoreState) (bodies : List (List ℕ)) (body : List ℕ) (replies : List (List ℕ)) → Awaits config old bodies body → ((h : List Event) → IsAfter 0 config old h → Advances 0 config new h replies)
+    → Progresses config new bodies body replies
+progresses config old new bodies body replies w advances =
+    let h = w.history in
+    let a = advances h w.is_after in
     let n = a.processes.count in
-    let none : n ≡ 0 = omega (arith, there, processed-processed n h, ap length (messages-processed n h), ap length c.messages_are, length-more bodies body, c.processed_are) in
-    let same : replicate n Process ++ h ≡ h = ap (λ k. replicate k Process ++ h) none in
-    record {
-      come = record { is_after = subst (λ g. IsAfter 0 config new g) same a.processes.is_after; done_are = c.done_are; messages_are = c.messages_are; processed_are = c.processed_are; none_out = c.none_out };
-      silent = append_cancel_left (session config (done h)).replies replies [] (sym a.processes.replied ∙ ap (λ g. (session config (done g)).replies) same ∙ sym (append-nil (session config (done h)).replies));
-    }
+    let later = replicate n Process ++ h in
+    let came : messages later ≡ bodies ++ body ∷ [] = messages-processed n h ∙ w.came in
+    let size : length (messages later) ≡ length bodies + 1 = ap length came ∙ length-append bodies (body ∷ []) in
+    let first : done h ≡ bodies = done-before bodies body h w.came w.count in
+    ⊎_elim
+    (λ all.
+    let whole : done later ≡ bodies ++ body ∷ [] = done-all later all ∙ came in
+    inl (
+      record { history = later; is_after = a.processes.is_after; came = came; idle = all },
+      replies-are config bodies body replies (ap (λ b. (session config b).replies) (sym whole) ∙ a.processes.replied ∙ ap (λ b. (session config b).replies ++ replies) first),
+    ))
+    (λ held. inr (record { history = later; is_after = a.processes.is_after; came = came; count = omega (arith, held.there, size, processed-processed n h, w.count) }))
+    a.settled
 
--- it is processed by an advance behind all work
-pub answered-later : (config : Configuration) → OnlyJobsMakePathsOut → CompleteIsNoneWantedAndNoneOut → RoundsLeaveNoneOut → (mid worked new : CoreState) (bodies : List (List ℕ)) (body : List ℕ) (h : List Event) (replies : List (List ℕ)) → HasCome config mid bodies body h
-    → (w : HasWorked 0 config worked h) → Advances 0 config new w.after replies → KnowsMore config new bodies (bodies ++ body ∷ []) replies
-answered-later config only complete rounds mid worked new bodies body h replies c w a =
-    let n = w.worked.rounds in
-    let n2 = a.processes.count in
-    let later = replicate n2 Process ++ w.after in
-    let came : messages w.after ≡ messages h = ap messages w.worked.is ∙ messages-rounds 0 config n h in
-    let count : processed w.after ≡ processed h = ap processed w.worked.is ∙ processed-rounds 0 config n h in
-    let first : done w.after ≡ bodies = ap₂ take count came ∙ c.done_are in
-    let ready = worked-complete 0 config complete rounds h w.after w.worked c.none_out in
-    let more : length (messages w.after) ≡ length bodies + 1 = ap length (came ∙ c.messages_are) ∙ length-more bodies body in
-    let one : processed w.after + n2 ≡ length (messages w.after) = ⊎_elim
-    (λ all. sym (processed-processed n2 w.after) ∙ all ∙ ap length (messages-processed n2 w.after))
-    (λ held.
-    let none : n2 ≡ 0 = omega (arith, held.there, processed-processed n2 w.after, ap length (messages-processed n2 w.after), more, count, c.processed_are) in
-    absurd (held.incomplete (subst (λ k. IsComplete 0 (board_events config (replicate k Process ++ w.after))) (sym none) ready.1)))
-    a.settled in
-    knows-more config only new w.after bodies (bodies ++ body ∷ []) replies first (came ∙ c.messages_are) ready.0 a.processes one
+module _ (config : Configuration) (core : CoreState) (bodies : List (List ℕ)) (body : List ℕ) (replies : List (List ℕ)) where
+  -- it is processed where no message waits
+  pub has-answered : Progresses config core bodies body replies → ((h : List Event) → IsAfter 0 config core h → ¬ (processed h < length (messages h))) → Knows config core (bodies ++ body ∷ []) × (replies ≡ replies_to config bodies body)
+  has-answered (inl known) idle = known
+  has-answered (inr w) idle =
+      let size : length (messages w.history) ≡ length bodies + 1 = ap length w.came ∙ length-append bodies (body ∷ []) in
+      absurd (idle w.history w.is_after (omega (arith, size, w.count)))
 
--- its replies are those to that message
-pub answered-replies : (config : Configuration) (core : CoreState) (bodies : List (List ℕ)) (body : List ℕ) (replies : List (List ℕ)) → KnowsMore config core bodies (bodies ++ body ∷ []) replies → replies ≡ replies_to config bodies body
-answered-replies config core bodies body replies k =
-    append_cancel_left (session config bodies).replies replies (replies_to config bodies body) (sym k.replied ∙ ap (λ r. r.replies) (session-snoc config bodies body))
+  -- and it isn't where one does
+  pub still-awaits : Progresses config core bodies body replies → ((h : List Event) → IsAfter 0 config core h → processed h < length (messages h)) → Awaits config core bodies body
+  still-awaits (inl known) there =
+      let more = there known.0.history known.0.is_after in
+      let all = known.0.idle in
+      absurd (omega (arith, more, all))
+  still-awaits (inr w) there = w

@@ -21,23 +21,23 @@ use Rattle.lsp_frame.proofs.Splits.{begins_with}
 use Rattle.lsp_frame.proofs.StreamLemmas.{frames-whole, frames-end}
 use Rattle.lsp_rpc.specs.Message.{message_of}
 use Rattle.lsp_config.specs.Configuration.{Configuration}
-use Rattle.lsp_config.specs.Fault.{ComesWhileServing, IsWriteOrCore, serve_fault_of}
+use Rattle.lsp_config.specs.Fault.{ComesWhileServing, IsOfCore, IsWriteOrCore, serve_fault_of}
 use Rattle.lsp_config.specs.Sending.{SendsPrefix}
 use Rattle.lsp_config.proofs.SendingLemmas.{front-of, front-behind, nothing_sent}
 use Rattle.lsp_config.specs.declared.fault.CoreFault.{CoreFault}
 use Rattle.lsp_config.specs.declared.fault.CoreFault.TheVariants as core_fault
 use Rattle.lsp_config.specs.declared.fault.ServeFault.{ServeFault}
 use Rattle.lsp_config.specs.declared.fault.ServeFault.TheVariants as served
-use Rattle.lsp_session.specs.Core.{CoreState}
+use Rattle.lsp_session.specs.Core.{Event, CoreState, IsAfter}
 use Rattle.lsp_session.specs.Session.{State, Run, turn, turn_in, next, start, session}
 use Rattle.lsp_session.specs.Serving.{Calls, IsCaused, Serves, Serving, Ends, Finishes, Fails, Served, Comes, exit_in, end_by}
-use Rattle.lsp_session.specs.Steps.{Knows, replies_to}
+use Rattle.lsp_session.specs.Steps.{Knows, WorksOn, replies_to}
 use Rattle.lsp_session.specs.Stream.{IsExit, HasFrameCode, LeavesReader, Answered, frames_of, output, ended, ended_in, exit_of, is_exited, taken_from, behind_first, behind_frames, behind_exit}
 use Rattle.lsp_session.specs.declared.ended.Ended.{Ended}
 use Rattle.lsp_session.specs.declared.ended.Ended.TheVariants as how
 use Rattle.lsp_session.specs.declared.phase.Phase.{Phase}
 use Rattle.lsp_session.specs.declared.phase.Phase.TheVariants.{Uninitialized, Running, Shut, Exited}
-use Rattle.lsp_session.proofs.CoreLemmas.{session-none, session-append, session-snoc, knows-state}
+use Rattle.lsp_session.proofs.CoreLemmas.{session-none, session-append, session-snoc, knows-state, knows-on}
 
 -- the bodies of the stream are those that were taken, and those that are left
 pub came : {config : Configuration} {bytes rest : List ℕ} {core : CoreState} {v w : Option (List ℕ)} → (s : Serves config bytes rest core v w) → (frames bytes).bodies ≡ s.bodies ++ (frames rest).bodies
@@ -264,6 +264,7 @@ pub message_fails : (config : Configuration) (a c v x : Option (List ℕ)) (old 
 message_fails config a c v x old new served.Read of prefix = absurd of
 message_fails config a c v x old new served.Write of prefix = record { prefix = prefix; answered = λ e. cc; comes = tt }
 message_fails config a c v x old new served.Memory of prefix = record { prefix = prefix; answered = λ e. cc; comes = tt }
+message_fails config a c v x old new served.ThreadRefused of prefix = record { prefix = prefix; answered = λ e. cc; comes = tt }
 message_fails config a c v x old new served.Exhausted of prefix = record { prefix = prefix; answered = λ e. cc; comes = tt }
 message_fails config a c v x old new served.BadRoot of prefix = absurd of
 message_fails config a c v x old new (served.BadPath index) of prefix = absurd of
@@ -272,6 +273,7 @@ message_cause : (a b old new : Counts) (fault : ServeFault) → IsWriteOrCore ol
 message_cause a b old new served.Read of = absurd of
 message_cause a b old new served.Write of = of
 message_cause a b old new served.Memory of = tt
+message_cause a b old new served.ThreadRefused of = tt
 message_cause a b old new served.Exhausted of = tt
 message_cause a b old new served.BadRoot of = absurd of
 message_cause a b old new (served.BadPath index) of = absurd of
@@ -313,6 +315,17 @@ module _ (config : Configuration) (a b c v w : Option (List ℕ)) (core : CoreSt
   fault_comes Truncated shown = bad_frame Truncated (omega arith, omega arith) shown
   fault_comes Read shown = record { prefix = stops config a b v w core so_far; answered = λ e. answered_so_far config a b c v w core so_far shown; comes = tt }
   fault_comes Memory shown = record { prefix = stops config a b v w core so_far; answered = λ e. cc; comes = tt }
+
+-- the session doesn't go on
+pub ends_by-not : (fault : FrameFault) → end_by fault ≡ Ok None → ⊥
+ends_by-not BadHeader e = cc
+ends_by-not NoLength e = cc
+ends_by-not BadLength e = cc
+ends_by-not BodyTooLong e = cc
+ends_by-not HeaderTooLong e = cc
+ends_by-not Truncated e = cc
+ends_by-not Read e = cc
+ends_by-not Memory e = cc
 
 -- the counts of the source, where the reader answered a fault
 pub fault_calls : (old new : Counts) (fault : FrameFault) → NoneFell old new → NoErrorUnlessRead old new fault → new.errors ≤ old.errors + 1 → Calls old new (end_by fault)
@@ -362,22 +375,74 @@ pub more_cause : (a b c k l m : Counts) (fault : ServeFault) → NoneFell a b �
 more_cause a b c k l m served.Read reads writes of = HasFailed-after reads of
 more_cause a b c k l m served.Write reads writes of = HasFailed-after writes of
 more_cause a b c k l m served.Memory reads writes of = tt
+more_cause a b c k l m served.ThreadRefused reads writes of = tt
 more_cause a b c k l m served.Exhausted reads writes of = tt
 more_cause a b c k l m served.BadRoot reads writes of = tt
 more_cause a b c k l m (served.BadPath index) reads writes of = tt
 
+-- ---- a fault of the core or of its workers
+
+pub of_core : (fault : CoreFault) → IsOfCore (serve_fault_of fault)
+of_core core_fault.Memory = tt
+of_core core_fault.Exhausted = tt
+
+pub of_core_or_write : (old new : Counts) (fault : ServeFault) → IsOfCore fault → IsWriteOrCore old new fault
+of_core_or_write old new served.Read of = absurd of
+of_core_or_write old new served.Write of = absurd of
+of_core_or_write old new served.Memory of = tt
+of_core_or_write old new served.ThreadRefused of = tt
+of_core_or_write old new served.Exhausted of = tt
+of_core_or_write old new served.BadRoot of = absurd of
+of_core_or_write old new (served.BadPath index) of = absurd of
+
+pub core_caused : (a b k l : Counts) (fault : ServeFault) → IsOfCore fault → IsCaused a b k l fault
+core_caused a b k l served.Read of = absurd of
+core_caused a b k l served.Write of = absurd of
+core_caused a b k l served.Memory of = tt
+core_caused a b k l served.ThreadRefused of = tt
+core_caused a b k l served.Exhausted of = tt
+core_caused a b k l served.BadRoot of = tt
+core_caused a b k l (served.BadPath index) of = tt
+
+core_fails : (config : Configuration) (a left v w : Option (List ℕ)) (fault : ServeFault) → IsOfCore fault → IfSome a (λ bytes. SendsPrefix v w (output config bytes)) → Fails config a left v w fault
+core_fails config a left v w served.Read of prefix = absurd of
+core_fails config a left v w served.Write of prefix = absurd of
+core_fails config a left v w served.Memory of prefix = record { prefix = prefix; answered = λ e. cc; comes = tt }
+core_fails config a left v w served.ThreadRefused of prefix = record { prefix = prefix; answered = λ e. cc; comes = tt }
+core_fails config a left v w served.Exhausted of prefix = record { prefix = prefix; answered = λ e. cc; comes = tt }
+core_fails config a left v w served.BadRoot of prefix = absurd of
+core_fails config a left v w (served.BadPath index) of prefix = absurd of
+
+nothing_so_far : (config : Configuration) (a v : Option (List ℕ)) → IfSome a (λ bytes. SendsPrefix v v (output config bytes))
+nothing_so_far config None v = tt
+nothing_so_far config (Some bytes) v = nothing_sent v (output config bytes)
+
+-- before its first message
+pub fails_at_start : (config : Configuration) (a left v : Option (List ℕ)) (fault : ServeFault) → IsOfCore fault → Fails config a left v v fault
+fails_at_start config a left v fault of = core_fails config a left v v fault of (nothing_so_far config a v)
+
+-- between two messages
+pub fails_between : (config : Configuration) (a b v w : Option (List ℕ)) (core : CoreState) (fault : ServeFault) → Serving config a b core v w → IsOfCore fault → Fails config a b v w fault
+fails_between config a b v w core fault so_far of = core_fails config a b v w fault of (stops config a b v w core so_far)
+
+-- ---- work between two messages
+
+pub serving-on : (config : Configuration) (a b v w : Option (List ℕ)) (old new : CoreState) → Serving config a b old v w → new.state ≡ old.state → ((h : List Event) → IsAfter 0 config old h → WorksOn 0 config new h) → Serving config a b new v w
+serving-on config None b v w old new s same works = tt
+serving-on config (Some bytes) None v w old new s same works = absurd s
+serving-on config (Some bytes) (Some rest) v w old new s same works = record {
+  bodies = s.bodies;
+  knows = knows-on config old new s.bodies s.knows works;
+  front = s.front;
+  joined = s.joined;
+  whatever = s.whatever;
+  same_end = s.same_end;
+  wrote = s.wrote;
+  behind = s.behind;
+  taken = λ later. s.taken later ∙ ap (λ u. length s.bodies + taken_from u later) (sym same);
+}
+
 -- ---- a session to its end
-
--- it failed before its first message
-pub fails_at_start : (config : Configuration) (a left v : Option (List ℕ)) (fault : CoreFault) → Fails config a left v v (serve_fault_of fault)
-fails_at_start config None left v core_fault.Memory = record { prefix = tt; answered = λ e. tt; comes = tt }
-fails_at_start config None left v core_fault.Exhausted = record { prefix = tt; answered = λ e. tt; comes = tt }
-fails_at_start config (Some bytes) left v core_fault.Memory = record { prefix = nothing_sent v (output config bytes); answered = λ e. cc; comes = tt }
-fails_at_start config (Some bytes) left v core_fault.Exhausted = record { prefix = nothing_sent v (output config bytes); answered = λ e. cc; comes = tt }
-
-pub core_caused : (a b k l : Counts) (fault : CoreFault) → IsCaused a b k l (serve_fault_of fault)
-core_caused a b k l core_fault.Memory = tt
-core_caused a b k l core_fault.Exhausted = tt
 
 module _ (config : Configuration) (a left v w : Option (List ℕ)) (last : Option LastAnswer) where
   all-prefix : (all : List ℕ) → Appends v w all → SendsPrefix v w all
@@ -433,6 +498,7 @@ cause-read a b k l (Ok end) h = tt
 cause-read a b k l (Err served.Read) h = λ e. h
 cause-read a b k l (Err served.Write) h = λ e. cc
 cause-read a b k l (Err served.Memory) h = λ e. cc
+cause-read a b k l (Err served.ThreadRefused) h = λ e. cc
 cause-read a b k l (Err served.Exhausted) h = λ e. cc
 cause-read a b k l (Err served.BadRoot) h = λ e. cc
 cause-read a b k l (Err (served.BadPath index)) h = λ e. cc
@@ -442,6 +508,7 @@ cause-write a b k l (Ok end) h = tt
 cause-write a b k l (Err served.Read) h = λ e. cc
 cause-write a b k l (Err served.Write) h = λ e. h
 cause-write a b k l (Err served.Memory) h = λ e. cc
+cause-write a b k l (Err served.ThreadRefused) h = λ e. cc
 cause-write a b k l (Err served.Exhausted) h = λ e. cc
 cause-write a b k l (Err served.BadRoot) h = λ e. cc
 cause-write a b k l (Err (served.BadPath index)) h = λ e. cc

@@ -1,8 +1,7 @@
--- What a core does in steps: the messages that it may process, and rounds of work.
-use Rattle.std.specs.Prelude.{◌≡◌, ℕ, zero, suc, ◌++◌, List, ◌∷◌, Option, None, option_map, option_and_then, length, map, true}
+-- What a core does in steps: the messages that it may process, rounds of work, and the messages of a stream.
+use Rattle.std.specs.Prelude.{◌≡◌, ◌⊎◌, ℕ, zero, suc, ◌++◌, List, [], ◌∷◌, Option, None, option_map, option_and_then, length, map, true}
 use Rattle.std.specs.Option.{option_to_list}
 use Rattle.serde_json.specs.Written.{compact_text}
-use Rattle.collector_laws.specs.WorkLaws.{NoneIsOut}
 use Rattle.piece_collector.specs.Board.{IsFull, IsFirstWanted}
 use Rattle.piece_collector.specs.History.{first_wanted, history, stands_at}
 use Rattle.lsp_rpc.specs.Message.{MessageData, message_of}
@@ -44,16 +43,33 @@ pub record HasWorked (opening : ℕ) (config : Configuration) (core : CoreState)
   pub worked : IsWorked opening config h after
   pub is_after : IsAfter opening config core after
 
--- ---- messages that are answered at once
+-- ---- messages of a stream
 
--- the core has processed messages with these bodies, none waits, and no job is out
+-- the core has processed messages with these bodies, and none waits
 pub record Knows (config : Configuration) (core : CoreState) (bodies : List (List ℕ)) : Type 0 where
   pub history : List Event
   pub is_after : IsAfter 0 config core history
   pub came : messages history ≡ bodies
   pub idle : processed history ≡ length (messages history)
-  pub none_out : NoneIsOut 0 (board_events config history)
+
+-- the core has processed messages with these bodies, and not yet the last one, which has this body
+pub record Awaits (config : Configuration) (core : CoreState) (bodies : List (List ℕ)) (body : List ℕ) : Type 0 where
+  pub history : List Event
+  pub is_after : IsAfter 0 config core history
+  pub came : messages history ≡ bodies ++ body ∷ []
+  pub count : processed history ≡ length bodies
+
+-- the core is as after some history with the messages of this one, as many of them processed: only jobs and work may differ
+pub record WorksOn (opening : ℕ) (config : Configuration) (core : CoreState) (h : List Event) : Type 0 where
+  pub after : List Event
+  pub is_after : IsAfter opening config core after
+  pub came : messages after ≡ messages h
+  pub count : processed after ≡ processed h
 
 -- the bodies of the replies to one more message
 abbrev pub replies_to : Configuration → List (List ℕ) → List ℕ → List (List ℕ)
 replies_to config bodies body = map compact_text (turn (session config bodies).state (message_of body)).replies
+
+-- the core has processed the message with this body too, with these replies, or still awaits it; then nothing is said of the replies
+abbrev pub Progresses : Configuration → CoreState → List (List ℕ) → List ℕ → List (List ℕ) → Type 0
+Progresses config core bodies body replies = (Knows config core (bodies ++ body ∷ []) × (replies ≡ replies_to config bodies body)) ⊎ Awaits config core bodies body

@@ -2,13 +2,14 @@
 //!
 //! A [`Core`] takes the bodies of messages and gives the bodies of replies; it knows no streams. It gives a [`Job`] for each text,
 //! and takes what is made of it in any order; a request for an analysis waits until all work is there. [`serve`] reads the
-//! messages from a stream of frames and writes the replies to another, until the editor ends the session or the
-//! stream ends. [`run_core`] runs a core over a list of messages and of work that is brought. [`check`] lists what is wrong
+//! messages from a stream of frames, lets workers do the work, and writes the replies to another stream, until the editor ends the
+//! session or the stream ends. [`run_core`] runs a core over a list of messages and of work that is brought. [`check`] lists what is wrong
 //! in the files of a configuration, without an editor.
 #![tactic(auto)]
 
 mod answers;
 mod diagnostics;
+mod dispatch;
 mod ended;
 mod laws;
 mod phase;
@@ -34,3 +35,4 @@ pub use run::{CoreEvent, CoreRun, run_core};
 pub use serving::serve;
 pub use session_core::Core;
 pub use work_index::{Done, FileWork};
+pub use worker_pool::{Gate, OpenGate};

@@ -1,43 +1,69 @@
 // A session over streams of frames.
-ghost use Rattle.std.specs.Prelude.{◌≡◌, ◌+◌, ◌≤◌, Some, IfOk, IfErr, IfSome, OnOk};
+ghost use Rattle.std.specs.Prelude.{◌≡◌, ◌+◌, ◌≤◌, [], Some, IfOk, IfErr, IfSome, OnOk};
 ghost use Rattle.std.specs.Io.KnownBytes.{Appends};
 ghost use Rattle.lsp_frame.specs.Counts.{NoError, HasFailed};
 ghost use Rattle.lsp_frame.specs.FrameReader.{source_of, last_answer, IsOpen};
-ghost use Rattle.lsp_config.specs.Fault.{ComesWhileServing};
+ghost use Rattle.lsp_config.specs.Configuration.{Configuration};
+ghost use Rattle.lsp_config.specs.Fault.{ComesWhileServing, IsOfCore};
 ghost use Rattle.lsp_config.specs.Sending.{SendsPrefix};
 ghost use Rattle.lsp_session.specs.Serving.{Calls, IsCaused, Served};
+ghost use Rattle.lsp_session.specs.Steps.{Knows};
 ghost use Rattle.lsp_session.specs.Stream.{output, ended, behind_exit, IsExit, HasFrameCode, LeavesReader, Answered};
+ghost use Rattle.lsp_session.specs.View.{core_state};
 
 use crate::ended::Ended;
 use crate::session_core::Core;
-use crate::taking::take_next;
-use collector_laws::jobs_and_pieces;
+use crate::taking::take_turn;
 use lsp_config::{Config, ServeFault};
 use lsp_frame::{ByteSink, ByteSource, FrameReader};
 use std::alloc::Global;
-use std::sync::Wait;
+use std::marker::Send;
+use std::sync::{Arc, Wait};
+use std::thread::Threads;
+use worker_pool::{Gate, Pool, PoolFault};
 
-// Serves a session to its end.
-fn run<R: Wait, S: ByteSource, K: ByteSink>(
+// What a session is started with: the files, how many workers there are, and the gate that they pass.
+struct Start<'g, G: Gate> {
+    config: Config,
+    workers: usize,
+    gate: &'g Arc<G>,
+}
+
+// Starts the workers.
+fn start_pool<R: Threads + Wait + Clone + Send + Drop + 'static, G: Gate + 'static>(
     rt: &R,
     alloc: Global,
+    workers: usize,
+    gate: &Arc<G>,
+) -> Result<Pool, ServeFault>
+    ensures { IfErr result IsOfCore }
+{
+    let Ok(gate) = Arc::try_clone(gate) else {
+        return Err(ServeFault::Memory);
+    };
+    match Pool::start(rt, alloc, workers, gate) {
+        Ok(pool) => Ok(pool),
+        Err(PoolFault::Memory) => Err(ServeFault::Memory),
+        Err(PoolFault::ThreadRefused) => Err(ServeFault::ThreadRefused),
+    }
+}
+
+// Serves a session with a new core, message by message, to its end.
+fn serve_messages<R: Wait, S: ByteSource, K: ByteSink>(
+    rt: &R,
     reader: &mut FrameReader<S>,
     writer: &mut K,
-    config: Config,
+    core: &mut Core,
+    pool: &mut Pool,
 ) -> Result<Ended, ServeFault>
     requires { IsOpen reader.old }
-    ensures served { Served config (S.left (source_of reader.old)) (S.left (source_of reader.new)) (K.written writer.old) (K.written writer.new) (last_answer reader.new) result }
+    ensures served { (config : Configuration) → Knows config (core_state core.old) [] → Served config (S.left (source_of reader.old)) (S.left (source_of reader.new)) (K.written writer.old) (K.written writer.new) (last_answer reader.new) result }
     ensures reads { Calls (S.counts (source_of reader.old)) (S.counts (source_of reader.new)) result }
     ensures writes { Calls (K.counts writer.old) (K.counts writer.new) result }
     ensures cause { IfErr result (IsCaused (S.counts (source_of reader.old)) (S.counts (source_of reader.new)) (K.counts writer.old) (K.counts writer.new)) }
 {
-    jobs_and_pieces();
-    let mut core = match Core::new(alloc, config) {
-        Ok(core) => core,
-        Err(fault) => return Err(ServeFault::from(fault)),
-    };
     for _turn in rt.forever() {
-        match take_next(reader, writer, &mut core) {
+        match take_turn(rt, reader, writer, core, pool) {
             Ok(None) => {}
             Ok(Some(ended)) => return Ok(ended),
             Err(fault) => return Err(fault),
@@ -46,21 +72,68 @@ fn run<R: Wait, S: ByteSource, K: ByteSink>(
     unreachable!()
 }
 
-/// Serves a session: reads the messages of an editor from the frames of `reader`, and writes a frame to `writer` for
-/// each reply, before the next message is read.
-///
-/// It ends with the message `exit`, behind which nothing is read, or with the input: at its end or at a frame that
-/// can't be read. The faults: `Read` where the source failed, `Write` where the sink did, `Memory` where memory was refused,
-/// and `Exhausted` where a text found no stamp. Whatever it ends with, what was written is a prefix of what the session says on the whole
-/// input, and all of it where no fault came.
-///
-/// `reader` must have answered no fault and no end.
-pub fn serve<R: Wait, S: ByteSource, K: ByteSink>(
+// Serves a session from its start to its end.
+fn run<
+    R: Threads + Wait + Clone + Send + Drop + 'static,
+    S: ByteSource,
+    K: ByteSink,
+    G: Gate + 'static,
+>(
     rt: &R,
     alloc: Global,
     reader: &mut FrameReader<S>,
     writer: &mut K,
+    start: Start<'_, G>,
+) -> Result<Ended, ServeFault>
+    requires { IsOpen reader.old }
+    ensures served { Served start.entry.config (S.left (source_of reader.old)) (S.left (source_of reader.new)) (K.written writer.old) (K.written writer.new) (last_answer reader.new) result }
+    ensures reads { Calls (S.counts (source_of reader.old)) (S.counts (source_of reader.new)) result }
+    ensures writes { Calls (K.counts writer.old) (K.counts writer.new) result }
+    ensures cause { IfErr result (IsCaused (S.counts (source_of reader.old)) (S.counts (source_of reader.new)) (K.counts writer.old) (K.counts writer.new)) }
+{
+    let Start {
+        config,
+        workers,
+        gate,
+    } = start;
+    let mut core = match Core::new(alloc, config) {
+        Ok(core) => core,
+        Err(fault) => return Err(ServeFault::from(fault)),
+    };
+    let mut pool = match start_pool(rt, alloc, workers, gate) {
+        Ok(pool) => pool,
+        Err(fault) => return Err(fault),
+    };
+    let ended = serve_messages(rt, reader, writer, &mut core, &mut pool);
+    pool.close(rt);
+    ended
+}
+
+/// Serves a session: reads the messages of an editor from the frames of `reader`, and writes a frame to `writer` for
+/// each reply, before the next message is read. So many `workers` lex and parse the texts in threads of their own, and gather
+/// their facts; 0 counts as 1, and over 64 as 64. Each passes the gate before it works on a text. A text is handed
+/// out as soon as fewer than 256 are with the workers, not only when a message asks for it.
+///
+/// It ends with the message `exit`, behind which nothing is read, or with the input: at its end or at a frame that
+/// can't be read. The faults: `Read` where the source failed, `Write` where the sink did, `Memory` where memory was refused, also
+/// to a worker whose text still counts, or where a job couldn't be sent, `ThreadRefused` where a thread was refused or no worker is left,
+/// and `Exhausted` where a text found no stamp. Whatever it ends with, what was written is a prefix of what the session says on the whole
+/// input, and all of it where no fault came. By then every worker has ended (it joins them; no clause says so).
+///
+/// `reader` must have answered no fault and no end. It may wait for a worker, and nothing is promised of when that is done.
+pub fn serve<
+    R: Threads + Wait + Clone + Send + Drop + 'static,
+    S: ByteSource,
+    K: ByteSink,
+    G: Gate + 'static,
+>(
+    rt: &R,
+    alloc: Global,
+    reader: &mut FrameReader<S>,
+    writer: &mut K,
+    gate: &Arc<G>,
     config: Config,
+    workers: usize,
 ) -> Result<Ended, ServeFault>
     requires { IsOpen reader.old }
 
@@ -98,5 +171,10 @@ pub fn serve<R: Wait, S: ByteSource, K: ByteSink>(
     ensures reads_once { (S.counts (source_of reader.new)).errors ≤ (S.counts (source_of reader.old)).errors + 1 }
     ensures writes_once { (K.counts writer.new).errors ≤ (K.counts writer.old).errors + 1 }
 {
-    run(rt, alloc, reader, writer, config)
+    let start = Start {
+        config,
+        workers,
+        gate,
+    };
+    run(rt, alloc, reader, writer, start)
 }

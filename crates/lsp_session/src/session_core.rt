@@ -123,6 +123,9 @@ impl Core {
         ensures memory { last_fault self.old ≡ None → IfErr result (λ fault. fault ≡ CoreFault.Memory) }
         ensures open { OnOk result (last_fault self.new ≡ None) }
 
+        // The state of the session stays, also where it fails.
+        ensures state { (core_state self.new).state ≡ (core_state self.old).state }
+
         // What the core stood for, it stands for with one more job asked for.
         ensures gives { OnOk result ((opening : ℕ) (config : Configuration) (h : List Event) → IsAfter opening config (core_state self.old) h → IsAfter opening config (core_state self.new) (Give ∷ h)) }
 

@@ -1,5 +1,5 @@
 // One message of a stream: it is taken, and answered before the next one.
-ghost use Rattle.std.specs.Prelude.{◌≡◌, ℕ, List, [], ◌∷◌, ◌++◌, false, Option, None, IfErr, IfSome, OnOk, OnErr};
+ghost use Rattle.std.specs.Prelude.{◌≡◌, ℕ, List, [], ◌∷◌, ◌++◌, false, Option, None, Ok, IfErr, IfSome, OnOk, OnErr};
 ghost use Rattle.std.specs.Io.KnownBytes.{Appends};
 ghost use Rattle.lsp_frame.specs.Counts.{HasFailed};
 ghost use Rattle.lsp_frame.specs.FrameReader.{source_of, last_answer, IsOpen};
@@ -12,12 +12,14 @@ ghost use Rattle.lsp_session.specs.Steps.{Knows, replies_to};
 ghost use Rattle.lsp_session.specs.Stream.{frames_of, is_exited};
 ghost use Rattle.lsp_session.specs.View.{core_state};
 
+use crate::dispatch::{answer, hand_out};
 use crate::ended::Ended;
 use crate::reply::Reply;
 use crate::session_core::Core;
-use crate::working::answer;
 use lsp_config::ServeFault;
 use lsp_frame::{ByteSink, ByteSource, Frame, FrameFault, FrameReader, write_frame};
+use std::sync::Wait;
+use worker_pool::Pool;
 
 // Writes a frame for each reply, in order.
 fn write_all<K: ByteSink>(writer: &mut K, replies: &[Reply]) -> Result<(), ServeFault>
@@ -37,16 +39,22 @@ fn write_all<K: ByteSink>(writer: &mut K, replies: &[Reply]) -> Result<(), Serve
 }
 
 // Takes a message, and writes the replies to it.
-fn reply_to<K: ByteSink>(writer: &mut K, core: &mut Core, body: &[u8]) -> Result<(), ServeFault>
+fn reply_to<R: Wait, K: ByteSink>(
+    rt: &R,
+    writer: &mut K,
+    core: &mut Core,
+    pool: &mut Pool,
+    body: &[u8],
+) -> Result<(), ServeFault>
     ensures knows { OnOk result ((config : Configuration) (bodies : List (List ℕ)) → Knows config (core_state core.old) bodies → Knows config (core_state core.new) (bodies ++ body.now ∷ [])) }
     ensures ok { OnOk result ((config : Configuration) (bodies : List (List ℕ)) → Knows config (core_state core.old) bodies → Appends (K.written writer.old) (K.written writer.new) (frames_of (replies_to config bodies body.now))) }
     ensures err { OnErr result ((config : Configuration) (bodies : List (List ℕ)) → Knows config (core_state core.old) bodies → SendsPrefix (K.written writer.old) (K.written writer.new) (frames_of (replies_to config bodies body.now))) }
     ensures fault { IfErr result (IsWriteOrCore (K.counts writer.old) (K.counts writer.new)) }
     ensures calls { Calls (K.counts writer.old) (K.counts writer.new) result }
 {
-    let replies = match answer(core, body) {
+    let replies = match answer(rt, core, pool, body) {
         Ok(replies) => replies,
-        Err(fault) => return Err(ServeFault::from(fault)),
+        Err(fault) => return Err(fault),
     };
     write_all(writer, replies.as_slice())
 }
@@ -62,9 +70,11 @@ fn exit_in(core: &Core) -> Option<Ended>
 }
 
 // Takes a message, writes the replies to it, and says how the session has ended, if it has.
-fn take_message<K: ByteSink>(
+fn take_message<R: Wait, K: ByteSink>(
+    rt: &R,
     writer: &mut K,
     core: &mut Core,
+    pool: &mut Pool,
     body: &[u8],
 ) -> Result<Option<Ended>, ServeFault>
     ensures comes { (config : Configuration) (a b c v : Option (List ℕ)) → Serving config a b (core_state core.old) v (K.written writer.old) → is_exited (core_state core.old).state.phase ≡ false
@@ -72,7 +82,7 @@ fn take_message<K: ByteSink>(
     ensures fault { IfErr result (IsWriteOrCore (K.counts writer.old) (K.counts writer.new)) }
     ensures calls { Calls (K.counts writer.old) (K.counts writer.new) result }
 {
-    match reply_to(writer, core, body) {
+    match reply_to(rt, writer, core, pool, body) {
         Ok(()) => Ok(exit_in(core)),
         Err(fault) => Err(fault),
     }
@@ -90,10 +100,12 @@ fn end_by(fault: FrameFault) -> Result<Option<Ended>, ServeFault>
 }
 
 // Takes the next message of the stream, and says how the session has ended, if it has.
-pub fn take_next<S: ByteSource, K: ByteSink>(
+fn take_next<R: Wait, S: ByteSource, K: ByteSink>(
+    rt: &R,
     reader: &mut FrameReader<S>,
     writer: &mut K,
     core: &mut Core,
+    pool: &mut Pool,
 ) -> Result<Option<Ended>, ServeFault>
     requires { IsOpen reader.old }
     ensures comes { (config : Configuration) (a v : Option (List ℕ)) → Serving config a (S.left (source_of reader.old)) (core_state core.old) v (K.written writer.old) → is_exited (core_state core.old).state.phase ≡ false
@@ -101,10 +113,33 @@ pub fn take_next<S: ByteSource, K: ByteSink>(
     ensures reads { Calls (S.counts (source_of reader.old)) (S.counts (source_of reader.new)) result }
     ensures writes { Calls (K.counts writer.old) (K.counts writer.new) result }
     ensures cause { IfErr result (IsCaused (S.counts (source_of reader.old)) (S.counts (source_of reader.new)) (K.counts writer.old) (K.counts writer.new)) }
+    ensures goes_on { result ≡ Ok None → IsOpen reader.new }
 {
     match reader.read_frame() {
-        Ok(Frame::Body(body)) => take_message(writer, core, body.as_slice()),
+        Ok(Frame::Body(body)) => take_message(rt, writer, core, pool, body.as_slice()),
         Ok(Frame::End) => Ok(Some(Ended::InputEnd)),
         Err(fault) => end_by(fault),
+    }
+}
+
+/// Hands out jobs, takes the next message of the stream, writes the replies to it, and says how the session has ended, if it has.
+pub fn take_turn<R: Wait, S: ByteSource, K: ByteSink>(
+    rt: &R,
+    reader: &mut FrameReader<S>,
+    writer: &mut K,
+    core: &mut Core,
+    pool: &mut Pool,
+) -> Result<Option<Ended>, ServeFault>
+    requires { IsOpen reader.old }
+    ensures comes { (config : Configuration) (a v : Option (List ℕ)) → Serving config a (S.left (source_of reader.old)) (core_state core.old) v (K.written writer.old) → is_exited (core_state core.old).state.phase ≡ false
+        → Comes config a (S.left (source_of reader.new)) (core_state core.new) v (K.written writer.new) (last_answer reader.new) result }
+    ensures reads { Calls (S.counts (source_of reader.old)) (S.counts (source_of reader.new)) result }
+    ensures writes { Calls (K.counts writer.old) (K.counts writer.new) result }
+    ensures cause { IfErr result (IsCaused (S.counts (source_of reader.old)) (S.counts (source_of reader.new)) (K.counts writer.old) (K.counts writer.new)) }
+    ensures goes_on { result ≡ Ok None → IsOpen reader.new }
+{
+    match hand_out(rt, core, pool) {
+        Ok(()) => take_next(rt, reader, writer, core, pool),
+        Err(fault) => Err(fault),
     }
 }

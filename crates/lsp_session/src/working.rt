@@ -1,13 +1,12 @@
-// The work of a core, done on this thread, and messages that are answered at once.
-ghost use Rattle.std.specs.Prelude.{◌≡◌, ℕ, List, [], ◌∷◌, ◌++◌, false, None, IfOk, OnOk};
+// The work of a core, done on this thread.
+ghost use Rattle.std.specs.Prelude.{◌≡◌, ℕ, List, false, None, IfOk, OnOk};
 ghost use Rattle.piece_collector.specs.Board.{IsFirstWanted};
 ghost use Rattle.lsp_config.specs.Configuration.{Configuration};
 ghost use Rattle.lsp_session.specs.Core.{Event, Offer, IsAfter, board_events};
 ghost use Rattle.lsp_session.specs.Run.{event_of};
-ghost use Rattle.lsp_session.specs.Steps.{with_round, HasWorked, Knows, replies_to};
+ghost use Rattle.lsp_session.specs.Steps.{with_round, HasWorked};
 ghost use Rattle.lsp_session.specs.View.{core_state};
 
-use crate::reply::Reply;
 use crate::session_core::Core;
 use collector_laws::{jobs_and_pieces, rounds_of_work};
 use lsp_config::CoreFault;
@@ -52,20 +51,4 @@ pub fn do_all(core: &mut Core) -> Result<(), CoreFault>
         }
     }
     Ok(())
-}
-
-/// Gives the core a message, and does the work that its reply needs. None waited before.
-pub fn answer(core: &mut Core, body: &[u8]) -> Result<Vec<Reply>, CoreFault>
-    ensures { IfOk result (λ replies. (config : Configuration) (bodies : List (List ℕ)) → Knows config (core_state core.old) bodies
-        → Knows config (core_state core.new) (bodies ++ body.now ∷ []) × (replies.items ≡ replies_to config bodies body.now)) }
-{
-    jobs_and_pieces();
-    rounds_of_work();
-    core.message(body)?;
-    let replies = core.advance()?;
-    if !core.waits() {
-        return Ok(replies);
-    }
-    do_all(core)?;
-    core.advance()
 }

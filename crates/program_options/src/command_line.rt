@@ -18,6 +18,8 @@ enum Refusal {
     NoCommand,
     // A folder of `serve` has a path that doesn't begin with `/`.
     RelativeFolder,
+    // The number of workers isn't written in digits alone.
+    SignedNumber,
     // Memory was refused.
     Memory,
 }
@@ -51,6 +53,24 @@ fn given_dirs<'a>(alloc: Global, given: &ArgMatches<'a>) -> Result<Vec<&'a str>,
     Ok(dirs)
 }
 
+// Whether the number of workers is written in digits alone, if one is given.
+fn has_plain_number(given: &ArgMatches<'_>) -> bool {
+    match given.get_str("workers") {
+        Some(number) => number.as_bytes().iter().all(|byte| byte.is_ascii_digit()),
+        None => true,
+    }
+}
+
+// How many workers are asked for. The option takes no number but one from 1 to 64.
+fn given_workers(given: &ArgMatches<'_>) -> u8
+    ensures { (1 ≤ result) × (result ≤ 64) }
+{
+    match given.get_one::<u8>("workers") {
+        Some(workers) => workers.clamp(1, 64),
+        None => DEFAULT_WORKERS,
+    }
+}
+
 // What `check` is asked for.
 fn check_options<'a>(alloc: Global, given: &ArgMatches<'a>) -> Result<Options<'a>, AllocError>
     ensures checks { IfOk result (λ options. options.check ≡ true) }
@@ -74,10 +94,13 @@ fn serve_options<'a>(alloc: Global, given: &ArgMatches<'a>) -> Result<Options<'a
     if !are_absolute(&dirs) {
         return Err(Refusal::RelativeFolder);
     }
+    if !has_plain_number(given) {
+        return Err(Refusal::SignedNumber);
+    }
     Ok(Options {
         check: false,
         dirs,
-        workers: DEFAULT_WORKERS,
+        workers: given_workers(given),
     })
 }
 
@@ -129,6 +152,10 @@ fn error_of(program: &mut Command<'_>, refusal: Refusal) -> Result<Error, AllocE
         Refusal::RelativeFolder => program.error(
             ErrorKind::ValueValidation,
             "the folder of '--root <DIR>' has to begin with '/'",
+        ),
+        Refusal::SignedNumber => program.error(
+            ErrorKind::ValueValidation,
+            "the number of '--workers <N>' has to be written in digits alone",
         ),
     }
 }

@@ -1,17 +1,19 @@
 // The commands of the program, with their options and what is said of them.
 
+use clap::builder::ValueParser;
 use clap::{Arg, ArgAction, Command};
 use std::alloc::{AllocError, Global};
 
 // What `protols --version` writes behind the program's name: its version, as `initialize` tells it, and the kit that it is
 // proved with, by the line of `rt version`.
-const VERSION: &str = "1 (rattle-kit-13f logic dac8208d650f15bf)";
+const VERSION: &str = "1 (rattle-kit-13b logic dac8208d650f15bf)";
 
 // How the program is called. Each message on a wrong command line shows it.
-const USAGE: &str = "protols serve [--root DIR] [--stdio] [--clientProcessId ID]
+const USAGE: &str = "protols serve [--root DIR] [--workers N] [--stdio] [--clientProcessId ID]
        protols check [--root DIR]";
 
-const SERVE_USAGE: &str = "protols serve [--root DIR] [--stdio] [--clientProcessId ID]";
+const SERVE_USAGE: &str =
+    "protols serve [--root DIR] [--workers N] [--stdio] [--clientProcessId ID]";
 
 const CHECK_USAGE: &str = "protols check [--root DIR]";
 
@@ -62,6 +64,10 @@ The folder of the .proto files: they are read with those of its{n}\
 subfolders, and imports name them by their paths below it. Names{n}\
 that begin with `.` and symbolic links are skipped [default: .]";
 
+const WORKERS_HELP: &str = "\
+How many threads lex and parse the files, from 1 to 64. The answers{n}\
+are the same with any number [default: 4]";
+
 const STDIO_HELP: &str = "\
 Talk over standard input and output, which is the only way and the{n}\
 default. Editors pass it; it changes nothing";
@@ -77,6 +83,16 @@ fn root_option<'a>(alloc: Global, help: &'a str) -> Arg<'a> {
         .value_name("DIR")
         .action(ArgAction::Set)
         .help(help)
+}
+
+// The option that says how many workers there are.
+fn workers_option<'a>(alloc: Global) -> Arg<'a> {
+    Arg::new(alloc, "workers")
+        .long("workers")
+        .value_name("N")
+        .value_parser(ValueParser::Unsigned(1, 64))
+        .action(ArgAction::Set)
+        .help(WORKERS_HELP)
 }
 
 // The option that editors pass to say how they talk to the server.
@@ -108,6 +124,7 @@ fn plain_serve<'a>(alloc: Global) -> Command<'a> {
 // `protols serve`, with its options.
 fn serve_command<'a>(alloc: Global) -> Result<Command<'a>, AllocError> {
     let serve = plain_serve(alloc).arg(root_option(alloc, ROOT_HELP))?;
+    let serve = serve.arg(workers_option(alloc))?;
     let serve = serve.arg(stdio_option(alloc))?;
     serve.arg(client_option(alloc))
 }

@@ -10,42 +10,66 @@ use crate::failure::Failure;
 use crate::folders::{configuration, files_of};
 use crate::status::{fail, status_of, status_of_check};
 use lsp_frame::{FrameReader, FromRead, ToWrite};
-use lsp_session::{Config, Ended, ServeFault, check, serve};
+use lsp_session::{Config, Ended, OpenGate, ServeFault, check, serve};
 use program_options::options;
 use std::env::{self, Env};
 use std::io::{self, BufReader, ErrorKind};
+use std::marker::Send;
 use std::process::ExitCode;
 use std::rt::Files;
-use std::sync::Wait;
+use std::sync::{Arc, Wait};
+use std::thread::Threads;
 
 const NOT_UTF8: &str = "error: a word of the command line isn't UTF-8
 
-Usage: protols serve [--root DIR] [--stdio] [--clientProcessId ID]
+Usage: protols serve [--root DIR] [--workers N] [--stdio] [--clientProcessId ID]
        protols check [--root DIR]
 
 For more information, try '--help'.";
 
-// Serves an editor on standard input and output. The input is buffered, the output is written through.
-fn serve_with<R: Wait + Input + Print + AllocGlobal>(
+// Serves an editor on standard input and output with so many workers. The input is buffered, the output is written through.
+fn serve_with<R: Threads + Wait + Clone + Send + Drop + Input + Print + AllocGlobal + 'static>(
     rt: &R,
     config: Config,
+    workers: u8,
 ) -> Result<Ended, ServeFault> {
     let alloc = rt.alloc();
+    let Ok(gate) = Arc::new(alloc, OpenGate) else {
+        return Err(ServeFault::Memory);
+    };
     let Ok(input) = BufReader::new(alloc, rt.reader()) else {
         return Err(ServeFault::Memory);
     };
     let mut reader = FrameReader::new(alloc, FromRead::new(input));
     let mut writer = ToWrite::new(io::writer(rt));
-    serve(rt, alloc, &mut reader, &mut writer, config)
+    serve(
+        rt,
+        alloc,
+        &mut reader,
+        &mut writer,
+        &gate,
+        config,
+        usize::from(workers),
+    )
 }
 
 // Serves an editor, with the files of these folders.
-fn serve_editor<'d, R: Wait + Files + Input + Print + Eprint + AllocGlobal>(
-    rt: &R,
-    dirs: &[&'d str],
-) -> Result<Ended, Failure<'d>> {
+fn serve_editor<
+    'd,
+    R: Threads
+        + Wait
+        + Clone
+        + Send
+        + Drop
+        + Files
+        + Input
+        + Print
+        + Eprint
+        + AllocGlobal
+        + 'static,
+>(rt: &R, dirs: &[&'d str], workers: u8) -> Result<Ended, Failure<'d>> {
     let config = configuration(rt, dirs)?;
-    Ok(serve_with(rt, config)?)
+    Ok(serve_with(rt, config, workers)?)
 }
 
 // Writes a line for each fault in the files of the folder to standard output, and answers whether one is an error. With
@@ -95,7 +119,7 @@ fn main(rt: HostRuntime) -> ExitCode {
     };
     match options(rt.alloc(), words.as_slice()) {
         Ok(asked) if asked.check => status_of_check(&rt, check_files(&rt, asked.dirs.as_slice())),
-        Ok(asked) => status_of(&rt, serve_editor(&rt, asked.dirs.as_slice())),
+        Ok(asked) => status_of(&rt, serve_editor(&rt, asked.dirs.as_slice(), asked.workers)),
         Err(error) => explain(&rt, &error),
     }
 }

@@ -6,6 +6,7 @@ mod configs;
 mod cores;
 mod devices;
 mod frames;
+mod gates;
 mod sessions;
 mod settings;
 mod streams;
@@ -13,10 +14,12 @@ mod streams;
 use case_notation::{Answer, Names, behind, fields_of};
 use std::alloc::Global;
 use std::io::{self, BufRead, BufReader};
+use std::marker::Send;
 use std::sync::Wait;
+use std::thread::Threads;
 
 // Writes the answer to a call on some fields.
-fn answer<R: Wait>(
+fn answer<R: Threads + Wait + Clone + Send + Drop + 'static>(
     rt: &R,
     names: &Names,
     line: &mut String,
@@ -26,6 +29,8 @@ fn answer<R: Wait>(
     match call {
         "source" | "sink" | "fails once" => devices::answer(names.alloc(), line, call, fields),
         "serve" => streams::serve_stream(rt, names.alloc(), line, fields),
+        "meet" => gates::meet(rt, names.alloc(), line, fields),
+        "hold" => gates::hold(rt, names.alloc(), line, fields),
         "check" => streams::check_files(names.alloc(), line, fields),
         "config" => configs::answer(names.alloc(), line, fields),
         "session" => sessions::answer(names, line, fields),
@@ -38,7 +43,7 @@ fn answer<R: Wait>(
 }
 
 // Writes the answer to a line that is written out, or gives a piece a name.
-fn answer_fields<R: Wait>(
+fn answer_fields<R: Threads + Wait + Clone + Send + Drop + 'static>(
     rt: &R,
     names: &mut Names,
     line: &mut String,
@@ -55,13 +60,23 @@ fn answer_fields<R: Wait>(
     Ok(write!(line, "let {name}")?)
 }
 
-fn answer_whole<R: Wait>(rt: &R, names: &mut Names, line: &mut String, given: &str) -> Answer<()> {
+fn answer_whole<R: Threads + Wait + Clone + Send + Drop + 'static>(
+    rt: &R,
+    names: &mut Names,
+    line: &mut String,
+    given: &str,
+) -> Answer<()> {
     let fields = fields_of(names.alloc(), given)?;
     answer_fields(rt, names, line, given, fields.as_slice())
 }
 
 // Writes the answer to a line. A remark and an empty line are answered by themselves.
-fn answer_line<R: Wait>(rt: &R, names: &mut Names, line: &mut String, given: &str) -> Answer<()> {
+fn answer_line<R: Threads + Wait + Clone + Send + Drop + 'static>(
+    rt: &R,
+    names: &mut Names,
+    line: &mut String,
+    given: &str,
+) -> Answer<()> {
     if given.is_empty() || given.starts_with('#') {
         return Ok(line.push_str(given)?);
     }
@@ -70,7 +85,11 @@ fn answer_line<R: Wait>(rt: &R, names: &mut Names, line: &mut String, given: &st
 }
 
 // The answer to a line, and to one that can't be read what is wrong.
-fn print_answer<R: Wait + Print>(rt: &R, names: &mut Names, given: &str) -> io::Result<()> {
+fn print_answer<R: Threads + Wait + Clone + Send + Drop + Print + 'static>(
+    rt: &R,
+    names: &mut Names,
+    given: &str,
+) -> io::Result<()> {
     let mut line = String::new(names.alloc());
     match answer_line(rt, names, &mut line, given) {
         Ok(()) => {

@@ -12,7 +12,11 @@ pub fn answer_codes(line: &mut String) -> Answer<()> {
         let code = fault.code();
         write!(line, "{code} ")?;
     }
-    for fault in [ServeFault::Memory, ServeFault::Exhausted] {
+    for fault in [
+        ServeFault::Memory,
+        ServeFault::ThreadRefused,
+        ServeFault::Exhausted,
+    ] {
         let code = fault.code();
         write!(line, "{code} ")?;
     }

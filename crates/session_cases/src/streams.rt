@@ -3,40 +3,50 @@ use crate::configs::{config_of, write_fault};
 use crate::settings::{Settings, bytes_of, note, push_bytes};
 use case_notation::{Answer, field};
 use lsp_frame::{FrameReader, MemSink, MemSource};
-use lsp_session::{Ended, ServeFault, check, serve};
+use lsp_session::{Ended, OpenGate, ServeFault, check, serve};
 use std::alloc::{AllocError, Global};
-use std::sync::Wait;
+use std::marker::Send;
+use std::sync::{Arc, Wait};
+use std::thread::Threads;
 
-fn write_ended(line: &mut String, ended: Result<Ended, ServeFault>) -> Result<(), AllocError> {
+/// How many workers each session is served with in turn.
+const WORKERS: [usize; 4] = [1, 3, 4, 64];
+
+/// Writes how a session ended.
+pub fn write_ended(line: &mut String, ended: Result<Ended, ServeFault>) -> Result<(), AllocError> {
     match ended {
         Ok(ended) => write!(line, "{ended:?}"),
         Err(fault) => write_fault(line, fault),
     }
 }
 
-// Writes what went out behind an answer.
-fn write_sent(line: &mut String, sink: &MemSink) -> Answer<()> {
+/// Writes what went out behind an answer.
+pub fn write_sent(line: &mut String, sink: &MemSink) -> Answer<()> {
     line.push_str(": ")?;
     push_bytes(line, sink.written())
 }
 
 // How a session without files ends over a stream, and what went out.
-fn serve_with<R: Wait>(
+fn serve_with<R: Threads + Wait + Clone + Send + Drop + 'static>(
     rt: &R,
     alloc: Global,
     source: MemSource,
     mut sink: MemSink,
+    workers: usize,
 ) -> Answer<String> {
     let mut reader = FrameReader::new(alloc, source);
-    let ended = serve(rt, alloc, &mut reader, &mut sink, config_of(alloc, &[])?);
+    let gate = Arc::new(alloc, OpenGate)?;
+    let config = config_of(alloc, &[])?;
+    let ended = serve(rt, alloc, &mut reader, &mut sink, &gate, config, workers);
     let mut line = String::new(alloc);
     write_ended(&mut line, ended)?;
     write_sent(&mut line, &sink)?;
     Ok(line)
 }
 
-/// The settings, the room of the sink and the bytes of the source: how a session without files ends, and what went out.
-pub fn serve_stream<R: Wait>(
+/// The settings, the room of the sink and the bytes of the source: how a session without files ends, and what went out, with each
+/// number of workers.
+pub fn serve_stream<R: Threads + Wait + Clone + Send + Drop + 'static>(
     rt: &R,
     alloc: Global,
     line: &mut String,
@@ -45,10 +55,13 @@ pub fn serve_stream<R: Wait>(
     let settings = Settings::of(field(fields, 0))?;
     let bytes = bytes_of(alloc, field(fields, 2))?;
     for size in settings.sizes.split(' ') {
-        let source = settings.source(alloc, size, bytes.as_slice())?;
-        let sink = settings.sink(alloc, size, field(fields, 1))?;
-        let answer = serve_with(rt, alloc, source, sink)?;
-        note(line, size, answer.as_str())?;
+        for workers in WORKERS {
+            let source = settings.source(alloc, size, bytes.as_slice())?;
+            let sink = settings.sink(alloc, size, field(fields, 1))?;
+            let answer = serve_with(rt, alloc, source, sink, workers)?;
+            let how = format!(in alloc; "{size} and {workers} workers")?;
+            note(line, how.as_str(), answer.as_str())?;
+        }
     }
     Ok(())
 }

@@ -1,6 +1,7 @@
+use Rattle.std.proofs.Common.{sym, ◌∙◌}
 use Rattle.lsp_frame.specs.FrameReader.{source_of}
 use Rattle.lsp_session.specs.View.{core_state}
-use Rattle.lsp_session.proofs.ServingLemmas.{input_ends, fault_comes, fault_calls, fault_cause, message_caused, calm_calls, no_calls}
+use Rattle.lsp_session.proofs.ServingLemmas.{input_ends, fault_comes, fault_calls, fault_cause, message_caused, ends_by-not, calm_calls, no_calls}
 use Rattle.lsp_session.proofs.taking.take_next.Goals as goal
 
 pub returns-in-Ok-Body-clause-comes : goal.returns-in-Ok-Body-clause-comes
@@ -43,3 +44,9 @@ returns-in-Err-clause-writes g c = no_calls _ _
 
 pub returns-in-Err-clause-cause : goal.returns-in-Err-clause-cause
 returns-in-Err-clause-cause g c = rw c.end_by.ensures (fault_cause (g.S.ByteSource.counts (source_of c.args.reader.now)) (g.S.ByteSource.counts (source_of c.read_frame.new.self)) (g.K.ByteSink.counts c.args.writer.now) (g.K.ByteSink.counts c.args.writer.now) c.in-Err.fault (c.in-Err.ensures.cause c.requires))
+
+pub returns-in-Ok-Body-clause-goes_on : goal.returns-in-Ok-Body-clause-goes_on
+returns-in-Ok-Body-clause-goes_on g c = λ none. rw c.in-Ok-Body.field-0-is at c.in-Ok-Body.ensures.keeps
+
+pub returns-in-Err-clause-goes_on : goal.returns-in-Err-clause-goes_on
+returns-in-Err-clause-goes_on g c = λ none. absurd (ends_by-not c.in-Err.fault (sym c.end_by.ensures ∙ none))

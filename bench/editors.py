@@ -1,0 +1,88 @@
+"""Editors over folders of many files, which the benchmarks time."""
+import os
+import pathlib
+import subprocess
+import time
+
+import stream
+from trees import ordinary, path
+
+# A line behind the last one of each text.
+LAST_LINE = 1_000_000
+
+# A file that all others import.
+HUB = "hub.proto"
+HUB_TEXT = 'syntax = "proto3";\npackage shop;\nmessage Hub { }\n'
+
+
+def put_tree(folder, size, hub=False):
+    """Writes the files of a workspace, on request with one that all others import, and gives their paths."""
+    paths = [path(n) for n in range(size)]
+    for n, place in enumerate(paths):
+        file = folder / place
+        file.parent.mkdir(parents=True, exist_ok=True)
+        file.write_text(ordinary(n) + (f'import "{HUB}";\n' if hub else ""))
+    if hub:
+        (folder / HUB).write_text(HUB_TEXT)
+    return paths
+
+
+def cost(command, cwd, given=subprocess.DEVNULL):
+    """The seconds of a run over this input, and the most memory that it took, in megabytes."""
+    if given is not subprocess.DEVNULL:
+        given.seek(0)
+    start = time.perf_counter()
+    run = subprocess.Popen(command, cwd=cwd, stdin=given, stdout=subprocess.DEVNULL, stderr=subprocess.PIPE)
+    told = run.stderr.read()
+    _, status, usage = os.wait4(run.pid, 0)
+    taken = time.perf_counter() - start
+    if status != 0:
+        raise SystemExit(f"{command[0]} ended with status {os.waitstatus_to_exitcode(status)}: {told[-500:]!r}")
+    return taken, usage.ru_maxrss / 1024
+
+
+class Editor:
+    """An editor over a folder: it opens one document, changes it, and asks for its diagnostics."""
+
+    def __init__(self, holder, place, text, options=(), program=None):
+        self.uri = f"file://{holder}/{place}"
+        self.text = text
+        command = [program, "serve"] if program else stream.command()
+        self.server = subprocess.Popen([*command, *options, "--root", holder], stdin=subprocess.PIPE, stdout=subprocess.PIPE)
+        self.ask('{"jsonrpc":"2.0","id":1,"method":"initialize","params":{}}')
+
+    def __enter__(self):
+        return self
+
+    def __exit__(self, *_):
+        self.server.stdin.close()
+        self.server.stdout.close()
+        self.server.wait()
+
+    def memory(self):
+        """The most memory that the server has taken so far, in megabytes."""
+        lines = pathlib.Path(f"/proc/{self.server.pid}/status").read_text().splitlines()
+        return next(int(line.split()[1]) for line in lines if line.startswith("VmHWM:")) / 1024
+
+    def ask(self, *bodies):
+        """The seconds from some messages to the reply to the last one, which tells no fault."""
+        start = time.perf_counter()
+        self.server.stdin.write(stream.frames(bodies))
+        self.server.stdin.flush()
+        length = int(self.server.stdout.readline().split(b":")[1])
+        self.server.stdout.readline()
+        reply = self.server.stdout.read(length)
+        if b'"items":[]' not in reply and b'"capabilities"' not in reply:
+            raise SystemExit(f"the reply is {reply[:300]!r}")
+        return time.perf_counter() - start
+
+    def after(self, *notifications):
+        return self.ask(*notifications, f'{{"jsonrpc":"2.0","id":2,"method":"textDocument/diagnostic","params":{{"textDocument":{{"uri":"{self.uri}"}}}}}}')
+
+    def open(self):
+        text = self.text.replace('"', '\\"').replace("\n", "\\n")
+        return self.after(f'{{"jsonrpc":"2.0","method":"textDocument/didOpen","params":{{"textDocument":{{"uri":"{self.uri}","version":1,"text":"{text}"}}}}}}')
+
+    def change(self, line, text):
+        place = f'{{"line":{line},"character":0}}'
+        return self.after(f'{{"jsonrpc":"2.0","method":"textDocument/didChange","params":{{"textDocument":{{"uri":"{self.uri}","version":2}},"contentChanges":[{{"range":{{"start":{place},"end":{place}}},"text":"{text}"}}]}}}}')

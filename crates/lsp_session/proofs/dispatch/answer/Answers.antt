@@ -1,0 +1,15 @@
+use Rattle.std.proofs.Common.{true≢false, sym, ◌∙◌}
+use Rattle.lsp_session.specs.View.{core_state}
+use Rattle.lsp_session.proofs.CoreLemmas.{if_ok, has-answered, still-awaits}
+use Rattle.lsp_session.proofs.dispatch.answer.Goals as goal
+
+pub returns-then-not-waits-clause-answers : goal.returns-then-not-waits-clause-answers
+returns-then-not-waits-clause-answers g c = λ config bodies knows.
+    has-answered config (core_state c.begin.new.core) bodies c.args.body.now c.in_ok-replies.replies.items (c.in_ok-replies.ensures.progress config bodies knows)
+    (λ h after there. true≢false (sym ((c.waits.ensures 0 config h after).1 there) ∙ c.if-not-waits.true))
+
+pub returns-clause-answers : goal.returns-clause-answers
+returns-clause-answers g c = if_ok c.await_replies.result c.await_replies.ensures.answers (λ replies answers config bodies knows.
+    let body = c.args.body.now in
+    answers config bodies body
+    (still-awaits config (core_state c.begin.new.core) bodies body c.in_ok-replies.replies.items (c.in_ok-replies.ensures.progress config bodies knows) (λ h after. (c.waits.ensures 0 config h after).0 c.if-not-waits.false)))

@@ -1,0 +1,17 @@
+use Rattle.std.proofs.Common.{true≢false, sym, ◌∙◌}
+use Rattle.lsp_session.specs.View.{core_state}
+use Rattle.lsp_session.proofs.CoreLemmas.{has-answered, still-awaits}
+use Rattle.lsp_session.proofs.dispatch.await_replies.Goals as goal
+
+pub returns-then-not-waits-clause-answers : goal.returns-then-not-waits-clause-answers
+returns-then-not-waits-clause-answers g c = λ config bodies body w.
+    has-answered config (core_state c.work_on.new.core) bodies body c.in-Ok.replies.items (c.in-Ok.ensures.progress config bodies body (c.loop-result.invariant config bodies body w))
+    (λ h after there. true≢false (sym ((c.waits.ensures 0 config h after).1 there) ∙ c.if-not-waits.true))
+
+pub loop-result-init : goal.loop-result-init
+loop-result-init g c = λ config bodies body w. w
+
+pub loop-result-preserved : goal.loop-result-preserved
+loop-result-preserved g c = λ config bodies body w.
+    still-awaits config (core_state c.work_on.new.core) bodies body c.in-Ok.replies.items (c.in-Ok.ensures.progress config bodies body (c.loop-result.invariant config bodies body w))
+    (λ h after. (c.waits.ensures 0 config h after).0 c.if-not-waits.false)

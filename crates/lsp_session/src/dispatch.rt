@@ -1,0 +1,164 @@
+// Jobs go out to the workers of a pool, and what became of them comes back.
+ghost use Rattle.std.specs.Prelude.{◌≡◌, ◌+◌, ◌<◌, ℕ, List, [], ◌∷◌, ◌++◌, true, IfOk, IfErr, OnOk};
+ghost use Rattle.lsp_config.specs.Configuration.{Configuration};
+ghost use Rattle.lsp_config.specs.Fault.{IsOfCore};
+ghost use Rattle.lsp_session.specs.Core.{Event, IsAfter, Advances};
+ghost use Rattle.lsp_session.specs.Run.{has_failed, incoming_of_done, verdicts_of};
+ghost use Rattle.lsp_session.specs.Steps.{Knows, Awaits, WorksOn, Progresses, replies_to};
+ghost use Rattle.lsp_session.specs.View.{core_state};
+
+use crate::reply::Reply;
+use crate::session_core::Core;
+use lsp_config::ServeFault;
+use piece_collector::Verdict;
+use std::sync::Wait;
+use work_index::Done;
+use worker_pool::Pool;
+
+// Hands out the next job, and says whether there was one.
+fn hand_out_next<R: Wait>(rt: &R, core: &mut Core, pool: &mut Pool) -> Result<bool, ServeFault>
+    requires { pool.old.out < 256 }
+    ensures works { OnOk result ((opening : ℕ) (config : Configuration) (h : List Event) → IsAfter opening config (core_state core.old) h → WorksOn opening config (core_state core.new) h) }
+    ensures state { OnOk result ((core_state core.new).state ≡ (core_state core.old).state) }
+    ensures out { IfOk result (λ more. more ≡ true → pool.new.out ≡ pool.old.out + 1) }
+    ensures fault { IfErr result IsOfCore }
+{
+    let job = match core.next_job() {
+        Ok(Some(job)) => job,
+        Ok(None) => return Ok(false),
+        Err(fault) => return Err(ServeFault::from(fault)),
+    };
+    match pool.send(rt, job) {
+        Ok(()) => Ok(true),
+        Err(_) => Err(ServeFault::Memory),
+    }
+}
+
+/// Hands out jobs, in the order of the paths, until none is left or no more may be out. `Memory` where memory is refused or
+/// a job can't be sent, else the fault that the core has answered before.
+pub fn hand_out<R: Wait>(rt: &R, core: &mut Core, pool: &mut Pool) -> Result<(), ServeFault>
+    ensures works { OnOk result ((opening : ℕ) (config : Configuration) (h : List Event) → IsAfter opening config (core_state core.old) h → WorksOn opening config (core_state core.new) h) }
+    ensures state { OnOk result ((core_state core.new).state ≡ (core_state core.old).state) }
+    ensures fault { IfErr result IsOfCore }
+{
+    'jobs: while pool.has_room() {
+        match hand_out_next(rt, core, pool) {
+            Ok(true) => {}
+            Ok(false) => return Ok(()),
+            Err(fault) => return Err(fault),
+        }
+    }
+    Ok(())
+}
+
+// Whether it tells of a job that failed.
+fn has_failed(done: &Done) -> bool
+    ensures { result ≡ has_failed done.now }
+{
+    matches!(done, Done::Failed { .. })
+}
+
+// Brings the core what became of a job. `Memory` where that failed for want of memory, unless its text no longer counts.
+fn bring(core: &mut Core, done: Done) -> Result<(), ServeFault>
+    ensures works { OnOk result ((opening : ℕ) (config : Configuration) (h : List Event) → IsAfter opening config (core_state core.old) h → WorksOn opening config (core_state core.new) h) }
+    ensures fault { IfErr result IsOfCore }
+
+    // A failure that counts is never passed over.
+    ensures failed { OnOk result (has_failed done ≡ true → (opening : ℕ) (config : Configuration) (h : List Event) → IsAfter opening config (core_state core.old) h → ¬ (verdicts_of opening config h (incoming_of_done done) ≡ Verdict.Taken ∷ [])) }
+{
+    let failed = has_failed(&done);
+    let verdict = match core.offer(done) {
+        Ok(verdict) => verdict,
+        Err(fault) => return Err(ServeFault::from(fault)),
+    };
+    let counts = verdict == Verdict::Taken;
+    if failed && counts {
+        return Err(ServeFault::Memory);
+    }
+    Ok(())
+}
+
+// Waits for what becomes of a job, and brings it to the core. `ThreadRefused` where nothing can come, since no job is out or no
+// worker is left.
+fn take_result<R: Wait>(rt: &R, core: &mut Core, pool: &mut Pool) -> Result<(), ServeFault>
+    ensures works { OnOk result ((opening : ℕ) (config : Configuration) (h : List Event) → IsAfter opening config (core_state core.old) h → WorksOn opening config (core_state core.new) h) }
+    ensures fault { IfErr result IsOfCore }
+{
+    match pool.receive(rt) {
+        Some(done) => bring(core, done),
+        None => Err(ServeFault::ThreadRefused),
+    }
+}
+
+// Lets the core process what it can.
+fn advance(core: &mut Core) -> Result<Vec<Reply>, ServeFault>
+    ensures advances { IfOk result (λ replies. (opening : ℕ) (config : Configuration) (h : List Event) → IsAfter opening config (core_state core.old) h → Advances opening config (core_state core.new) h replies.items) }
+    ensures fault { IfErr result IsOfCore }
+{
+    match core.advance() {
+        Ok(replies) => Ok(replies),
+        Err(fault) => Err(ServeFault::from(fault)),
+    }
+}
+
+// Hands out jobs, takes the result of one, and lets the core process what it can.
+fn work_on<R: Wait>(rt: &R, core: &mut Core, pool: &mut Pool) -> Result<Vec<Reply>, ServeFault>
+    ensures progress { IfOk result (λ replies. (config : Configuration) (bodies : List (List ℕ)) (body : List ℕ) → Awaits config (core_state core.old) bodies body → Progresses config (core_state core.new) bodies body replies.items) }
+    ensures fault { IfErr result IsOfCore }
+{
+    hand_out(rt, core, pool)?;
+    take_result(rt, core, pool)?;
+    advance(core)
+}
+
+// Lets the workers work until the core processes the message that waits, and gives the replies to it.
+fn await_replies<R: Wait>(
+    rt: &R,
+    core: &mut Core,
+    pool: &mut Pool,
+) -> Result<Vec<Reply>, ServeFault>
+    ensures answers { IfOk result (λ replies. (config : Configuration) (bodies : List (List ℕ)) (body : List ℕ) → Awaits config (core_state core.old) bodies body
+        → Knows config (core_state core.new) (bodies ++ body ∷ []) × (replies.items ≡ replies_to config bodies body)) }
+    ensures fault { IfErr result IsOfCore }
+{
+    for _result in rt.forever() {
+        match work_on(rt, core, pool) {
+            Ok(replies) => {
+                if !core.waits() {
+                    return Ok(replies);
+                }
+            }
+            Err(fault) => return Err(fault),
+        }
+    }
+    unreachable!()
+}
+
+// Gives the core a message, and lets it process what it can.
+fn begin(core: &mut Core, body: &[u8]) -> Result<Vec<Reply>, ServeFault>
+    ensures progress { IfOk result (λ replies. (config : Configuration) (bodies : List (List ℕ)) → Knows config (core_state core.old) bodies → Progresses config (core_state core.new) bodies body.now replies.items) }
+    ensures fault { IfErr result IsOfCore }
+{
+    match core.message(body) {
+        Ok(()) => advance(core),
+        Err(fault) => Err(ServeFault::from(fault)),
+    }
+}
+
+/// Gives the core a message, lets the workers work as long as it waits, and gives the replies to it. None waited before.
+pub fn answer<R: Wait>(
+    rt: &R,
+    core: &mut Core,
+    pool: &mut Pool,
+    body: &[u8],
+) -> Result<Vec<Reply>, ServeFault>
+    ensures answers { IfOk result (λ replies. (config : Configuration) (bodies : List (List ℕ)) → Knows config (core_state core.old) bodies
+        → Knows config (core_state core.new) (bodies ++ body.now ∷ []) × (replies.items ≡ replies_to config bodies body.now)) }
+    ensures fault { IfErr result IsOfCore }
+{
+    let replies = begin(core, body)?;
+    if !core.waits() {
+        return Ok(replies);
+    }
+    await_replies(rt, core, pool)
+}
