@@ -27,12 +27,10 @@ def put_tree(folder, size, hub=False):
     return paths
 
 
-def cost(command, cwd, given=subprocess.DEVNULL):
-    """The seconds of a run over this input, and the most memory that it took, in megabytes."""
-    if given is not subprocess.DEVNULL:
-        given.seek(0)
+def cost(command, cwd):
+    """The seconds of a run, and the most memory that it took, in megabytes."""
     start = time.perf_counter()
-    run = subprocess.Popen(command, cwd=cwd, stdin=given, stdout=subprocess.DEVNULL, stderr=subprocess.PIPE)
+    run = subprocess.Popen(command, cwd=cwd, stdin=subprocess.DEVNULL, stdout=subprocess.DEVNULL, stderr=subprocess.PIPE)
     told = run.stderr.read()
     _, status, usage = os.wait4(run.pid, 0)
     taken = time.perf_counter() - start
@@ -76,8 +74,12 @@ class Editor:
             raise SystemExit(f"the reply is {reply[:300]!r}")
         return time.perf_counter() - start
 
-    def after(self, *notifications):
-        return self.ask(*notifications, f'{{"jsonrpc":"2.0","id":2,"method":"textDocument/diagnostic","params":{{"textDocument":{{"uri":"{self.uri}"}}}}}}')
+    def question(self):
+        """The request for the diagnostics of the document."""
+        return f'{{"jsonrpc":"2.0","id":2,"method":"textDocument/diagnostic","params":{{"textDocument":{{"uri":"{self.uri}"}}}}}}'
+
+    def after(self, notification):
+        return self.ask(notification, self.question())
 
     def open(self):
         text = self.text.replace('"', '\\"').replace("\n", "\\n")
