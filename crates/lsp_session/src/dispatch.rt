@@ -58,7 +58,7 @@ fn has_failed(done: &Done) -> bool
     matches!(done, Done::Failed { .. })
 }
 
-// Brings the core what became of a job. `Memory` where that failed for want of memory, unless its text no longer counts.
+// Brings the core what became of a job. `Memory` where that failed because memory ran out, unless its text no longer counts.
 fn bring(core: &mut Core, done: Done) -> Result<(), ServeFault>
     ensures works { OnOk result ((opening : ℕ) (config : Configuration) (h : List Event) → IsAfter opening config (core_state core.old) h → WorksOn opening config (core_state core.new) h) }
     ensures fault { IfErr result IsOfCore }
