@@ -9,8 +9,12 @@ import time
 ROOT = pathlib.Path(__file__).resolve().parent.parent
 PROGRAM = pathlib.Path(os.environ.get("PROTOLS", ROOT / "crates/protols/out/protols"))
 
-# The seconds after which a run that hasn't ended, or a reply that hasn't come, is a failure.
+# The seconds after which a run that hasn't ended, or a reply that hasn't come, is a failure; and those for a run of `check`.
 LIMIT = 60
+CHECK_LIMIT = 120
+
+# The numbers of workers that the tests try, besides the default.
+NUMBERS = (1, 3, 4, 64)
 
 SEPARATOR = b"\r\n\r\n"
 
@@ -66,6 +70,21 @@ def run(input_bytes, args=("serve",)):
     except subprocess.TimeoutExpired:
         raise AssertionError(f"no end within {LIMIT} seconds") from None
     return done.stdout, done.stderr, done.returncode
+
+
+def check(words, cwd=None):
+    """Runs `protols check` with these options: its standard output, standard error and exit status."""
+    done = subprocess.run(command(("check", *map(str, words))), stdin=subprocess.DEVNULL, capture_output=True, cwd=cwd, timeout=CHECK_LIMIT)
+    return done.stdout, done.stderr, done.returncode
+
+
+def check_with_each(words, cwd=None):
+    """The same, where it has to be the same with each number of workers."""
+    said = check(words, cwd)
+    for number in NUMBERS:
+        if check(("--workers", number, *words), cwd) != said:
+            raise AssertionError(f"with {number} workers `check` says another thing")
+    return said
 
 
 class Server:

@@ -2,6 +2,7 @@
 
 In a row `|` stands for a line feed, and `S|` at the front for the line `syntax = "proto3";`.
 """
+import concurrent.futures
 import os
 import subprocess
 import unittest
@@ -9,7 +10,10 @@ import unittest
 import stream
 from test_folder import FOLDER, SKIPPED, FolderTest, fixed
 
-CHECK_USAGE = b"Usage: protols check [--root DIR]\n"
+CHECK_USAGE = b"Usage: protols check [--root DIR] [--workers N]\n"
+
+# How often a small tree is checked, side by side.
+RUNS = 1_000
 
 
 def spelled(row):
@@ -62,9 +66,9 @@ class Check(FolderTest):
             self.put(path, spelled(row))
 
     def run_check(self, *words, cwd=None):
-        """What `protols check` writes on standard output, the fixed lines of its standard error, and its status."""
-        ended = subprocess.run([str(stream.PROGRAM), "check", *map(str, words)], stdin=subprocess.DEVNULL, capture_output=True, cwd=cwd, timeout=120)
-        return ended.stdout, fixed(ended.stderr), ended.returncode
+        """What `protols check` writes on standard output, the fixed lines of its standard error, and its status, with each number of workers alike."""
+        out, err, status = stream.check_with_each(words, cwd)
+        return out, fixed(err), status
 
     def test_lines_and_statuses(self):
         for files, lines, status in WORKSPACES:
@@ -91,6 +95,13 @@ class Check(FolderTest):
         lines = "".join(f"f{n}.proto:3:24: 401 unresolved name\n" for n in range(1, 6))
         self.assertEqual(self.run_check("--root", self.root), (lines.encode(), b"", 1))
 
+    def test_a_small_tree_again_and_again(self):
+        self.put_all(CHAIN)
+        with concurrent.futures.ThreadPoolExecutor(os.cpu_count()) as pool:
+            seen = set(pool.map(lambda _: stream.check(("--workers", 4, "--root", self.root)), range(RUNS)))
+        lines = "".join(f"f{n}.proto:3:24: 401 unresolved name\n" for n in range(1, 6))
+        self.assertEqual(seen, {(lines.encode(), b"", 1)})
+
     def test_what_cannot_be_read_is_skipped(self):
         self.put("a.proto")
         self.put("b.proto", spelled('S|import "a.proto";|'))
@@ -103,23 +114,27 @@ class Check(FolderTest):
     def test_wrong_words(self):
         for words in (("extra",), ("--stdio",), ("--clientProcessId", "1"), ("--root", "a", "--root", "b"), ("--roo", "a")):
             with self.subTest(words=words):
-                out, err, status = self.run_check(*words)
+                out, err, status = stream.check(words)
                 self.assertEqual((out, status), (b"", 2))
                 self.assertTrue(err.startswith(b"error: "), err)
                 self.assertIn(CHECK_USAGE, err)
 
     def test_help(self):
-        out, err, status = self.run_check("--help")
+        out, err, status = stream.check(("--help",))
         self.assertEqual((err, status), (b"", 0))
-        self.assertIn(CHECK_USAGE, out)
+        for part in (CHECK_USAGE, b"--root <DIR>", b"--workers <N>", b"[default: 4]"):
+            self.assertIn(part, out)
 
     def test_a_closed_output(self):
         self.put_all({"a.proto": "S|" + "#|" * 20_000})
         reader, writer = os.pipe()
         os.close(reader)
         with os.fdopen(writer, "wb") as closed:
-            ended = subprocess.run([str(stream.PROGRAM), "check", "--root", str(self.root)], stdin=subprocess.DEVNULL, stdout=closed, stderr=subprocess.PIPE, timeout=120)
-        self.assertEqual((ended.stderr, ended.returncode), (b"protols: fault 802\n", 3))
+            for number in stream.NUMBERS:
+                with self.subTest(workers=number):
+                    words = stream.command(("check", "--root", str(self.root), "--workers", str(number)))
+                    ended = subprocess.run(words, stdin=subprocess.DEVNULL, stdout=closed, stderr=subprocess.PIPE, timeout=stream.CHECK_LIMIT)
+                    self.assertEqual((ended.stderr, ended.returncode), (b"protols: fault 802\n", 3))
 
     def test_many_files(self):
         self.put_all({f"d{n % 100}/f{n}.proto": f"S|package p{n % 7};|message M{n} {{ M{n} m = 1; }}|" for n in range(10_000)})

@@ -1,7 +1,6 @@
 """End-to-end test of the example tree, which `make run` checks: its lines are the stored ones, and one file alone is at fault."""
 import pathlib
 import shutil
-import subprocess
 import tempfile
 import unittest
 
@@ -13,8 +12,8 @@ FAULTY = "shop/faulty.proto"
 
 def check(root):
     """What `protols check` writes on standard output, and its status."""
-    ended = subprocess.run(stream.command(("check", "--root", str(root))), stdin=subprocess.DEVNULL, capture_output=True, timeout=stream.LIMIT)
-    return ended.stdout.decode(), ended.returncode
+    lines, _, status = stream.check_with_each(("--root", root))
+    return lines.decode(), status
 
 
 class Examples(unittest.TestCase):

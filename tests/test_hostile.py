@@ -1,6 +1,5 @@
 """End-to-end tests of `protols check` and `protols serve` on small cases of the trees and texts of hostile.py: of what is reported, not of the time."""
 import json
-import subprocess
 
 import hostile
 import stream
@@ -44,9 +43,9 @@ class Hostile(FolderTest):
                 self.setUp()
                 for path, text in files.items():
                     self.put(path, text)
-                ended = subprocess.run(stream.command(["check", "--root", str(self.root)]), stdin=subprocess.DEVNULL, capture_output=True, timeout=120)
-                self.assertEqual(ended.stdout.decode().splitlines(), lines)
-                self.assertEqual((fixed(ended.stderr), ended.returncode), (b"", 1 if lines else 0))
+                out, err, status = stream.check_with_each(("--root", self.root))
+                self.assertEqual(out.decode().splitlines(), lines)
+                self.assertEqual((fixed(err), status), (b"", 1 if lines else 0))
 
     def test_many_documents_opened_one_after_the_other(self):
         with stream.Server(["serve", "--root", str(self.root)]) as server:

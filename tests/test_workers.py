@@ -1,4 +1,4 @@
-"""End-to-end tests of `protols serve --workers N`: the output is the same with any number of workers, and the program ends whatever fails.
+"""End-to-end tests of `--workers N`: the output is the same with any number of workers, and the program ends whatever fails.
 
 The expected bytes are those of tests/test_serve.py, or come from the rules in docs/.
 """
@@ -14,11 +14,10 @@ import time
 import unittest
 
 import stream
-from stream import Server, frames
+from stream import NUMBERS, Server, frames
 from test_serve import EXIT, FIRST_INPUT, FIRST_OUTPUT, INITIALIZE, INITIALIZED, PROTO3, SHUT, SHUTDOWN
 
 ALL_REPORTS = '{"jsonrpc":"2.0","id":2,"method":"workspace/diagnostic","params":{}}'
-NUMBERS = (1, 3, 4, 64)
 
 # How often the first session is run at most, the seconds after which no further run begins, and how often it has to be run.
 RUNS, SECONDS, LEAST = 10_000, 60, 100
@@ -32,6 +31,10 @@ NOBODY = 65_123
 
 def words(number, *others):
     return ["serve", "--workers", str(number), *others]
+
+
+def checking(number, folder):
+    return ["check", "--workers", str(number), "--root", folder]
 
 
 def run(data, args, **how):
@@ -62,6 +65,55 @@ class WorkersTest(unittest.TestCase):
             pathlib.Path(folder.name, name).write_text(PROTO3 + "#\n" * (number % 3 == 0))
             items.append(report_of(f"file://{folder.name}/{name}", number % 3 == 0))
         return folder.name, as_body({"id": 2, "jsonrpc": "2.0", "result": {"items": items}})
+
+    def open_folder(self, count):
+        """Such a folder, which any user may read."""
+        folder, _ = self.folder(count)
+        os.chmod(folder, 0o755)
+        return folder
+
+    def large_files(self, front):
+        """A folder of 20 files with this front and 2,000 messages, and their paths."""
+        folder, _ = self.folder(0)
+        paths = [f"{number:02}.proto" for number in range(20)]
+        for path in paths:
+            pathlib.Path(folder, path).write_text(front + "".join(f"message M{number} {{ }}\n" for number in range(2_000)))
+        return folder, paths
+
+    def limited_program(self):
+        """What runs a copy of the program with at most so many threads: its standard output, standard error and exit status."""
+        folder = tempfile.TemporaryDirectory()
+        self.addCleanup(folder.cleanup)
+        os.chmod(folder.name, 0o755)
+        program = shutil.copy(stream.PROGRAM, folder.name)
+        os.chmod(program, 0o755)
+
+        def limit(most):
+            """Takes an identity that has no other process, and leaves it so many threads: root is refused none."""
+            resource.setrlimit(resource.RLIMIT_NPROC, (most, most))
+            if os.getuid() == 0:
+                os.setgid(NOBODY)
+                os.setuid(NOBODY)
+
+        def run_limited(most, args, data=b""):
+            done = subprocess.run([program, *args], input=data, capture_output=True, cwd="/", timeout=stream.LIMIT, preexec_fn=lambda: limit(most))
+            return done.stdout, done.stderr, done.returncode
+
+        return run_limited
+
+    def check_with_little_memory(self, args, data, whole, status):
+        """A run ends with this output and this status; or where there is too little memory, with a part of that output and with 803 or 804."""
+        self.assertEqual(run(data, args), (whole, b"", status))
+        seen = set()
+        for megabytes in range(24, 240, 6):
+            most = megabytes << 20
+            out, err, ended = run(data, args, preexec_fn=lambda most=most: resource.setrlimit(resource.RLIMIT_AS, (most, most)))
+            with self.subTest(megabytes=megabytes):
+                self.assertTrue(whole.startswith(out))
+                self.assertIn((err, ended), {(b"", status), (b"protols: fault 803\n", 3), (b"protols: fault 804\n", 3)})
+                self.assertTrue(err or out == whole)
+            seen.add(err)
+        self.assertLessEqual({b"", b"protols: fault 803\n"}, seen)
 
 
 class TheSameOutput(WorkersTest):
@@ -142,51 +194,51 @@ class TheEnd(WorkersTest):
                 _, err = process.communicate(frames([INITIALIZE, ALL_REPORTS]), timeout=stream.LIMIT)
                 self.assertEqual((err, process.returncode), (b"protols: fault 802\n", 3))
 
-    def test_a_thread_that_is_refused_is_804(self):
-        with tempfile.TemporaryDirectory() as folder:
-            os.chmod(folder, 0o755)
-            program = shutil.copy(stream.PROGRAM, folder)
-            os.chmod(program, 0o755)
+    def test_a_thread_of_the_pool_that_is_refused_is_804(self):
+        folder = self.open_folder(FILES)
+        run_limited = self.limited_program()
+        # (another user than root has other processes, so the first thread is refused already)
+        for threads, number in ((1, 1), (1, 4), (3, 4), (3, 64), (20, 64)):
+            with self.subTest(threads=threads, workers=number):
+                self.assertEqual(run_limited(threads, words(number), FIRST_INPUT), (b"", b"protols: fault 804\n", 3))
+                self.assertEqual(run_limited(threads, checking(number, folder)), (b"", b"protols: fault 804\n", 3))
 
-            def limited(most):
-                """Takes an identity that has no other process, and leaves it so many threads: root is refused none."""
-                resource.setrlimit(resource.RLIMIT_NPROC, (most, most))
-                if os.getuid() == 0:
-                    os.setgid(NOBODY)
-                    os.setuid(NOBODY)
-
-            # (another user has other processes, so the first thread is refused already)
-            for threads, number in ((1, 1), (1, 4), (3, 4), (3, 64), (20, 64)):
-                with self.subTest(threads=threads, workers=number):
-                    done = subprocess.run(
-                        [program, *words(number)],
-                        input=FIRST_INPUT,
-                        capture_output=True,
-                        cwd="/",
-                        timeout=stream.LIMIT,
-                        preexec_fn=lambda most=threads: limited(most),
-                    )
-                    self.assertEqual((done.stdout, done.stderr, done.returncode), (b"", b"protols: fault 804\n", 3))
+    def test_a_thread_of_an_analysis_that_is_refused_is_804(self):
+        folder = self.open_folder(FILES)
+        run_limited = self.limited_program()
+        data = frames([INITIALIZE, ALL_REPORTS, SHUTDOWN, EXIT])
+        # The thread that reads and writes and the four workers are there, and none of the four that link. (Where that identity has other processes
+        # a worker is refused already, before anything is written.)
+        out, err, status = run_limited(5, words(4, "--root", folder), data)
+        self.assertIn(out, (frames([INITIALIZED]), b""))
+        self.assertEqual((err, status), (b"protols: fault 804\n", 3))
+        if os.getuid() == 0:
+            _, err, status = run_limited(64, words(4, "--root", folder), data)
+            self.assertEqual((err, status), (b"", 0))
 
     def test_refused_memory_is_803_or_804_and_never_another_answer(self):
-        folder, _ = self.folder(0)
-        paths = [f"{number:02}.proto" for number in range(20)]
-        for path in paths:
-            pathlib.Path(folder, path).write_text(PROTO3 + "".join(f"message M{number} {{ }}\n" for number in range(2_000)))
+        folder, paths = self.large_files(PROTO3)
         reports = {"items": [report_of(f"file://{folder}/{path}", False) for path in paths]}
         whole = frames([INITIALIZED, as_body({"id": 2, "jsonrpc": "2.0", "result": reports}), SHUT])
         data, args = frames([INITIALIZE, ALL_REPORTS, SHUTDOWN, EXIT]), words(3, "--root", folder)
-        self.assertEqual(run(data, args), (whole, b"", 0))
-        seen = set()
-        for megabytes in range(24, 240, 6):
-            most = megabytes << 20
-            out, err, status = run(data, args, preexec_fn=lambda most=most: resource.setrlimit(resource.RLIMIT_AS, (most, most)))
-            with self.subTest(megabytes=megabytes):
-                self.assertTrue(whole.startswith(out))
-                self.assertIn((err, status), {(b"", 0), (b"protols: fault 803\n", 3), (b"protols: fault 804\n", 3)})
-                self.assertTrue(status or out == whole)
-            seen.add(err)
-        self.assertLessEqual({b"", b"protols: fault 803\n"}, seen)
+        self.check_with_little_memory(args, data, whole, 0)
+
+    def test_refused_memory_in_a_check_is_803_or_804_and_never_another_answer(self):
+        folder, paths = self.large_files(PROTO3 + "#\n")
+        lines = "".join(f"{path}:2:1: 201 illegal character\n" for path in paths)
+        self.check_with_little_memory(checking(3, folder), b"", lines.encode(), 1)
+
+
+class TheWords(unittest.TestCase):
+    def test_numbers_of_workers_that_are_refused(self):
+        for number in ("0", "65", "x", "", "+1", "-1", "1.5", "٣", "18446744073709551617"):
+            for command in ("serve", "check"):
+                with self.subTest(command=command, number=number):
+                    out, err, status = run(b"", [command, "--workers", number])
+                    self.assertEqual((out, status), (b"", 2))
+                    self.assertTrue(err.startswith(b"error: "), err)
+                    self.assertIn(b"--workers", err)
+                    self.assertTrue(err.endswith(b"\n\nFor more information, try '--help'.\n"), err)
 
 
 class Threads(WorkersTest):

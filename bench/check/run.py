@@ -1,15 +1,18 @@
 #!/usr/bin/env python3
-"""Times `protols check` on workspaces of 1,000 and 4,000 files, and an editor's change of one file among 1,000.
+"""Times `protols check` with one worker on workspaces of 1,000 and 4,000 files, with 1, 2 and 4 workers on 1,000 and 10,000, and an editor's change
+of one file among 1,000.
 
 Each file has 8 messages with messages and enums inside, a package and 5 imports, and names that refer to declarations of its
 own and of the files that it imports. Four times the files may take at most 4.8 times the time. Where `protoc` is on the PATH, or
 its library of Debian is there (protoc.c), it is timed on the same files (`--descriptor_set_out=/dev/null`), and `check` may take
-at most 3 times its time and at most its memory. After a change of one file, a blank, a declaration or an import more, its
+at most 3 times its time and at most its memory. With four workers a check may take at most 0.4 of the time with one, and at most 0.1 of
+protoc's; both are judged only on four processors or more. After a change of one file, a blank, a declaration or an import more, its
 diagnostics may take at most 0.25 of the time of the first analysis. The status is 1 where a limit is passed. A declaration more in
 a file that all others import is timed too, and not judged: the names of all files are looked up again then. Nor is a typed character judged,
 in workspaces of 100 to 10,000 files.
 
 A time is the best of 5. The program is crates/protols/out/protols, or the one that PROTOLS names."""
+import os
 import pathlib
 import shutil
 import statistics
@@ -36,6 +39,14 @@ LIBRARIES = [pathlib.Path("/usr/lib/x86_64-linux-gnu") / name for name in ("libp
 # The most that a check may take, as a multiple of protoc's time.
 PROTOC = 3
 
+# The sizes of the workspaces that are checked with each of these numbers of workers.
+SHARED_SIZES = [1_000, 10_000]
+WORKERS = [1, 2, 4]
+
+# The most that a check with four workers may take, as a part of the time with one, and of protoc's time.
+SHARED = 0.4
+SHARED_PROTOC = 0.1
+
 # The most that the diagnostics of a changed file may take, as a part of the time of the first analysis.
 CHANGED = 0.25
 
@@ -57,18 +68,33 @@ def protoc():
     return command
 
 
-def checked(size, other):
-    """The cost of a check, and that of the other command protoc, if there is one."""
+def checked(size, other, numbers):
+    """The cost of a check by each of these numbers of workers, and that of the other command protoc, if there is one. All are run in turn."""
     with tempfile.TemporaryDirectory() as holder:
         paths = put_tree(pathlib.Path(holder), size)
         with open(pathlib.Path(holder) / "files", "w") as files:
             files.write("\n".join(paths))
-        ours, theirs = [], []
+        ours, theirs = {number: [] for number in numbers}, []
         for _ in range(TIMES):
-            ours.append(cost([*stream.command(("check",)), "--root", "."], holder))
+            for number in numbers:
+                ours[number].append(cost([*stream.command(("check",)), "--workers", str(number), "--root", "."], holder))
             if other is not None:
                 theirs.append(cost([other, "--descriptor_set_out=/dev/null", "@files"], holder))
-        return least(ours), least(theirs) if theirs else None
+        return {number: least(runs) for number, runs in ours.items()}, least(theirs) if theirs else None
+
+
+def check_with_workers(size, other):
+    """Prints the times of a check with each number of workers, as parts of that with one and of protoc's, and says whether the limits are kept."""
+    ours, theirs = checked(size, other, WORKERS)
+    one, most = ours[WORKERS[0]][0], max(WORKERS)
+    for number, (taken, memory) in ours.items():
+        line = f"check of {size:,} files with {number} workers: {taken:.2f} s, {memory:.0f} MB ({taken / one:.2f} of the time with one"
+        print(line + (f", {taken / theirs[0]:.3f} of protoc's)" if theirs else ")"))
+    if os.cpu_count() < most:
+        return True
+    taken = ours[most][0]
+    print(f"limits with {most} workers: {SHARED} of the time with one" + (f", {SHARED_PROTOC} of protoc's" if theirs else ""))
+    return taken <= SHARED * one and (theirs is None or taken <= SHARED_PROTOC * theirs[0])
 
 
 def answer_times(size):
@@ -111,8 +137,9 @@ def main():
     before = None
     command = protoc()
     for size in SIZES:
-        (ours, memory), other = checked(size, command)
-        line = f"check of {size:,} files: {ours:.2f} s, {memory:.0f} MB"
+        costs, other = checked(size, command, [1])
+        ours, memory = costs[1]
+        line = f"check of {size:,} files with one worker: {ours:.2f} s, {memory:.0f} MB"
         if before is not None:
             line += f" ({ours / before:.2f} times as long)"
             kept = kept and ours <= GROWTH * before
@@ -121,6 +148,8 @@ def main():
             kept = kept and ours <= PROTOC * other[0] and memory <= other[1]
         print(line)
         before = ours
+    for size in SHARED_SIZES:
+        kept = check_with_workers(size, command) and kept
     first, *changes = answer_times(SIZES[0])
     print(f"an editor's file among {SIZES[0]:,}: first answer {first:.2f} s")
     for what, changed in zip(("a blank", "a declaration", "an import"), changes):

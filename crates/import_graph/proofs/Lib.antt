@@ -15,4 +15,5 @@ pub mod Turns
 pub mod Mutual
 pub mod Outlooks
 pub mod Representatives
+pub mod Sharing
 pub mod Flagged

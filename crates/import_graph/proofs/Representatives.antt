@@ -138,10 +138,10 @@ stands-push numbers flags found r before one f = elim (cases_lt f (length found)
 -- each file and the one that stands for it lead to each other
 module _ (next : List (List ℕ)) (numbers : List ℕ) (flags : List Bool) (tied : IsTied next numbers flags) (representatives : List ℕ)
     (stands : (f : ℕ) → StandsFor numbers flags (representative representatives f) f) where
-  ahead : (f : ℕ) → Leads next f (representative representatives f)
+  pub ahead : (f : ℕ) → Leads next f (representative representatives f)
   ahead f = ⊎_elim (λ same. rw same stay) (λ (of_it, of_f, number). tied f (representative representatives f) of_f of_it (sym number)) (stands f)
 
-  behind : (f : ℕ) → Leads next (representative representatives f) f
+  pub behind : (f : ℕ) → Leads next (representative representatives f) f
   behind f = ⊎_elim (λ same. rw same stay) (λ (of_it, of_f, number). tied (representative representatives f) f of_it of_f number) (stands f)
 
   pub LeadAlike-from : (rows : List (List ℕ)) (count : ℕ) → All (AllWithin (length next)) next → length next ≤ count → Condenses next representatives rows count → LeadAlike rows next

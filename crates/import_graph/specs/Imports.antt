@@ -13,7 +13,9 @@ use Rattle.import_graph.specs.Walks.{AllWithin}
 use Rattle.import_graph.specs.Components.{Descends}
 use Rattle.import_graph.specs.Condensed.{LeadAlike}
 use Rattle.import_graph.specs.Ties.{IsTied}
+use Rattle.import_graph.specs.Shared.{AreShared}
 use Rattle.import_graph.specs.declared.components.Components.{Components}
+use Rattle.import_graph.specs.declared.shared.SharedLists.{SharedLists}
 
 abbrev pub is_opaque : SyntaxFact → Bool
 is_opaque Proto3 = false
@@ -56,8 +58,8 @@ abbrev pub public_targets : FileImports → List ℕ
 public_targets file = filter_map (λ l. l.target) (filter (λ l. l.is_public) file.edges)
 
 -- each file that is imported is there, the files are listed for the search, the steps lead to what public imports lead to, it is
--- known which files are complete, and the components are those of the imports
-pub record IsGraph (graph : List FileImports) (all : List (List ℕ)) (steps : List (List ℕ)) (flags : List Bool) (components : Components) : Type 0 where
+-- known which files are complete, the components are those of the imports, and files share what they see
+pub record IsGraph (graph : List FileImports) (all : List (List ℕ)) (steps : List (List ℕ)) (flags : List Bool) (components : Components) (shared : SharedLists) : Type 0 where
   pub within : All (λ file. AllWithin (length graph) (targets file)) graph
   pub imports : all ≡ map targets graph
   pub counted : length steps ≡ length graph
@@ -68,3 +70,4 @@ pub record IsGraph (graph : List FileImports) (all : List (List ℕ)) (steps : L
   pub descends : Descends (map targets graph) components.numbers.items
   pub flagged : vec_len components.tied ≡ length graph
   pub tied : IsTied (map targets graph) components.numbers.items components.tied.items
+  pub lists : AreShared steps all shared

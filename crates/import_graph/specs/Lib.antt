@@ -10,3 +10,4 @@ pub mod Components
 pub mod Ties
 pub mod Outlooks
 pub mod Condensed
+pub mod Shared

@@ -35,7 +35,7 @@ fn representative_of(components: &Components, file: FileNo) -> FileNo
 }
 
 // For each file the one that stands for it.
-fn representatives_of(alloc: Global, components: &Components) -> Result<Vec<FileNo>, AllocError>
+pub fn representatives_of(alloc: Global, components: &Components) -> Result<Vec<FileNo>, AllocError>
     requires { vec_len components.now.tied ≡ vec_len components.now.numbers }
     ensures length { IfOk result (λ v. vec_len v ≡ vec_len components.now.numbers) }
     ensures within { IfOk result (λ v. AllWithin (vec_len components.now.numbers) v.items) }

@@ -9,6 +9,7 @@ use crate::condensed::condensed_steps;
 use crate::file_search::reached;
 use crate::imports::{FileImports, completeness, imports_of};
 use crate::paths::{FileNo, NamedFacts};
+use crate::shared::{SharedLists, shared_lists};
 use sqlite_items::Items;
 use std::alloc::{AllocError, Global};
 use std::marker::Model;
@@ -28,6 +29,8 @@ pub struct Graph {
     // For each file whether all that it imports is there and not opaque.
     complete: Vec<bool>,
     components: Components,
+    // What some of the files see.
+    shared: SharedLists,
 }
 
 impl Model for Graph {
@@ -39,7 +42,7 @@ impl Model for Graph {
 
     ghost view = { λ g. g.files.items };
 
-    ghost invariant = { λ g. IsGraph g.files.items g.imports.items g.steps.items g.complete.items g.components };
+    ghost invariant = { λ g. IsGraph g.files.items g.imports.items g.steps.items g.complete.items g.components g.shared };
 }
 
 impl Graph {
@@ -66,6 +69,7 @@ impl Graph {
         let complete = completeness(alloc, file_imports.as_slice())?;
         let steps = condensed_steps(alloc, public.as_slice())?;
         let components = components_of(alloc, imports.as_slice())?;
+        let shared = shared_lists(alloc, steps.as_slice(), imports.as_slice())?;
         Ok(Graph {
             alloc,
             files: file_imports,
@@ -73,6 +77,7 @@ impl Graph {
             steps,
             complete,
             components,
+            shared,
         })
     }
 
@@ -109,7 +114,20 @@ impl Graph {
         Ok(view)
     }
 
+    // The same from the list that the file shares, if there is one, or by a search.
     fn seen(&self, file: FileNo) -> Result<Vec<FileNo>, AllocError>
+        requires { file < length self.now }
+        ensures ascending { IfOk result (λ v. IsStrictlyIncreasing v.items) }
+        ensures within { IfOk result (λ v. All (λ g. g < length self.now) v.items) }
+        ensures exact { IfOk result (λ v. (g : ℕ) → Contains v.items g ↔ Sees self.now file g) }
+    {
+        match self.shared.list_of(file) {
+            Some(list) => Vec::from_slice(self.alloc, list),
+            None => self.searched(file),
+        }
+    }
+
+    fn searched(&self, file: FileNo) -> Result<Vec<FileNo>, AllocError>
         requires { file < length self.now }
         ensures ascending { IfOk result (λ v. IsStrictlyIncreasing v.items) }
         ensures within { IfOk result (λ v. All (λ g. g < length self.now) v.items) }

@@ -20,6 +20,7 @@ mod imports;
 mod laws;
 mod outlook;
 mod paths;
+mod shared;
 mod ties;
 mod tour;
 

@@ -3,10 +3,13 @@ ghost use Rattle.std.specs.Prelude.{◌≡◌, ◌<◌, length, false, IfOk};
 ghost use Rattle.piece_collector.specs.Board.{Ascends};
 
 use crate::places::write_diagnostics;
+use crate::shares::note_differences;
 use case_notation::{Answer, Trouble, file_of};
 use piece_collector::{Board, Job, Lent, Piece};
 use proto_resolve::DeclRef;
 use std::alloc::{AllocError, Global};
+use std::sync::Wait;
+use std::thread::Threads;
 use work_index::{Analysis, FileWork, analyse_here};
 
 // The piece that is made of a text at a path.
@@ -62,8 +65,8 @@ pub fn pieces_of(board: &mut Board<FileWork>) -> Answer<Lent<FileWork>>
     Ok(board.lend_all()?)
 }
 
-// The diagnostics of all files, asked for by path: each file's path, then its diagnostics.
-fn write_by_path(
+/// The diagnostics of all files, asked for by path: each file's path, then its diagnostics.
+pub fn write_by_path(
     line: &mut String,
     found: &Analysis,
     pieces: &[Piece<FileWork>],
@@ -90,7 +93,8 @@ pub fn write_by_number(
     Ok(())
 }
 
-fn write_decls(line: &mut String, decls: &[DeclRef]) -> Result<(), AllocError> {
+/// Writes declarations, each a space, the number of its file, and its own.
+pub fn write_decls(line: &mut String, decls: &[DeclRef]) -> Result<(), AllocError> {
     for decl in decls {
         let file = decl.file;
         let number = decl.number;
@@ -110,7 +114,8 @@ fn write_counts(line: &mut String, found: &Analysis, file: usize) -> Result<(), 
     write!(line, " {decls} {uses} {diagnostics}")
 }
 
-fn write_files(line: &mut String, found: &Analysis) -> Result<(), AllocError> {
+/// Writes the paths of the files.
+pub fn write_files(line: &mut String, found: &Analysis) -> Result<(), AllocError> {
     for path in found.files() {
         let path = path.as_str();
         write!(line, " {path}")?;
@@ -172,13 +177,6 @@ fn write_answers(line: &mut String, found: &Analysis, fields: &[&str]) -> Answer
     Ok(())
 }
 
-fn pieces_in(alloc: Global, fields: &[&str]) -> Answer<Lent<FileWork>>
-    ensures { IfOk result (λ lent. Ascends lent) }
-{
-    let files = files_in(alloc, fields)?;
-    pieces_at(alloc, files.as_slice())
-}
-
 /// The pieces of files.
 pub fn pieces_at(alloc: Global, files: &[&str]) -> Answer<Lent<FileWork>>
     ensures { IfOk result (λ lent. Ascends lent) }
@@ -187,11 +185,18 @@ pub fn pieces_at(alloc: Global, files: &[&str]) -> Answer<Lent<FileWork>>
     pieces_of(&mut board)
 }
 
-/// Writes all that is wrong in some files, and the answers to questions, which are fields with `? ` at the front.
-pub fn answer(alloc: Global, line: &mut String, fields: &[&str]) -> Answer<()> {
-    let pieces = pieces_in(alloc, fields)?;
+/// Writes all that is wrong in some files, and the answers to questions, which are fields with `? ` at the front; and where an
+/// analysis by threads says another thing.
+pub fn answer<R: Threads + Wait>(
+    rt: &R,
+    alloc: Global,
+    line: &mut String,
+    fields: &[&str],
+) -> Answer<()> {
+    let files = files_in(alloc, fields)?;
+    let pieces = pieces_at(alloc, files.as_slice())?;
     let found = analyse_here(alloc, pieces.pieces())?;
     write_said(alloc, line, &found, pieces.pieces())?;
     write_answers(line, &found, fields)?;
-    Ok(())
+    note_differences(rt, alloc, line, files.as_slice(), &found)
 }

@@ -99,7 +99,8 @@ fn write_decls(line: &mut String, found: &FileFacts) -> Result<(), AllocError> {
     Ok(())
 }
 
-fn write_facts(line: &mut String, found: &FileFacts) -> Result<(), AllocError> {
+/// Writes the facts of a text.
+pub fn write_facts(line: &mut String, found: &FileFacts) -> Result<(), AllocError> {
     write_problems(line, found)?;
     write_package(line, found)?;
     write_imports(line, found)?;

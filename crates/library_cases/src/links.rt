@@ -41,8 +41,8 @@ fn write_use(line: &mut String, text: &str, name_use: &NameUse) -> Result<(), Al
     }
 }
 
-// The uses, and the diagnostics.
-fn write_links(line: &mut String, text: &str, links: &Links) -> Result<(), AllocError> {
+/// Writes the uses, and the diagnostics.
+pub fn write_links(line: &mut String, text: &str, links: &Links) -> Result<(), AllocError> {
     for name_use in links.uses.as_slice() {
         write_use(line, text, name_use)?;
     }

@@ -14,16 +14,26 @@ mod messages;
 mod places;
 mod queries;
 mod replies;
+mod shares;
 mod statements;
 mod texts;
 mod uris;
+mod visited;
 
 use case_notation::{Answer, Names, behind, fields_of};
 use std::alloc::Global;
 use std::io::{self, BufRead, BufReader};
+use std::sync::Wait;
+use std::thread::Threads;
 
 // Writes the answer to a call on some fields.
-fn answer(alloc: Global, line: &mut String, call: &str, fields: &[&str]) -> Answer<()> {
+fn answer<R: Threads + Wait>(
+    rt: &R,
+    alloc: Global,
+    line: &mut String,
+    call: &str,
+    fields: &[&str],
+) -> Answer<()> {
     match call {
         "laws" => laws::answer(alloc, line),
         "tokens" | "token size" | "faults" | "statements" | "depth" => texts::answer(
@@ -35,7 +45,9 @@ fn answer(alloc: Global, line: &mut String, call: &str, fields: &[&str]) -> Answ
         "graph" | "alike" | "ring" => graphs::answer(alloc, line, call, fields),
         "links" | "outlines" | "replaced" | "set" => links::answer(alloc, line, call, fields),
         "board" | "piece" | "refused piece" => boards::answer(alloc, line, call, fields),
-        "analysis" => analyses::answer(alloc, line, fields),
+        "analysis" => analyses::answer(rt, alloc, line, fields),
+        "shares" => shares::answer(rt, alloc, line, fields),
+        "meet" => shares::meet(rt, alloc, line, fields),
         "again" => changes::answer(alloc, line, fields),
         "queries" => queries::answer(alloc, line, fields),
         "offsets" | "positions" | "edits" => documents::answer(alloc, line, call, fields),
@@ -50,7 +62,8 @@ fn answer(alloc: Global, line: &mut String, call: &str, fields: &[&str]) -> Answ
 }
 
 // Writes the answer to a line that is written out, or gives a piece a name.
-fn answer_fields(
+fn answer_fields<R: Threads + Wait>(
+    rt: &R,
     alloc: Global,
     names: &mut Names,
     line: &mut String,
@@ -61,30 +74,47 @@ fn answer_fields(
         return Ok(());
     };
     let Some(name) = call.strip_prefix("let ") else {
-        return answer(alloc, line, call, rest);
+        return answer(rt, alloc, line, call, rest);
     };
     names.add(name, behind(given))?;
     Ok(write!(line, "let {name}")?)
 }
 
-fn answer_whole(alloc: Global, names: &mut Names, line: &mut String, given: &str) -> Answer<()> {
+fn answer_whole<R: Threads + Wait>(
+    rt: &R,
+    alloc: Global,
+    names: &mut Names,
+    line: &mut String,
+    given: &str,
+) -> Answer<()> {
     let fields = fields_of(alloc, given)?;
-    answer_fields(alloc, names, line, given, fields.as_slice())
+    answer_fields(rt, alloc, names, line, given, fields.as_slice())
 }
 
 // Writes the answer to a line. A remark and an empty line are answered by themselves.
-fn answer_line(alloc: Global, names: &mut Names, line: &mut String, given: &str) -> Answer<()> {
+fn answer_line<R: Threads + Wait>(
+    rt: &R,
+    alloc: Global,
+    names: &mut Names,
+    line: &mut String,
+    given: &str,
+) -> Answer<()> {
     if given.is_empty() || given.starts_with('#') {
         return Ok(line.push_str(given)?);
     }
     let whole = names.expanded(given)?;
-    answer_whole(alloc, names, line, whole.as_str())
+    answer_whole(rt, alloc, names, line, whole.as_str())
 }
 
 // The answer to a line, and to one that can't be read what is wrong.
-fn print_answer<R: Print>(rt: &R, alloc: Global, names: &mut Names, given: &str) -> io::Result<()> {
+fn print_answer<R: Threads + Wait + Print>(
+    rt: &R,
+    alloc: Global,
+    names: &mut Names,
+    given: &str,
+) -> io::Result<()> {
     let mut line = String::new(alloc);
-    match answer_line(alloc, names, &mut line, given) {
+    match answer_line(rt, alloc, names, &mut line, given) {
         Ok(()) => {
             let answer = line.as_str().trim_end();
             println!(rt; "{answer}")

@@ -1,2 +1,1 @@
-mod Ascending
 mod LinesLemmas

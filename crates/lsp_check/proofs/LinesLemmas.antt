@@ -1,21 +1,20 @@
 -- The lines of diagnostics and their positions, and the lines of the files of a workspace.
-use Rattle.std.proofs.Common.{◌≡◌, ℕ, zero, suc, ◌+◌, ◌<◌, ◌≤◌, List, [], ◌∷◌, ◌++◌, length, take, drop, get_or, map, refl, ap, sym, subst, ◌∙◌, arith, append_assoc, append-nil, flat_map, add-one, drop-cons, Option, Result, Ok, Err}
+use Rattle.std.proofs.Common.{◌≡◌, ℕ, zero, suc, ◌+◌, ◌<◌, ◌≤◌, List, [], ◌∷◌, ◌++◌, length, take, drop, get_or, map, refl, ap, sym, subst, ◌∙◌, arith, append_assoc, append-nil, flat_map, add-one, drop-cons, Option, Some, Result, Ok, Err}
 use Rattle.std.specs.Prelude.{OnErr}
-use Rattle.std.specs.List.{enumerate_from}
+use Rattle.std.specs.List.{enumerate_from, slice_get}
 use Rattle.std.specs.Io.KnownBytes.{Appends}
 use Rattle.std.proofs.KnownBytes.{Appends-trans, Appends-nil}
 use Rattle.std.proofs.lemmas.List.{take_more, drop_all}
 use Rattle.std.proofs.lemmas.Grind.{flat_map-append}
+use Rattle.std.proofs.lemmas.Option.{get_or_from_slice_get}
 use Rattle.doc_text.specs.Positions.{position_of}
 use Rattle.doc_text.specs.declared.encoding.Encoding.TheVariants.{Utf16}
 use Rattle.doc_text.specs.declared.position.Position.{Position}
 use Rattle.file_facts.specs.declared.diagnostic.Diag.{Diag}
-use Rattle.piece_collector.specs.Views.{TextAt}
-use Rattle.work_index.specs.Pieces.{workspace_of}
-use Rattle.work_index.specs.Workspace.{AnalysisData}
+use Rattle.work_index.specs.Workspace.{Workspace, AnalysisData, analysis}
 use Rattle.lsp_config.specs.Sending.{SendsPrefix}
 use Rattle.lsp_config.proofs.SendingLemmas.{front-behind}
-use Rattle.lsp_check.specs.Listing.{line_at, line_of, numbered_lines}
+use Rattle.lsp_check.specs.Listing.{line_at, line_of, lines_of, numbered_lines}
 use Rattle.lsp_check.specs.Steps.{Sent}
 
 -- the position of one of the offsets
@@ -40,39 +39,47 @@ listed-more path text ds starts old before after i d p lt s b a =
 -- ---- the lines of the files, one file after the other
 
 -- the lines of the files from a number on
-abbrev pub left_from : AnalysisData → ℕ → List TextAt → List ℕ
-left_from a n ts = flat_map (numbered_lines a) (enumerate_from n (workspace_of (drop n ts)))
+abbrev pub left_from : AnalysisData → ℕ → Workspace → List ℕ
+left_from a n w = flat_map (numbered_lines a) (enumerate_from n (drop n w))
 
-split : (ts : List TextAt) (n : ℕ) (t : TextAt) → n < length ts → t ≡ get_or ts n t → drop n ts ≡ t ∷ drop (n + 1) ts
-split ts n t there is = rw (add-one n) (drop-cons ts n t there ∙ ap (λ x. x ∷ drop (suc n) ts) (sym is))
+split : (w : Workspace) (n : ℕ) (d : List ℕ × List ℕ) → n < length w → drop n w ≡ get_or w n d ∷ drop (n + 1) w
+split w n d there = rw (add-one n) (drop-cons w n d there)
 
 -- those of the next file come first
-left-more : (a : AnalysisData) (ts : List TextAt) (n : ℕ) (t : TextAt) → n < length ts → t ≡ get_or ts n t → left_from a n ts ≡ numbered_lines a (n, (t.path, t.text)) ++ left_from a (n + 1) ts
-left-more a ts n t there is = ap (λ rest. flat_map (numbered_lines a) (enumerate_from n (workspace_of rest))) (split ts n t there is)
+left-more : (a : AnalysisData) (w : Workspace) (n : ℕ) (d : List ℕ × List ℕ) → n < length w → left_from a n w ≡ numbered_lines a (n, get_or w n d) ++ left_from a (n + 1) w
+left-more a w n d there = ap (λ rest. flat_map (numbered_lines a) (enumerate_from n rest)) (split w n d there)
 
 pub sent-none : (v : Option (List ℕ)) (all : List ℕ) → Sent v v all all
 sent-none v all = record { front = []; joined = refl; appended = Appends-nil v }
 
 -- one more file went out
-pub sent-more : (a : AnalysisData) (ts : List TextAt) (n : ℕ) (t : TextAt) (v w x : Option (List ℕ)) (all lines : List ℕ) → n < length ts → t ≡ get_or ts n t → lines ≡ numbered_lines a (n, (t.path, t.text))
-    → Sent v w all (left_from a n ts) → Appends w x lines → Sent v x all (left_from a (n + 1) ts)
-sent-more a ts n t v w x all lines there is of sent more = record {
+pub sent-more : (a : AnalysisData) (w : Workspace) (n : ℕ) (d : List ℕ × List ℕ) (old now new : Option (List ℕ)) (all lines : List ℕ) → n < length w → lines ≡ numbered_lines a (n, get_or w n d)
+    → Sent old now all (left_from a n w) → Appends now new lines → Sent old new all (left_from a (n + 1) w)
+sent-more a w n d old now new all lines there of sent more = record {
   front = sent.front ++ lines;
-  joined = sent.joined ∙ ap (λ l. sent.front ++ l) (left-more a ts n t there is ∙ ap (λ l. l ++ left_from a (n + 1) ts) (sym of)) ∙ sym (append_assoc sent.front lines (left_from a (n + 1) ts));
-  appended = Appends-trans v w x sent.front lines sent.appended more;
+  joined = sent.joined ∙ ap (λ l. sent.front ++ l) (left-more a w n d there ∙ ap (λ l. l ++ left_from a (n + 1) w) (sym of)) ∙ sym (append_assoc sent.front lines (left_from a (n + 1) w));
+  appended = Appends-trans old now new sent.front lines sent.appended more;
 }
 
 -- the next file went out in part
-pub sent-part : (a : AnalysisData) (ts : List TextAt) (n : ℕ) (t : TextAt) (v w x : Option (List ℕ)) (all lines : List ℕ) → n < length ts → t ≡ get_or ts n t → lines ≡ numbered_lines a (n, (t.path, t.text))
-    → Sent v w all (left_from a n ts) → SendsPrefix w x lines → SendsPrefix v x all
-sent-part a ts n t v w x all lines there is of sent part =
-    front-behind v w x sent.front lines (left_from a (n + 1) ts) all (sent.joined ∙ ap (λ l. sent.front ++ l) (left-more a ts n t there is ∙ ap (λ l. l ++ left_from a (n + 1) ts) (sym of))) sent.appended part
+pub sent-part : (a : AnalysisData) (w : Workspace) (n : ℕ) (d : List ℕ × List ℕ) (old now new : Option (List ℕ)) (all lines : List ℕ) → n < length w → lines ≡ numbered_lines a (n, get_or w n d)
+    → Sent old now all (left_from a n w) → SendsPrefix now new lines → SendsPrefix old new all
+sent-part a w n d old now new all lines there of sent part =
+    front-behind old now new sent.front lines (left_from a (n + 1) w) all (sent.joined ∙ ap (λ l. sent.front ++ l) (left-more a w n d there ∙ ap (λ l. l ++ left_from a (n + 1) w) (sym of))) sent.appended part
 
 -- none is left
-pub sent-all : (a : AnalysisData) (ts : List TextAt) (n : ℕ) (v w : Option (List ℕ)) (all : List ℕ) → length ts ≤ n → Sent v w all (left_from a n ts) → Appends v w all
-sent-all a ts n v w all none sent =
-    let nothing : left_from a n ts ≡ [] = ap (λ rest. flat_map (numbered_lines a) (enumerate_from n (workspace_of rest))) (drop_all n ts none) in
-    subst (Appends v w) (sym (sent.joined ∙ ap (λ l. sent.front ++ l) nothing ∙ append-nil sent.front)) sent.appended
+pub sent-all : (a : AnalysisData) (w : Workspace) (n : ℕ) (old new : Option (List ℕ)) (all : List ℕ) → length w ≤ n → Sent old new all (left_from a n w) → Appends old new all
+sent-all a w n old new all none sent =
+    let nothing : left_from a n w ≡ [] = ap (λ rest. flat_map (numbered_lines a) (enumerate_from n rest)) (drop_all n w none) in
+    subst (Appends old new) (sym (sent.joined ∙ ap (λ l. sent.front ++ l) nothing ∙ append-nil sent.front)) sent.appended
+
+-- the lines of the file with a number
+pub lines-at : (w : Workspace) (n : ℕ) (a : AnalysisData) (path text : List ℕ) (diags : List Diag) → a ≡ analysis w → path ≡ (get_or w n ([], [])).0 → text ≡ (get_or w n ([], [])).1 → slice_get a.diagnostics n ≡ Some diags
+    → lines_of path text diags ≡ numbered_lines (analysis w) (n, get_or w n ([], []))
+lines-at w n a path text diags is p t found =
+    let e = get_or w n ([], []) in
+    let known : diags ≡ get_or (let b = analysis w in b.diagnostics) n [] = sym (get_or_from_slice_get a.diagnostics n diags [] found) ∙ ap (λ (b : AnalysisData). get_or b.diagnostics n []) is in
+    ap (λ q. lines_of q text diags) p ∙ ap (λ u. lines_of e.0 u diags) t ∙ ap (λ ds. lines_of e.0 e.1 ds) known
 
 -- what holds anyway holds at an error
 pub on_err : {A E P : Type 0} (r : Result A E) → P → OnErr r P

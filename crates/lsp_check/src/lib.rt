@@ -1,7 +1,7 @@
 //! The check of a workspace, without an editor: a line for each diagnostic.
 #![tactic(auto)]
 
-mod checked_files;
+mod analysing;
 mod checking;
 mod lines;
 

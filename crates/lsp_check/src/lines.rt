@@ -5,10 +5,10 @@ ghost use Rattle.doc_text.specs.Positions.{position_of};
 ghost use Rattle.doc_text.specs.declared.encoding.Encoding.TheVariants.{Utf16};
 ghost use Rattle.lsp_check.specs.Listing.{place_of, words_of, line_at, lines_of, is_error, has_errors};
 
-use crate::checked_files::CheckedFiles;
 use doc_text::{Encoding, Position, positions_of};
 use file_facts::{Diag, Problem};
 use itoa::Buffer;
+use lsp_workspace::Snapshot;
 use sqlite_items::Items;
 use std::alloc::{AllocError, Global};
 
@@ -111,8 +111,8 @@ fn any_error(diags: &Items<Diag>) -> bool
 }
 
 // Whether one of the diagnostics of the workspace is an error, and not an information.
-pub fn has_errors(checked: &CheckedFiles) -> bool
-    ensures { result ≡ has_errors checked.now }
+pub fn has_errors(files: &Snapshot<'_>) -> bool
+    ensures { result ≡ has_errors files.now }
 {
-    checked.analysis().all_diagnostics().iter().any(any_error)
+    files.analysis().all_diagnostics().iter().any(any_error)
 }

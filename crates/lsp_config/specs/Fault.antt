@@ -4,6 +4,10 @@ use Rattle.lsp_frame.specs.Counts.{HasFailed}
 use Rattle.lsp_frame.specs.declared.counts.Counts.{Counts}
 use Rattle.piece_collector.specs.declared.fault.BoardFault.{BoardFault}
 use Rattle.piece_collector.specs.declared.fault.BoardFault.TheVariants as board
+use Rattle.work_index.specs.declared.fault.AnalyseFault.{AnalyseFault}
+use Rattle.work_index.specs.declared.fault.AnalyseFault.TheVariants as analysis
+use Rattle.worker_pool.specs.declared.fault.PoolFault.{PoolFault}
+use Rattle.worker_pool.specs.declared.fault.PoolFault.TheVariants as pool
 use Rattle.lsp_config.specs.declared.fault.CoreFault.{CoreFault}
 use Rattle.lsp_config.specs.declared.fault.CoreFault.TheVariants as core
 use Rattle.lsp_config.specs.declared.fault.ServeFault.{ServeFault}
@@ -11,6 +15,7 @@ use Rattle.lsp_config.specs.declared.fault.ServeFault.TheVariants as serve
 
 abbrev pub core_code : CoreFault → ℕ
 core_code core.Memory = 803
+core_code core.ThreadRefused = 804
 core_code core.Exhausted = 805
 
 -- the fault of a core whose board refused a text
@@ -18,10 +23,21 @@ abbrev pub core_fault_of : BoardFault → CoreFault
 core_fault_of board.Memory = core.Memory
 core_fault_of board.Exhausted = core.Exhausted
 
+-- the fault of a core whose analysis in shares failed
+abbrev pub fault_of_analysis : AnalyseFault → CoreFault
+fault_of_analysis analysis.Memory = core.Memory
+fault_of_analysis analysis.ThreadRefused = core.ThreadRefused
+
 -- the fault of a server whose core stopped
 abbrev pub serve_fault_of : CoreFault → ServeFault
 serve_fault_of core.Memory = serve.Memory
+serve_fault_of core.ThreadRefused = serve.ThreadRefused
 serve_fault_of core.Exhausted = serve.Exhausted
+
+-- the fault of a server whose workers couldn't be started
+abbrev pub fault_of_pool : PoolFault → ServeFault
+fault_of_pool pool.Memory = serve.Memory
+fault_of_pool pool.ThreadRefused = serve.ThreadRefused
 
 abbrev pub serve_code : ServeFault → ℕ
 serve_code serve.Read = 801
@@ -38,15 +54,21 @@ ComesWhileServing serve.BadRoot = ⊥
 ComesWhileServing (serve.BadPath index) = ⊥
 ComesWhileServing _ = ⊤
 
--- a fault where only a writer and memory can fail: the writer's only where it failed between these counts
-abbrev pub IsWriteOrMemory : Counts → Counts → ServeFault → Type 0
-IsWriteOrMemory old new serve.Read = ⊥
-IsWriteOrMemory old new serve.Write = HasFailed old new
-IsWriteOrMemory old new serve.Memory = ⊤
-IsWriteOrMemory old new serve.ThreadRefused = ⊥
-IsWriteOrMemory old new serve.Exhausted = ⊥
-IsWriteOrMemory old new serve.BadRoot = ⊥
-IsWriteOrMemory old new (serve.BadPath index) = ⊥
+-- a fault of a core that analyses by itself: no thread is asked for
+abbrev pub ComesWithoutThreads : CoreFault → Type 0
+ComesWithoutThreads core.ThreadRefused = ⊥
+ComesWithoutThreads _ = ⊤
+
+-- a fault of workers: they want memory and threads
+abbrev pub IsOfWorkers : ServeFault → Type 0
+IsOfWorkers serve.Memory = ⊤
+IsOfWorkers serve.ThreadRefused = ⊤
+IsOfWorkers _ = ⊥
+
+-- a fault of a check, whose writer, memory and threads can fail: the writer's only where it failed between these counts
+abbrev pub ComesWhileChecking : Counts → Counts → ServeFault → Type 0
+ComesWhileChecking old new serve.Write = HasFailed old new
+ComesWhileChecking old new fault = IsOfWorkers fault
 
 -- a fault of a core or of its workers
 abbrev pub IsOfCore : ServeFault → Type 0

@@ -1,11 +1,13 @@
 // What can fail in a server.
 ghost use Rattle.std.specs.Prelude.{◌≡◌};
-ghost use Rattle.lsp_config.specs.Fault.{core_fault_of, serve_fault_of};
+ghost use Rattle.lsp_config.specs.Fault.{core_fault_of, fault_of_analysis, serve_fault_of, fault_of_pool};
 ghost use Rattle.lsp_config.specs.declared.fault.CoreFault.TheVariants as core;
 
 use piece_collector::BoardFault;
 use std::alloc::AllocError;
 use thiserror::Error;
+use work_index::AnalyseFault;
+use worker_pool::PoolFault;
 
 /// Why a core stopped.
 #[derive(Clone, Copy, Debug, PartialEq, Eq, Error)]
@@ -13,6 +15,9 @@ pub enum CoreFault {
     /// 803: memory was refused.
     #[error("out of memory")]
     Memory,
+    /// 804: a thread was refused.
+    #[error("thread refused")]
+    ThreadRefused,
     /// 805: a text needed a stamp after `u64::MAX`.
     #[error("no stamp is left")]
     Exhausted,
@@ -21,12 +26,13 @@ pub enum CoreFault {
 impl CoreFault {
     ghost use Rattle.lsp_config.specs.Fault.{core_code};
 
-    /// The fault's number, 803 or 805.
+    /// The fault's number, from 803 to 805.
     pub fn code(&self) -> u32
         ensures { result ≡ core_code self.now }
     {
         match self {
             CoreFault::Memory => 803,
+            CoreFault::ThreadRefused => 804,
             CoreFault::Exhausted => 805,
         }
     }
@@ -47,6 +53,17 @@ impl From<BoardFault> for CoreFault {
         match fault {
             BoardFault::Memory => CoreFault::Memory,
             BoardFault::Exhausted => CoreFault::Exhausted,
+        }
+    }
+}
+
+impl From<AnalyseFault> for CoreFault {
+    ghost from_gives = { λ fault e. e ≡ fault_of_analysis fault };
+
+    fn from(fault: AnalyseFault) -> CoreFault {
+        match fault {
+            AnalyseFault::Memory => CoreFault::Memory,
+            AnalyseFault::ThreadRefused => CoreFault::ThreadRefused,
         }
     }
 }
@@ -105,7 +122,19 @@ impl From<CoreFault> for ServeFault {
     fn from(fault: CoreFault) -> ServeFault {
         match fault {
             CoreFault::Memory => ServeFault::Memory,
+            CoreFault::ThreadRefused => ServeFault::ThreadRefused,
             CoreFault::Exhausted => ServeFault::Exhausted,
+        }
+    }
+}
+
+impl From<PoolFault> for ServeFault {
+    ghost from_gives = { λ fault e. e ≡ fault_of_pool fault };
+
+    fn from(fault: PoolFault) -> ServeFault {
+        match fault {
+            PoolFault::Memory => ServeFault::Memory,
+            PoolFault::ThreadRefused => ServeFault::ThreadRefused,
         }
     }
 }

@@ -1,4 +1,5 @@
 pub mod CoreLemmas
+mod FaultLemmas
 mod RunLemmas
 mod DiagnosticsLemmas
 mod ReportsLemmas

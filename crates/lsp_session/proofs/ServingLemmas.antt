@@ -384,6 +384,7 @@ more_cause a b c k l m (served.BadPath index) reads writes of = tt
 
 pub of_core : (fault : CoreFault) → IsOfCore (serve_fault_of fault)
 of_core core_fault.Memory = tt
+of_core core_fault.ThreadRefused = tt
 of_core core_fault.Exhausted = tt
 
 pub of_core_or_write : (old new : Counts) (fault : ServeFault) → IsOfCore fault → IsWriteOrCore old new fault

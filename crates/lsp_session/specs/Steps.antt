@@ -1,5 +1,5 @@
 -- What a core does in steps: the messages that it may process, rounds of work, and the messages of a stream.
-use Rattle.std.specs.Prelude.{◌≡◌, ◌⊎◌, ℕ, zero, suc, ◌++◌, List, [], ◌∷◌, Option, None, option_map, option_and_then, length, map, true}
+use Rattle.std.specs.Prelude.{◌≡◌, ◌⊎◌, ℕ, zero, suc, ◌++◌, List, [], ◌∷◌, Bool, Option, None, option_map, option_and_then, length, map, true}
 use Rattle.std.specs.Option.{option_to_list}
 use Rattle.serde_json.specs.Written.{compact_text}
 use Rattle.piece_collector.specs.Board.{IsFull, IsFirstWanted}
@@ -16,6 +16,13 @@ pub record CanProcess (core : CoreState) : Type 0 where
   pub others : List MessageData
   pub queue : core.queue ≡ first ∷ others
   pub ready : waits core.state first ≡ true → IsFull core.board
+
+-- a message is queued, and the files are analysed if that message waits
+pub record IsPrepared (core : CoreState) (is_analysed : Bool) : Type 0 where
+  pub first : MessageData
+  pub others : List MessageData
+  pub queue : core.queue ≡ first ∷ others
+  pub ready : waits core.state first ≡ true → is_analysed ≡ true
 
 -- ---- rounds of work
 

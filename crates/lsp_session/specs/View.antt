@@ -1,5 +1,5 @@
 -- What a session and its core keep, as their definitions see it.
-use Rattle.std.specs.Prelude.{◌≡◌, [], ◌∷◌, Option, map}
+use Rattle.std.specs.Prelude.{◌≡◌, [], ◌∷◌, Bool, Option, map}
 use Rattle.piece_collector.specs.Views.{BoardView}
 use Rattle.lsp_rpc.specs.Message.{message_view}
 use Rattle.workspace_uri.specs.View.{root_text}
@@ -14,6 +14,10 @@ state_of s = record { roots = root_text s.root ∷ []; phase = s.phase; files = 
 
 abbrev pub board_of : Session → BoardView
 board_of s = s.workspace.board
+
+-- an analysis of the files as they are is known
+abbrev pub is_analysed : Session → Bool
+is_analysed s = s.workspace.is_current
 
 -- the last stamp was given
 abbrev pub IsExhausted : BoardView → Type 0

@@ -9,10 +9,12 @@ ghost use Rattle.lsp_session.specs.View.{core_state};
 
 use crate::reply::Reply;
 use crate::session_core::Core;
+use crate::threading::Threading;
 use lsp_config::ServeFault;
 use piece_collector::Verdict;
 use std::sync::Wait;
-use work_index::Done;
+use std::thread::Threads;
+use work_index::{Done, Gate};
 use worker_pool::Pool;
 
 // Hands out the next job, and says whether there was one.
@@ -91,29 +93,36 @@ fn take_result<R: Wait>(rt: &R, core: &mut Core, pool: &mut Pool) -> Result<(), 
 }
 
 // Lets the core process what it can.
-fn advance(core: &mut Core) -> Result<Vec<Reply>, ServeFault>
+fn advance<R: Threads + Wait, G: Gate>(
+    threading: &Threading<'_, R, G>,
+    core: &mut Core,
+) -> Result<Vec<Reply>, ServeFault>
     ensures advances { IfOk result (λ replies. (opening : ℕ) (config : Configuration) (h : List Event) → IsAfter opening config (core_state core.old) h → Advances opening config (core_state core.new) h replies.items) }
     ensures fault { IfErr result IsOfCore }
 {
-    match core.advance() {
+    match core.advance_in_shares(threading.rt, threading.workers, threading.gate) {
         Ok(replies) => Ok(replies),
         Err(fault) => Err(ServeFault::from(fault)),
     }
 }
 
 // Hands out jobs, takes the result of one, and lets the core process what it can.
-fn work_on<R: Wait>(rt: &R, core: &mut Core, pool: &mut Pool) -> Result<Vec<Reply>, ServeFault>
+fn work_on<R: Threads + Wait, G: Gate>(
+    threading: &Threading<'_, R, G>,
+    core: &mut Core,
+    pool: &mut Pool,
+) -> Result<Vec<Reply>, ServeFault>
     ensures progress { IfOk result (λ replies. (config : Configuration) (bodies : List (List ℕ)) (body : List ℕ) → Awaits config (core_state core.old) bodies body → Progresses config (core_state core.new) bodies body replies.items) }
     ensures fault { IfErr result IsOfCore }
 {
-    hand_out(rt, core, pool)?;
-    take_result(rt, core, pool)?;
-    advance(core)
+    hand_out(threading.rt, core, pool)?;
+    take_result(threading.rt, core, pool)?;
+    advance(threading, core)
 }
 
 // Lets the workers work until the core processes the message that waits, and gives the replies to it.
-fn await_replies<R: Wait>(
-    rt: &R,
+fn await_replies<R: Threads + Wait, G: Gate>(
+    threading: &Threading<'_, R, G>,
     core: &mut Core,
     pool: &mut Pool,
 ) -> Result<Vec<Reply>, ServeFault>
@@ -121,8 +130,8 @@ fn await_replies<R: Wait>(
         → Knows config (core_state core.new) (bodies ++ body ∷ []) × (replies.items ≡ replies_to config bodies body)) }
     ensures fault { IfErr result IsOfCore }
 {
-    for _result in rt.forever() {
-        match work_on(rt, core, pool) {
+    for _result in threading.rt.forever() {
+        match work_on(threading, core, pool) {
             Ok(replies) => {
                 if !core.waits() {
                     return Ok(replies);
@@ -135,19 +144,23 @@ fn await_replies<R: Wait>(
 }
 
 // Gives the core a message, and lets it process what it can.
-fn begin(core: &mut Core, body: &[u8]) -> Result<Vec<Reply>, ServeFault>
+fn begin<R: Threads + Wait, G: Gate>(
+    threading: &Threading<'_, R, G>,
+    core: &mut Core,
+    body: &[u8],
+) -> Result<Vec<Reply>, ServeFault>
     ensures progress { IfOk result (λ replies. (config : Configuration) (bodies : List (List ℕ)) → Knows config (core_state core.old) bodies → Progresses config (core_state core.new) bodies body.now replies.items) }
     ensures fault { IfErr result IsOfCore }
 {
     match core.message(body) {
-        Ok(()) => advance(core),
+        Ok(()) => advance(threading, core),
         Err(fault) => Err(ServeFault::from(fault)),
     }
 }
 
 /// Gives the core a message, lets the workers work as long as it waits, and gives the replies to it. None waited before.
-pub fn answer<R: Wait>(
-    rt: &R,
+pub fn answer<R: Threads + Wait, G: Gate>(
+    threading: &Threading<'_, R, G>,
     core: &mut Core,
     pool: &mut Pool,
     body: &[u8],
@@ -156,9 +169,9 @@ pub fn answer<R: Wait>(
         → Knows config (core_state core.new) (bodies ++ body.now ∷ []) × (replies.items ≡ replies_to config bodies body.now)) }
     ensures fault { IfErr result IsOfCore }
 {
-    let replies = begin(core, body)?;
+    let replies = begin(threading, core, body)?;
     if !core.waits() {
         return Ok(replies);
     }
-    await_replies(rt, core, pool)
+    await_replies(threading, core, pool)
 }

@@ -20,6 +20,7 @@ mod serving;
 mod session;
 mod session_core;
 mod taking;
+mod threading;
 mod working;
 
 pub use ended::Ended;
@@ -34,5 +35,4 @@ pub use reply::Reply;
 pub use run::{CoreEvent, CoreRun, run_core};
 pub use serving::serve;
 pub use session_core::Core;
-pub use work_index::{Done, FileWork};
-pub use worker_pool::{Gate, OpenGate};
+pub use work_index::{Done, FileWork, Gate, OpenGate};

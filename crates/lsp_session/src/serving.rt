@@ -14,13 +14,15 @@ ghost use Rattle.lsp_session.specs.View.{core_state};
 use crate::ended::Ended;
 use crate::session_core::Core;
 use crate::taking::take_turn;
+use crate::threading::Threading;
 use lsp_config::{Config, ServeFault};
 use lsp_frame::{ByteSink, ByteSource, FrameReader};
 use std::alloc::Global;
 use std::marker::Send;
 use std::sync::{Arc, Wait};
 use std::thread::Threads;
-use worker_pool::{Gate, Pool, PoolFault};
+use work_index::Gate;
+use worker_pool::Pool;
 
 // What a session is started with: the files, how many workers there are, and the gate that they pass.
 struct Start<'g, G: Gate> {
@@ -38,19 +40,15 @@ fn start_pool<R: Threads + Wait + Clone + Send + Drop + 'static, G: Gate + 'stat
 ) -> Result<Pool, ServeFault>
     ensures { IfErr result IsOfCore }
 {
-    let Ok(gate) = Arc::try_clone(gate) else {
-        return Err(ServeFault::Memory);
-    };
     match Pool::start(rt, alloc, workers, gate) {
         Ok(pool) => Ok(pool),
-        Err(PoolFault::Memory) => Err(ServeFault::Memory),
-        Err(PoolFault::ThreadRefused) => Err(ServeFault::ThreadRefused),
+        Err(fault) => Err(ServeFault::from(fault)),
     }
 }
 
 // Serves a session with a new core, message by message, to its end.
-fn serve_messages<R: Wait, S: ByteSource, K: ByteSink>(
-    rt: &R,
+fn serve_messages<R: Threads + Wait, S: ByteSource, K: ByteSink, G: Gate>(
+    threading: &Threading<'_, R, G>,
     reader: &mut FrameReader<S>,
     writer: &mut K,
     core: &mut Core,
@@ -62,8 +60,8 @@ fn serve_messages<R: Wait, S: ByteSource, K: ByteSink>(
     ensures writes { Calls (K.counts writer.old) (K.counts writer.new) result }
     ensures cause { IfErr result (IsCaused (S.counts (source_of reader.old)) (S.counts (source_of reader.new)) (K.counts writer.old) (K.counts writer.new)) }
 {
-    for _turn in rt.forever() {
-        match take_turn(rt, reader, writer, core, pool) {
+    for _turn in threading.rt.forever() {
+        match take_turn(threading, reader, writer, core, pool) {
             Ok(None) => {}
             Ok(Some(ended)) => return Ok(ended),
             Err(fault) => return Err(fault),
@@ -104,7 +102,12 @@ fn run<
         Ok(pool) => pool,
         Err(fault) => return Err(fault),
     };
-    let ended = serve_messages(rt, reader, writer, &mut core, &mut pool);
+    let threading = Threading {
+        rt,
+        workers,
+        gate: &**gate,
+    };
+    let ended = serve_messages(&threading, reader, writer, &mut core, &mut pool);
     pool.close(rt);
     ended
 }
@@ -112,7 +115,8 @@ fn run<
 /// Serves a session: reads the messages of an editor from the frames of `reader`, and writes a frame to `writer` for
 /// each reply, before the next message is read. So many `workers` lex and parse the texts in threads of their own, and gather
 /// their facts; 0 counts as 1, and over 64 as 64. Each passes the gate before it works on a text. A text is handed
-/// out as soon as fewer than 256 are with the workers, not only when a message asks for it.
+/// out as soon as fewer than 256 are with the workers, not only when a message asks for it. As many threads resolve the names of the
+/// files where a message asks for it, but never more than there are files; each passes the gate before each of its files.
 ///
 /// It ends with the message `exit`, behind which nothing is read, or with the input: at its end or at a frame that
 /// can't be read. The faults: `Read` where the source failed, `Write` where the sink did, `Memory` where memory was refused, also

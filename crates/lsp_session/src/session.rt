@@ -29,17 +29,19 @@ use crate::phase::Phase;
 use crate::reply::Reply;
 use crate::reports::{document_diagnostics, workspace_reports};
 use doc_text::{Encoding, Text};
-use lsp_config::{Config, CoreFault};
+use lsp_config::Config;
 use lsp_rpc::{
     Diagnostic, DidChangeParams, DidOpenParams, DocumentPosition, DocumentReport, ErrorCode, Id,
     Message, Method, ReferenceParams, RenameParams, document_uri, error_reply, initialize_reply,
     null_reply, report_reply, symbol_query, workspace_reply,
 };
 use lsp_workspace::{self as files, Document, Edits, Snapshot, Workspace};
-use piece_collector::{Job, Piece, Verdict};
+use piece_collector::{BoardFault, Job, Piece, Verdict};
 use serde_json::Value;
 use std::alloc::{AllocError, Global};
-use work_index::FileWork;
+use std::sync::Wait;
+use std::thread::Threads;
+use work_index::{AnalyseFault, FileWork, Gate};
 use workspace_uri::Root;
 
 /// A session with an editor.
@@ -52,10 +54,10 @@ pub struct Session {
 }
 
 impl Session {
-    ghost use Rattle.lsp_session.specs.View.{state_of, board_of, IsExhausted};
+    ghost use Rattle.lsp_session.specs.View.{state_of, board_of, is_analysed, IsExhausted};
 
     // The session before its first message, whose board gives stamps from the one after `stamp` on.
-    pub(crate) fn new(alloc: Global, config: Config, stamp: u64) -> Result<Session, CoreFault>
+    pub(crate) fn new(alloc: Global, config: Config, stamp: u64) -> Result<Session, BoardFault>
         ensures state { IfOk result (λ s. state_of s ≡ spec.start config) }
         ensures board { IfOk result (λ s. IsAfter stamp (board_of s) (first_events (workspace (files_of config)))) }
     {
@@ -101,11 +103,11 @@ impl Session {
         files::get(self.workspace.files(), path)?.text()
     }
 
-    fn open(&mut self, params: Value) -> Result<(), CoreFault>
+    fn open(&mut self, params: Value) -> Result<(), BoardFault>
         ensures state { OnOk result (state_of self.new ≡ spec.opened (state_of self.old) (opened_of (view params))) }
         ensures board { OnOk result ((opening : ℕ) (events : List Event) → IsAfter opening (board_of self.old) events → IsAfter opening (board_of self.new)
             (working.events_for_path (λ path. event_at path (state_of self.new).files ∷ []) (option_and_then (λ o. path_of (state_of self.old).roots o.uri) (opened_of (view params))) ++ events)) }
-        ensures exhausted { result ≡ Err CoreFault.Exhausted → IsExhausted (board_of self.new) }
+        ensures exhausted { result ≡ Err BoardFault.Exhausted → IsExhausted (board_of self.new) }
     {
         let Some(opened) = DidOpenParams::from_value(params) else {
             return Ok(());
@@ -121,11 +123,11 @@ impl Session {
         Ok(())
     }
 
-    fn change(&mut self, params: Value) -> Result<(), CoreFault>
+    fn change(&mut self, params: Value) -> Result<(), BoardFault>
         ensures state { OnOk result (state_of self.new ≡ spec.changed (state_of self.old) (changed_of (view params))) }
         ensures board { OnOk result ((opening : ℕ) (events : List Event) → IsAfter opening (board_of self.old) events → IsAfter opening (board_of self.new)
             (working.events_for_path (λ path. events_at path (state_of self.old).files (state_of self.new).files) (option_and_then (λ c. path_of (state_of self.old).roots c.document.uri) (changed_of (view params))) ++ events)) }
-        ensures exhausted { result ≡ Err CoreFault.Exhausted → IsExhausted (board_of self.new) }
+        ensures exhausted { result ≡ Err BoardFault.Exhausted → IsExhausted (board_of self.new) }
     {
         let Some(changed) = DidChangeParams::from_value(self.alloc, params)? else {
             return Ok(());
@@ -152,11 +154,11 @@ impl Session {
         }
     }
 
-    fn close(&mut self, params: &Value) -> Result<(), CoreFault>
+    fn close(&mut self, params: &Value) -> Result<(), BoardFault>
         ensures state { OnOk result (state_of self.new ≡ spec.closed (state_of self.old) (view params.now)) }
         ensures board { OnOk result ((opening : ℕ) (events : List Event) → IsAfter opening (board_of self.old) events → IsAfter opening (board_of self.new)
             (working.events_for_path (λ path. events_at path (state_of self.old).files (state_of self.new).files) (spec.path_in (state_of self.old) (view params.now)) ++ events)) }
-        ensures exhausted { result ≡ Err CoreFault.Exhausted → IsExhausted (board_of self.new) }
+        ensures exhausted { result ≡ Err BoardFault.Exhausted → IsExhausted (board_of self.new) }
     {
         let Some(path) = self.path_in(params)? else {
             return Ok(());
@@ -210,11 +212,46 @@ impl Session {
         self.workspace.last_stamp()
     }
 
+    // ---- the analysis
+
+    /// Whether an analysis of the files as they are is known.
+    pub(crate) fn is_analysed(&self) -> bool
+        ensures { result ≡ is_analysed self.now }
+    {
+        self.workspace.is_current()
+    }
+
+    /// Analyses the files, unless their analysis is known. The board has to be complete.
+    pub(crate) fn analyse(&mut self) -> Result<(), AllocError>
+        requires { IsFull (board_of self.old) }
+        ensures state { state_of self.new ≡ state_of self.old }
+        ensures board { board_of self.new ≡ board_of self.old }
+        ensures analysed { OnOk result (IsTrue (is_analysed self.new)) }
+    {
+        self.workspace.refresh()
+    }
+
+    /// Analyses the files by so many threads, each of which enters the gate before each of its files. Else as
+    /// [`analyse`](Session::analyse). After an `Err` the session can't be used any more.
+    pub(crate) fn analyse_in_shares<R: Threads + Wait, G: Gate>(
+        &mut self,
+        rt: &R,
+        workers: usize,
+        gate: &G,
+    ) -> Result<(), AnalyseFault>
+        requires { IsFull (board_of self.old) }
+        ensures state { OnOk result (state_of self.new ≡ state_of self.old) }
+        ensures board { OnOk result (board_of self.new ≡ board_of self.old) }
+        ensures analysed { OnOk result (IsTrue (is_analysed self.new)) }
+    {
+        self.workspace.refresh_in_shares(rt, workers, gate)
+    }
+
     // ---- diagnostics
 
     // What is wrong in the document of a path, which has this text.
     fn found_in(&self, path: &str, text: &Text) -> Result<Vec<Diagnostic<'static>>, AllocError>
-        requires { IsTrue self.now.workspace.is_current }
+        requires { IsTrue (is_analysed self.now) }
         ensures { IfOk result (λ found. map diagnostic_view found.items ≡ document_diagnostics (state_of self.now).files path.now text.now) }
     {
         let snapshot = self.workspace.snapshot();
@@ -223,7 +260,7 @@ impl Session {
 
     // Replies the diagnostics of the document at a path, where it is one of the workspace.
     fn report(&self, id: &Id, path: &str) -> Result<Option<Reply>, AllocError>
-        requires { IsTrue self.now.workspace.is_current }
+        requires { is_some (spec.document_at path.now (state_of self.now).files) ≡ true → IsTrue (is_analysed self.now) }
         ensures { IfOk result (λ r. option_to_list r ≡ map compact_text
             (spec.diagnosed (state_of self.now) (id_view id.now) (spec.document_at path.now (state_of self.now).files)).replies) }
     {
@@ -234,36 +271,20 @@ impl Session {
         Ok(Some(Reply::new(report_reply(self.alloc, id, found.as_slice())?)))
     }
 
-    fn diagnose_at(&mut self, id: &Id, path: &str) -> Result<Option<Reply>, AllocError>
-        requires { is_some (spec.document_at path.now (state_of self.old).files) ≡ true → IsFull (board_of self.old) }
-        ensures state { OnOk result (state_of self.new ≡ state_of self.old) }
-        ensures board { board_of self.new ≡ board_of self.old }
-        ensures reply { IfOk result (λ r. option_to_list r ≡ map compact_text
-            (spec.diagnosed (state_of self.old) (id_view id.now) (spec.document_at path.now (state_of self.old).files)).replies) }
-    {
-        if self.open_or_disk_text(path).is_none() {
-            return self.refuse(Some(id), ErrorCode::InvalidParams);
-        }
-        self.workspace.refresh()?;
-        self.report(id, path)
-    }
-
-    fn diagnose(&mut self, id: &Id, params: &Value) -> Result<Option<Reply>, AllocError>
-        requires { is_some (spec.document_in (state_of self.old) (view params.now)) ≡ true → IsFull (board_of self.old) }
-        ensures state { OnOk result (state_of self.new ≡ state_of self.old) }
-        ensures board { board_of self.new ≡ board_of self.old }
-        ensures reply { IfOk result (λ r. option_to_list r ≡ map compact_text
-            (spec.diagnosed (state_of self.old) (id_view id.now) (spec.document_in (state_of self.old) (view params.now))).replies) }
+    fn diagnose(&self, id: &Id, params: &Value) -> Result<Option<Reply>, AllocError>
+        requires { is_some (spec.document_in (state_of self.now) (view params.now)) ≡ true → IsTrue (is_analysed self.now) }
+        ensures { IfOk result (λ r. option_to_list r ≡ map compact_text
+            (spec.diagnosed (state_of self.now) (id_view id.now) (spec.document_in (state_of self.now) (view params.now))).replies) }
     {
         match self.path_in(params)? {
-            Some(path) => self.diagnose_at(id, path.as_str()),
+            Some(path) => self.report(id, path.as_str()),
             None => self.refuse(Some(id), ErrorCode::InvalidParams),
         }
     }
 
     // What is wrong in all files of the workspace.
     fn all_reports(&self) -> Result<Vec<DocumentReport<'static>>, AllocError>
-        requires { IsTrue self.now.workspace.is_current }
+        requires { IsTrue (is_analysed self.now) }
         ensures { IfOk result (λ reports. map document_view reports.items ≡ reports_of (spec.root_of (state_of self.now).roots) (state_of self.now).files) }
     {
         let files = self.workspace.files();
@@ -271,14 +292,11 @@ impl Session {
         workspace_reports(self.alloc, &self.root, files, &snapshot)
     }
 
-    fn diagnose_all(&mut self, id: &Id) -> Result<Option<Reply>, AllocError>
-        requires { IsFull (board_of self.old) }
-        ensures state { OnOk result (state_of self.new ≡ state_of self.old) }
-        ensures board { board_of self.new ≡ board_of self.old }
-        ensures reply { IfOk result (λ r. option_to_list r ≡ map compact_text
-            (spec.all_diagnosed (state_of self.old) (id_view id.now)).replies) }
+    fn diagnose_all(&self, id: &Id) -> Result<Option<Reply>, AllocError>
+        requires { IsTrue (is_analysed self.now) }
+        ensures { IfOk result (λ r. option_to_list r ≡ map compact_text
+            (spec.all_diagnosed (state_of self.now) (id_view id.now)).replies) }
     {
-        self.workspace.refresh()?;
         let reports = self.all_reports()?;
         let body = workspace_reply(self.alloc, id, reports.as_slice())?;
         Ok(Some(Reply::new(body)))
@@ -316,25 +334,20 @@ impl Session {
         }
     }
 
-    fn search_for(&mut self, id: &Id, query: &str) -> Result<Option<Reply>, AllocError>
-        requires { IsFull (board_of self.old) }
-        ensures state { OnOk result (state_of self.new ≡ state_of self.old) }
-        ensures board { board_of self.new ≡ board_of self.old }
-        ensures reply { IfOk result (λ r. option_to_list r ≡ map compact_text
-            (spec.searched (state_of self.old) (id_view id.now) (Some query.now)).replies) }
+    fn search_for(&self, id: &Id, query: &str) -> Result<Option<Reply>, AllocError>
+        requires { IsTrue (is_analysed self.now) }
+        ensures { IfOk result (λ r. option_to_list r ≡ map compact_text
+            (spec.searched (state_of self.now) (id_view id.now) (Some query.now)).replies) }
     {
-        self.workspace.refresh()?;
         let snapshot = self.workspace.snapshot();
         let body = self.known(&snapshot).symbols_reply(id, query)?;
         Ok(Some(Reply::new(body)))
     }
 
-    fn search(&mut self, id: &Id, params: &Value) -> Result<Option<Reply>, AllocError>
-        requires { is_some (query_of (view params.now)) ≡ true → IsFull (board_of self.old) }
-        ensures state { OnOk result (state_of self.new ≡ state_of self.old) }
-        ensures board { board_of self.new ≡ board_of self.old }
-        ensures reply { IfOk result (λ r. option_to_list r ≡ map compact_text
-            (spec.searched (state_of self.old) (id_view id.now) (query_of (view params.now))).replies) }
+    fn search(&self, id: &Id, params: &Value) -> Result<Option<Reply>, AllocError>
+        requires { is_some (query_of (view params.now)) ≡ true → IsTrue (is_analysed self.now) }
+        ensures { IfOk result (λ r. option_to_list r ≡ map compact_text
+            (spec.searched (state_of self.now) (id_view id.now) (query_of (view params.now))).replies) }
     {
         match symbol_query(params) {
             Some(query) => self.search_for(id, query),
@@ -342,25 +355,20 @@ impl Session {
         }
     }
 
-    fn define_at(&mut self, id: &Id, at: &DocumentPlace) -> Result<Option<Reply>, AllocError>
-        requires { IsFull (board_of self.old) }
-        ensures state { OnOk result (state_of self.new ≡ state_of self.old) }
-        ensures board { board_of self.new ≡ board_of self.old }
-        ensures reply { IfOk result (λ r. option_to_list r ≡ map compact_text
-            (spec.defined (state_of self.old) (id_view id.now) (Some (place_view at.now))).replies) }
+    fn define_at(&self, id: &Id, at: &DocumentPlace) -> Result<Option<Reply>, AllocError>
+        requires { IsTrue (is_analysed self.now) }
+        ensures { IfOk result (λ r. option_to_list r ≡ map compact_text
+            (spec.defined (state_of self.now) (id_view id.now) (Some (place_view at.now))).replies) }
     {
-        self.workspace.refresh()?;
         let snapshot = self.workspace.snapshot();
         let body = self.known(&snapshot).definition_reply(id, at)?;
         Ok(Some(Reply::new(body)))
     }
 
-    fn define(&mut self, id: &Id, params: &Value) -> Result<Option<Reply>, AllocError>
-        requires { is_some (option_and_then (spec.place_in (state_of self.old)) (place_of (view params.now))) ≡ true → IsFull (board_of self.old) }
-        ensures state { OnOk result (state_of self.new ≡ state_of self.old) }
-        ensures board { board_of self.new ≡ board_of self.old }
-        ensures reply { IfOk result (λ r. option_to_list r ≡ map compact_text
-            (spec.defined (state_of self.old) (id_view id.now) (option_and_then (spec.place_in (state_of self.old)) (place_of (view params.now)))).replies) }
+    fn define(&self, id: &Id, params: &Value) -> Result<Option<Reply>, AllocError>
+        requires { is_some (option_and_then (spec.place_in (state_of self.now)) (place_of (view params.now))) ≡ true → IsTrue (is_analysed self.now) }
+        ensures { IfOk result (λ r. option_to_list r ≡ map compact_text
+            (spec.defined (state_of self.now) (id_view id.now) (option_and_then (spec.place_in (state_of self.now)) (place_of (view params.now)))).replies) }
     {
         let Some(position) = DocumentPosition::from_value(params) else {
             return self.refuse(Some(id), ErrorCode::InvalidParams);
@@ -372,18 +380,15 @@ impl Session {
     }
 
     fn refer_at(
-        &mut self,
+        &self,
         id: &Id,
         at: &DocumentPlace,
         include_declaration: bool,
     ) -> Result<Option<Reply>, AllocError>
-        requires { IsFull (board_of self.old) }
-        ensures state { OnOk result (state_of self.new ≡ state_of self.old) }
-        ensures board { board_of self.new ≡ board_of self.old }
-        ensures reply { IfOk result (λ r. option_to_list r ≡ map compact_text
-            (spec.referred (state_of self.old) (id_view id.now) include_declaration (Some (place_view at.now))).replies) }
+        requires { IsTrue (is_analysed self.now) }
+        ensures { IfOk result (λ r. option_to_list r ≡ map compact_text
+            (spec.referred (state_of self.now) (id_view id.now) include_declaration (Some (place_view at.now))).replies) }
     {
-        self.workspace.refresh()?;
         let snapshot = self.workspace.snapshot();
         let body = self
             .known(&snapshot)
@@ -391,12 +396,10 @@ impl Session {
         Ok(Some(Reply::new(body)))
     }
 
-    fn refer(&mut self, id: &Id, params: &Value) -> Result<Option<Reply>, AllocError>
-        requires { is_some (option_and_then (λ r. spec.place_in (state_of self.old) r.place) (reference_of (view params.now))) ≡ true → IsFull (board_of self.old) }
-        ensures state { OnOk result (state_of self.new ≡ state_of self.old) }
-        ensures board { board_of self.new ≡ board_of self.old }
-        ensures reply { IfOk result (λ r. option_to_list r ≡ map compact_text
-            (spec.referred_by (state_of self.old) (id_view id.now) (reference_of (view params.now))).replies) }
+    fn refer(&self, id: &Id, params: &Value) -> Result<Option<Reply>, AllocError>
+        requires { is_some (option_and_then (λ r. spec.place_in (state_of self.now) r.place) (reference_of (view params.now))) ≡ true → IsTrue (is_analysed self.now) }
+        ensures { IfOk result (λ r. option_to_list r ≡ map compact_text
+            (spec.referred_by (state_of self.now) (id_view id.now) (reference_of (view params.now))).replies) }
     {
         let Some(asked) = ReferenceParams::from_value(params) else {
             return self.refuse(Some(id), ErrorCode::InvalidParams);
@@ -408,29 +411,24 @@ impl Session {
     }
 
     fn rename_at(
-        &mut self,
+        &self,
         id: &Id,
         at: &DocumentPlace,
         new_name: &str,
     ) -> Result<Option<Reply>, AllocError>
-        requires { IsFull (board_of self.old) }
-        ensures state { OnOk result (state_of self.new ≡ state_of self.old) }
-        ensures board { board_of self.new ≡ board_of self.old }
-        ensures reply { IfOk result (λ r. option_to_list r ≡ map compact_text
-            (spec.renamed (state_of self.old) (id_view id.now) new_name.now (Some (place_view at.now))).replies) }
+        requires { IsTrue (is_analysed self.now) }
+        ensures { IfOk result (λ r. option_to_list r ≡ map compact_text
+            (spec.renamed (state_of self.now) (id_view id.now) new_name.now (Some (place_view at.now))).replies) }
     {
-        self.workspace.refresh()?;
         let snapshot = self.workspace.snapshot();
         let body = self.known(&snapshot).rename_reply(id, at, new_name)?;
         Ok(Some(Reply::new(body)))
     }
 
-    fn rename(&mut self, id: &Id, params: &Value) -> Result<Option<Reply>, AllocError>
-        requires { is_some (option_and_then (λ r. spec.place_in (state_of self.old) r.place) (rename_of (view params.now))) ≡ true → IsFull (board_of self.old) }
-        ensures state { OnOk result (state_of self.new ≡ state_of self.old) }
-        ensures board { board_of self.new ≡ board_of self.old }
-        ensures reply { IfOk result (λ r. option_to_list r ≡ map compact_text
-            (spec.renamed_by (state_of self.old) (id_view id.now) (rename_of (view params.now))).replies) }
+    fn rename(&self, id: &Id, params: &Value) -> Result<Option<Reply>, AllocError>
+        requires { is_some (option_and_then (λ r. spec.place_in (state_of self.now) r.place) (rename_of (view params.now))) ≡ true → IsTrue (is_analysed self.now) }
+        ensures { IfOk result (λ r. option_to_list r ≡ map compact_text
+            (spec.renamed_by (state_of self.now) (id_view id.now) (rename_of (view params.now))).replies) }
     {
         let Some(asked) = RenameParams::from_value(params) else {
             return self.refuse(Some(id), ErrorCode::InvalidParams);
@@ -449,7 +447,7 @@ impl Session {
         method: Option<Method>,
         params: &Value,
     ) -> Result<Option<Reply>, AllocError>
-        requires { working.waits_in (state_of self.old).phase (state_of self.old) method (view params.now) ≡ true → IsFull (board_of self.old) }
+        requires { working.waits_in (state_of self.old).phase (state_of self.old) method (view params.now) ≡ true → IsTrue (is_analysed self.old) }
         ensures state { OnOk result (state_of self.new
             ≡ (spec.requested (state_of self.old).phase (state_of self.old) (id_view id.now) method (view params.now)).state) }
         ensures board { board_of self.new ≡ board_of self.old }
@@ -482,12 +480,12 @@ impl Session {
         }
     }
 
-    fn notification(&mut self, method: Option<Method>, params: Value) -> Result<(), CoreFault>
+    fn notification(&mut self, method: Option<Method>, params: Value) -> Result<(), BoardFault>
         ensures state { OnOk result (state_of self.new
             ≡ spec.notified (state_of self.old).phase (state_of self.old) method (view params)) }
         ensures board { OnOk result ((opening : ℕ) (events : List Event) → IsAfter opening (board_of self.old) events
             → IsAfter opening (board_of self.new) (working.events_in_phase (state_of self.old).phase (state_of self.old) method (view params) (state_of self.new).files ++ events)) }
-        ensures exhausted { result ≡ Err CoreFault.Exhausted → IsExhausted (board_of self.new) }
+        ensures exhausted { result ≡ Err BoardFault.Exhausted → IsExhausted (board_of self.new) }
     {
         match (self.phase, method) {
             (Phase::Exited { .. }, _) => {}
@@ -510,13 +508,13 @@ impl Session {
         Ok(())
     }
 
-    fn receive(&mut self, message: Message) -> Result<Option<Reply>, CoreFault>
-        requires { working.waits (state_of self.old) (message_view message) ≡ true → IsFull (board_of self.old) }
+    fn receive(&mut self, message: Message) -> Result<Option<Reply>, BoardFault>
+        requires { working.waits (state_of self.old) (message_view message) ≡ true → IsTrue (is_analysed self.old) }
         ensures state { OnOk result (state_of self.new ≡ (spec.received (state_of self.old) (message_view message)).state) }
         ensures reply { IfOk result (λ r. option_to_list r ≡ map compact_text (spec.received (state_of self.old) (message_view message)).replies) }
         ensures board { OnOk result ((opening : ℕ) (events : List Event) → IsAfter opening (board_of self.old) events
             → IsAfter opening (board_of self.new) (working.events_of (state_of self.old) (message_view message) (state_of self.new).files ++ events)) }
-        ensures exhausted { result ≡ Err CoreFault.Exhausted → IsExhausted (board_of self.new) }
+        ensures exhausted { result ≡ Err BoardFault.Exhausted → IsExhausted (board_of self.new) }
     {
         match message {
             Message::ParseError => Ok(self.refuse(None, ErrorCode::ParseError)?),
@@ -532,13 +530,13 @@ impl Session {
         }
     }
 
-    // Takes one message, and gives the reply to it, if there is one. The board has to be complete if the message waits for it.
-    pub(crate) fn turn(&mut self, message: Message) -> Result<Option<Reply>, CoreFault>
-        requires { working.waits (state_of self.old) (message_view message) ≡ true → IsFull (board_of self.old) }
+    // Takes one message, and gives the reply to it, if there is one. The files have to be analysed if the message asks for it.
+    pub(crate) fn turn(&mut self, message: Message) -> Result<Option<Reply>, BoardFault>
+        requires { working.waits (state_of self.old) (message_view message) ≡ true → IsTrue (is_analysed self.old) }
         ensures state { OnOk result (state_of self.new ≡ (spec.turn (state_of self.old) (message_view message)).state) }
         ensures reply { IfOk result (λ r. option_to_list r ≡ map compact_text (spec.turn (state_of self.old) (message_view message)).replies) }
         ensures board { OnOk result ((opening : ℕ) (events : List Event) → IsAfter opening (board_of self.old) events → IsAfter opening (board_of self.new) (working.board_events_of (state_of self.old) (message_view message) ++ events)) }
-        ensures exhausted { result ≡ Err CoreFault.Exhausted → IsExhausted (board_of self.new) }
+        ensures exhausted { result ≡ Err BoardFault.Exhausted → IsExhausted (board_of self.new) }
     {
         match self.phase {
             Phase::Exited { .. } => Ok(None),

@@ -1,13 +1,14 @@
 // The core: messages and work in, replies and jobs out, and nothing of streams.
 ghost use Rattle.std.specs.Prelude.{◌≡◌, ◌↔◌, ◌<◌, ◌++◌, ℕ, List, [], ◌∷◌, length, option_map, Some, None, Err, IfOk, IfErr, IfSome, OnOk, IsTrue, true, false};
 ghost use Rattle.std.specs.Option.{option_to_list};
-ghost use Rattle.piece_collector.specs.Board.{IsFirstWanted, current_text};
+ghost use Rattle.piece_collector.specs.Board.{IsFirstWanted, IsFull, current_text};
 ghost use Rattle.piece_collector.specs.History.{stands_at};
 ghost use Rattle.lsp_config.specs.Configuration.{Configuration};
+ghost use Rattle.lsp_config.specs.Fault.{ComesWithoutThreads};
 ghost use Rattle.lsp_session.specs.Core.{Event, Arrive, Process, Give, messages, processed, done, board_events, IsAfter, MayProcess, IsSettled, Processes, Advances};
 ghost use Rattle.lsp_session.specs.Run.{event_of, incoming_of_done, verdicts_of};
 ghost use Rattle.lsp_session.specs.Session.{session};
-ghost use Rattle.lsp_session.specs.Steps.{CanProcess};
+ghost use Rattle.lsp_session.specs.Steps.{CanProcess, IsPrepared};
 ghost use Rattle.lsp_session.specs.Stream.{exit_of};
 ghost use Rattle.lsp_session.specs.View.{core_state};
 
@@ -16,10 +17,12 @@ use crate::reply::Reply;
 use crate::session::Session;
 use lsp_config::{Config, CoreFault};
 use lsp_rpc::Message;
-use piece_collector::{Job, Verdict};
+use piece_collector::{BoardFault, Job, Verdict};
 use std::alloc::{AllocError, Global};
 use std::collections::VecDeque;
-use work_index::Done;
+use std::sync::Wait;
+use std::thread::Threads;
+use work_index::{AnalyseFault, Done, Gate};
 
 /// A session that takes the bodies of messages and gives the bodies of replies. The work on the texts is done outside: the core
 /// gives jobs, and takes what is made of them, in any order. A request for an analysis waits until the work on each text is there,
@@ -45,13 +48,14 @@ fn push_reply(replies: &mut Vec<Reply>, reply: Option<Reply>) -> Result<(), Allo
 }
 
 impl Core {
-    ghost use Rattle.lsp_session.specs.View.{last_fault, IsExhausted};
+    ghost use Rattle.lsp_session.specs.View.{last_fault, is_analysed, IsExhausted};
 
     /// The core of a session before its first message. The texts of the files on disk get the stamps from 1 on, in the order of
     /// their paths. `Memory` where memory is refused.
     pub fn new(alloc: Global, config: Config) -> Result<Core, CoreFault>
         ensures is_after { IfOk result (λ core. IsAfter 0 config (core_state core) []) }
         ensures open { IfOk result (λ core. last_fault core ≡ None) }
+        ensures threads { IfErr result ComesWithoutThreads }
     {
         Core::counting_from(alloc, config, 0)
     }
@@ -61,6 +65,7 @@ impl Core {
     pub fn counting_from(alloc: Global, config: Config, stamp: u64) -> Result<Core, CoreFault>
         ensures is_after { IfOk result (λ core. IsAfter stamp config (core_state core) []) }
         ensures open { IfOk result (λ core. last_fault core ≡ None) }
+        ensures threads { IfErr result ComesWithoutThreads }
     {
         let session = Session::new(alloc, config, stamp)?;
         Ok(Core {
@@ -173,9 +178,40 @@ impl Core {
     // ---- advances
 
     /// Processes the queued messages in order, and gives the replies to them in order. It stops before a request for an analysis as
-    /// long as the work on some text isn't there. `Memory` where memory is refused, `Exhausted` where a text finds no stamp: then
-    /// the replies of this call are lost.
+    /// long as the work on some text isn't there, and analyses the files on this thread. `Memory` where memory is refused, `Exhausted`
+    /// where a text finds no stamp: then the replies of this call are lost.
     pub fn advance(&mut self) -> Result<Vec<Reply>, CoreFault>
+        // After a fault it answers the same again, and changes nothing.
+        ensures repeats { IfSome (last_fault self.old) (λ fault. (result ≡ Err fault) × (self.new ≡ self.old)) }
+        ensures fault { IfErr result (λ fault. last_fault self.new ≡ Some fault) }
+        ensures threads { last_fault self.old ≡ None → IfErr result ComesWithoutThreads }
+        ensures exhausted { last_fault self.old ≡ None → result ≡ Err CoreFault.Exhausted → IsExhausted (core_state self.new).board }
+        ensures open { OnOk result (last_fault self.new ≡ None) }
+
+        // What the core stood for, it stands for with all messages processed that could be.
+        ensures advances { IfOk result (λ replies. (opening : ℕ) (config : Configuration) (h : List Event) → IsAfter opening config (core_state self.old) h → Advances opening config (core_state self.new) h replies.items) }
+    {
+        if let Some(fault) = self.fault {
+            return Err(fault);
+        }
+        match self.process_all() {
+            Ok(replies) => Ok(replies),
+            Err(fault) => Err(self.fail(CoreFault::from(fault))),
+        }
+    }
+
+    /// Does what [`advance`](Core::advance) does, and analyses the files by so many threads: 0 counts as 1, and over 64 as 64, and
+    /// there are never more than files. Each thread enters the gate before each of its files. Where only one file has another text
+    /// since the last analysis, no thread is started. It waits until each thread has ended.
+    ///
+    /// `Memory` where memory is refused, also to a thread, `ThreadRefused` where a thread is, `Exhausted` where a text finds no
+    /// stamp: then the replies of this call are lost.
+    pub fn advance_in_shares<R: Threads + Wait, G: Gate>(
+        &mut self,
+        rt: &R,
+        workers: usize,
+        gate: &G,
+    ) -> Result<Vec<Reply>, CoreFault>
         // After a fault it answers the same again, and changes nothing.
         ensures repeats { IfSome (last_fault self.old) (λ fault. (result ≡ Err fault) × (self.new ≡ self.old)) }
         ensures fault { IfErr result (λ fault. last_fault self.new ≡ Some fault) }
@@ -188,7 +224,7 @@ impl Core {
         if let Some(fault) = self.fault {
             return Err(fault);
         }
-        match self.process_all() {
+        match self.process_all_in_shares(rt, workers, gate) {
             Ok(replies) => Ok(replies),
             Err(fault) => Err(self.fail(fault)),
         }
@@ -209,13 +245,59 @@ impl Core {
         Ok(!self.session.waits(message)?)
     }
 
-    // Processes the next message, and gives the reply to it, if there is one.
-    fn process(&mut self) -> Result<Option<Reply>, CoreFault>
+    // Whether the files have to be analysed before the next message is processed, which can be.
+    fn wants_analysis(&self) -> Result<bool, AllocError>
+        requires { CanProcess (core_state self.now) }
+        ensures full { IfOk result (λ wants. wants ≡ true → IsFull (core_state self.now).board) }
+        ensures prepared { IfOk result (λ wants. wants ≡ false → IsPrepared (core_state self.now) (is_analysed self.now.session)) }
+    {
+        if self.session.is_analysed() {
+            return Ok(false);
+        }
+        match self.queue.front() {
+            Some(message) => self.session.waits(message),
+            None => Ok(false),
+        }
+    }
+
+    // Analyses the files on this thread, if the next message waits for it.
+    fn prepare(&mut self) -> Result<(), AllocError>
         requires { CanProcess (core_state self.old) }
+        ensures fault { last_fault self.new ≡ last_fault self.old }
+        ensures state { core_state self.new ≡ core_state self.old }
+        ensures prepared { OnOk result (IsPrepared (core_state self.new) (is_analysed self.new.session)) }
+    {
+        if self.wants_analysis()? {
+            self.session.analyse()?;
+        }
+        Ok(())
+    }
+
+    // Analyses the files by so many threads, if the next message waits for it.
+    fn prepare_in_shares<R: Threads + Wait, G: Gate>(
+        &mut self,
+        rt: &R,
+        workers: usize,
+        gate: &G,
+    ) -> Result<(), AnalyseFault>
+        requires { CanProcess (core_state self.old) }
+        ensures fault { last_fault self.new ≡ last_fault self.old }
+        ensures state { OnOk result (core_state self.new ≡ core_state self.old) }
+        ensures prepared { OnOk result (IsPrepared (core_state self.new) (is_analysed self.new.session)) }
+    {
+        if self.wants_analysis()? {
+            self.session.analyse_in_shares(rt, workers, gate)?;
+        }
+        Ok(())
+    }
+
+    // Processes the next message, and gives the reply to it, if there is one.
+    fn process(&mut self) -> Result<Option<Reply>, BoardFault>
+        requires { IsPrepared (core_state self.old) (is_analysed self.old.session) }
         ensures fault { last_fault self.new ≡ last_fault self.old }
         ensures processes { OnOk result ((opening : ℕ) (config : Configuration) (h : List Event) → IsAfter opening config (core_state self.old) h → MayProcess opening config h → IsAfter opening config (core_state self.new) (Process ∷ h)) }
         ensures reply { IfOk result (λ reply. (opening : ℕ) (config : Configuration) (h : List Event) → IsAfter opening config (core_state self.old) h → (session config (done (Process ∷ h))).replies ≡ (session config (done h)).replies ++ option_to_list reply) }
-        ensures exhausted { result ≡ Err CoreFault.Exhausted → IsExhausted (core_state self.new).board }
+        ensures exhausted { result ≡ Err BoardFault.Exhausted → IsExhausted (core_state self.new).board }
         ensures shorter { OnOk result (length (core_state self.new).queue < length (core_state self.old).queue) }
     {
         match self.queue.pop_front() {
@@ -224,13 +306,33 @@ impl Core {
         }
     }
 
-    fn process_all(&mut self) -> Result<Vec<Reply>, CoreFault>
+    fn process_all(&mut self) -> Result<Vec<Reply>, BoardFault>
+        ensures fault { last_fault self.new ≡ last_fault self.old }
+        ensures exhausted { result ≡ Err BoardFault.Exhausted → IsExhausted (core_state self.new).board }
+        ensures advances { IfOk result (λ replies. (opening : ℕ) (config : Configuration) (h : List Event) → IsAfter opening config (core_state self.old) h → Advances opening config (core_state self.new) h replies.items) }
+    {
+        let mut replies = Vec::new(self.alloc);
+        'messages: while self.is_ready()? {
+            self.prepare()?;
+            let reply = self.process()?;
+            push_reply(&mut replies, reply)?;
+        }
+        Ok(replies)
+    }
+
+    fn process_all_in_shares<R: Threads + Wait, G: Gate>(
+        &mut self,
+        rt: &R,
+        workers: usize,
+        gate: &G,
+    ) -> Result<Vec<Reply>, CoreFault>
         ensures fault { last_fault self.new ≡ last_fault self.old }
         ensures exhausted { result ≡ Err CoreFault.Exhausted → IsExhausted (core_state self.new).board }
         ensures advances { IfOk result (λ replies. (opening : ℕ) (config : Configuration) (h : List Event) → IsAfter opening config (core_state self.old) h → Advances opening config (core_state self.new) h replies.items) }
     {
         let mut replies = Vec::new(self.alloc);
         'messages: while self.is_ready()? {
+            self.prepare_in_shares(rt, workers, gate)?;
             let reply = self.process()?;
             push_reply(&mut replies, reply)?;
         }

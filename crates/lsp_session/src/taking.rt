@@ -16,9 +16,12 @@ use crate::dispatch::{answer, hand_out};
 use crate::ended::Ended;
 use crate::reply::Reply;
 use crate::session_core::Core;
+use crate::threading::Threading;
 use lsp_config::ServeFault;
 use lsp_frame::{ByteSink, ByteSource, Frame, FrameFault, FrameReader, write_frame};
 use std::sync::Wait;
+use std::thread::Threads;
+use work_index::Gate;
 use worker_pool::Pool;
 
 // Writes a frame for each reply, in order.
@@ -39,8 +42,8 @@ fn write_all<K: ByteSink>(writer: &mut K, replies: &[Reply]) -> Result<(), Serve
 }
 
 // Takes a message, and writes the replies to it.
-fn reply_to<R: Wait, K: ByteSink>(
-    rt: &R,
+fn reply_to<R: Threads + Wait, K: ByteSink, G: Gate>(
+    threading: &Threading<'_, R, G>,
     writer: &mut K,
     core: &mut Core,
     pool: &mut Pool,
@@ -52,7 +55,7 @@ fn reply_to<R: Wait, K: ByteSink>(
     ensures fault { IfErr result (IsWriteOrCore (K.counts writer.old) (K.counts writer.new)) }
     ensures calls { Calls (K.counts writer.old) (K.counts writer.new) result }
 {
-    let replies = match answer(rt, core, pool, body) {
+    let replies = match answer(threading, core, pool, body) {
         Ok(replies) => replies,
         Err(fault) => return Err(fault),
     };
@@ -70,8 +73,8 @@ fn exit_in(core: &Core) -> Option<Ended>
 }
 
 // Takes a message, writes the replies to it, and says how the session has ended, if it has.
-fn take_message<R: Wait, K: ByteSink>(
-    rt: &R,
+fn take_message<R: Threads + Wait, K: ByteSink, G: Gate>(
+    threading: &Threading<'_, R, G>,
     writer: &mut K,
     core: &mut Core,
     pool: &mut Pool,
@@ -82,7 +85,7 @@ fn take_message<R: Wait, K: ByteSink>(
     ensures fault { IfErr result (IsWriteOrCore (K.counts writer.old) (K.counts writer.new)) }
     ensures calls { Calls (K.counts writer.old) (K.counts writer.new) result }
 {
-    match reply_to(rt, writer, core, pool, body) {
+    match reply_to(threading, writer, core, pool, body) {
         Ok(()) => Ok(exit_in(core)),
         Err(fault) => Err(fault),
     }
@@ -100,8 +103,8 @@ fn end_by(fault: FrameFault) -> Result<Option<Ended>, ServeFault>
 }
 
 // Takes the next message of the stream, and says how the session has ended, if it has.
-fn take_next<R: Wait, S: ByteSource, K: ByteSink>(
-    rt: &R,
+fn take_next<R: Threads + Wait, S: ByteSource, K: ByteSink, G: Gate>(
+    threading: &Threading<'_, R, G>,
     reader: &mut FrameReader<S>,
     writer: &mut K,
     core: &mut Core,
@@ -116,15 +119,15 @@ fn take_next<R: Wait, S: ByteSource, K: ByteSink>(
     ensures goes_on { result ≡ Ok None → IsOpen reader.new }
 {
     match reader.read_frame() {
-        Ok(Frame::Body(body)) => take_message(rt, writer, core, pool, body.as_slice()),
+        Ok(Frame::Body(body)) => take_message(threading, writer, core, pool, body.as_slice()),
         Ok(Frame::End) => Ok(Some(Ended::InputEnd)),
         Err(fault) => end_by(fault),
     }
 }
 
 /// Hands out jobs, takes the next message of the stream, writes the replies to it, and says how the session has ended, if it has.
-pub fn take_turn<R: Wait, S: ByteSource, K: ByteSink>(
-    rt: &R,
+pub fn take_turn<R: Threads + Wait, S: ByteSource, K: ByteSink, G: Gate>(
+    threading: &Threading<'_, R, G>,
     reader: &mut FrameReader<S>,
     writer: &mut K,
     core: &mut Core,
@@ -138,8 +141,8 @@ pub fn take_turn<R: Wait, S: ByteSource, K: ByteSink>(
     ensures cause { IfErr result (IsCaused (S.counts (source_of reader.old)) (S.counts (source_of reader.new)) (K.counts writer.old) (K.counts writer.new)) }
     ensures goes_on { result ≡ Ok None → IsOpen reader.new }
 {
-    match hand_out(rt, core, pool) {
-        Ok(()) => take_next(rt, reader, writer, core, pool),
+    match hand_out(threading.rt, core, pool) {
+        Ok(()) => take_next(threading, reader, writer, core, pool),
         Err(fault) => Err(fault),
     }
 }

@@ -22,7 +22,7 @@ use Rattle.lsp_workspace.specs.Steps.{with_document_at}
 use Rattle.lsp_workspace.specs.Texts.{open_document, is_open, text_event, event_at, events_at, TextsChangeAt}
 use Rattle.lsp_workspace.specs.declared.known.Known.{Known}
 use Rattle.lsp_workspace.proofs.Held.{same_workspace, text_in_workspace, held_texts, before_change, before_changes}
-use Rattle.lsp_workspace.proofs.PathOrder.{AreBehind, Ascend, paths, ascend-workspace}
+use Rattle.lsp_workspace.proofs.PathOrder.{AreBehind, Ascend, paths, from_disk-order, ascend-workspace}
 use Rattle.lsp_workspace.proofs.TextChanges.{set-texts, without-texts}
 
 -- ---- options and results
@@ -149,6 +149,15 @@ pub keeps_refreshed : (files : Files) (before lent_board after : BoardView) (kno
     → IsKept files after (Some (record { analysis = a; changed = None }))
 keeps_refreshed files before lent_board after known a k is back fresh =
     subst (λ b. IsKept files b (Some (record { analysis = a; changed = None }))) (sym (back ∙ ap {A = BoardView} (λ (b : BoardView). record b { is_lent = false }) is)) (record { ordered = k.ordered; here = refl; texts = k.texts; is_of = fresh })
+
+-- where no file is left
+pub keeps_nothing : (files : Files) (board : BoardView) → files ≡ [] → board.is_lent ≡ false → ((q : List ℕ) → known_text q board ≡ None) → IsKept files board None
+keeps_nothing files board none here texts = record {
+  ordered = subst AreInPathOrder (sym none) (from_disk-order []);
+  here = here;
+  texts = λ q. texts q ∙ sym (ap (text_at q) none);
+  is_of = tt;
+}
 
 -- ---- events
 

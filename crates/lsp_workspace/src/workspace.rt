@@ -20,7 +20,9 @@ use doc_text::Text;
 use piece_collector::{Board, BoardFault, Job, Piece, Verdict};
 use std::alloc::{AllocError, Global};
 use std::marker::Model;
-use work_index::FileWork;
+use std::sync::Wait;
+use std::thread::Threads;
+use work_index::{AnalyseFault, FileWork, Gate, analyse_in_shares};
 
 /// The files that an editor's session knows, the board of their texts with the work on them, and the analysis of them.
 ///
@@ -258,8 +260,8 @@ impl Workspace {
 
     // ---- the analysis
 
-    // Whether the analysis that is known is that of the files as they are.
-    fn is_current(&self) -> bool
+    /// Whether the analysis that is known is that of the files as they are. Takes no memory.
+    pub fn is_current(&self) -> bool
         ensures { result ≡ self.now.is_current }
     {
         match &self.known {
@@ -287,6 +289,63 @@ impl Workspace {
             changed: None,
         });
         Ok(())
+    }
+
+    /// Analyses the files, unless their analysis is known: as [`refresh`](Workspace::refresh) does, but a whole analysis is made
+    /// by so many threads (see [`analyse_in_shares`]), each of which enters the gate before each of its files. Where the text of
+    /// one file alone has changed since the last analysis, no thread is started and no gate is entered. The board has to be
+    /// complete.
+    ///
+    /// `Memory` where memory was refused, and `ThreadRefused` where a thread was. The workspace may be without files then, and
+    /// its stamps count from 1 again.
+    pub fn refresh_in_shares<R: Threads + Wait, G: Gate>(
+        &mut self,
+        rt: &R,
+        workers: usize,
+        gate: &G,
+    ) -> Result<(), AnalyseFault>
+        requires { IsFull self.old.board }
+        ensures files { OnOk result (self.new.files ≡ self.old.files) }
+        ensures board { OnOk result (self.new.board ≡ self.old.board) }
+        ensures current { OnOk result (IsTrue self.new.is_current) }
+    {
+        if self.known.is_none() {
+            return self.analyse_lent(rt, workers, gate);
+        }
+        self.refresh()?;
+        Ok(())
+    }
+
+    // Lends all pieces to threads that analyse them, and keeps the analysis. Where that fails the pieces are gone, and so are the
+    // files.
+    fn analyse_lent<R: Threads + Wait, G: Gate>(
+        &mut self,
+        rt: &R,
+        workers: usize,
+        gate: &G,
+    ) -> Result<(), AnalyseFault>
+        requires { IsFull self.old.board }
+        ensures files { OnOk result (self.new.files ≡ self.old.files) }
+        ensures board { OnOk result (self.new.board ≡ self.old.board) }
+        ensures current { OnOk result (IsTrue self.new.is_current) }
+    {
+        let lent = self.board.lend_all()?;
+        match analyse_in_shares(rt, self.alloc, lent, workers, gate) {
+            Ok((back, analysis)) => {
+                self.board.take_back(back);
+                self.known = Some(Known {
+                    analysis,
+                    changed: None,
+                });
+                Ok(())
+            }
+            Err(fault) => {
+                self.files = Files::new(self.alloc);
+                self.board = Board::counting_from(self.alloc, FileWork::new(self.alloc), 0);
+                self.known = None;
+                Err(fault)
+            }
+        }
     }
 
     /// The files with their analysis. Takes no memory.

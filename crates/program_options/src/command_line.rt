@@ -53,6 +53,22 @@ fn given_dirs<'a>(alloc: Global, given: &ArgMatches<'a>) -> Result<Vec<&'a str>,
     Ok(dirs)
 }
 
+// The folders that a command takes. Those of `serve` have to be told by their whole paths.
+fn taken_dirs<'a>(
+    alloc: Global,
+    check: bool,
+    given: &ArgMatches<'a>,
+) -> Result<Vec<&'a str>, Refusal>
+    ensures { IfOk result (λ dirs. check ≡ false → All (λ dir. spec.is_absolute dir.now ≡ true) dirs.items) }
+{
+    let dirs = given_dirs(alloc, given)?;
+    if check || are_absolute(&dirs) {
+        Ok(dirs)
+    } else {
+        Err(Refusal::RelativeFolder)
+    }
+}
+
 // Whether the number of workers is written in digits alone, if one is given.
 fn has_plain_number(given: &ArgMatches<'_>) -> bool {
     match given.get_str("workers") {
@@ -62,45 +78,15 @@ fn has_plain_number(given: &ArgMatches<'_>) -> bool {
 }
 
 // How many workers are asked for. The option takes no number but one from 1 to 64.
-fn given_workers(given: &ArgMatches<'_>) -> u8
-    ensures { (1 ≤ result) × (result ≤ 64) }
+fn given_workers(given: &ArgMatches<'_>) -> Result<u8, Refusal>
+    ensures { IfOk result (λ workers. (1 ≤ workers) × (workers ≤ 64)) }
 {
-    match given.get_one::<u8>("workers") {
-        Some(workers) => workers.clamp(1, 64),
-        None => DEFAULT_WORKERS,
-    }
-}
-
-// What `check` is asked for.
-fn check_options<'a>(alloc: Global, given: &ArgMatches<'a>) -> Result<Options<'a>, AllocError>
-    ensures checks { IfOk result (λ options. options.check ≡ true) }
-    ensures workers { IfOk result (λ options. (1 ≤ options.workers) × (options.workers ≤ 64)) }
-{
-    let dirs = given_dirs(alloc, given)?;
-    Ok(Options {
-        check: true,
-        dirs,
-        workers: DEFAULT_WORKERS,
-    })
-}
-
-// What `serve` is asked for.
-fn serve_options<'a>(alloc: Global, given: &ArgMatches<'a>) -> Result<Options<'a>, Refusal>
-    ensures serves { IfOk result (λ options. options.check ≡ false) }
-    ensures workers { IfOk result (λ options. (1 ≤ options.workers) × (options.workers ≤ 64)) }
-    ensures absolute { IfOk result (λ options. All (λ dir. spec.is_absolute dir.now ≡ true) options.dirs.items) }
-{
-    let dirs = given_dirs(alloc, given)?;
-    if !are_absolute(&dirs) {
-        return Err(Refusal::RelativeFolder);
-    }
     if !has_plain_number(given) {
         return Err(Refusal::SignedNumber);
     }
-    Ok(Options {
-        check: false,
-        dirs,
-        workers: given_workers(given),
+    Ok(match given.get_one::<u8>("workers") {
+        Some(workers) => workers.clamp(1, 64),
+        None => DEFAULT_WORKERS,
     })
 }
 
@@ -113,11 +99,14 @@ fn options_of<'a>(
     ensures workers { IfOk result (λ options. (1 ≤ options.workers) × (options.workers ≤ 64)) }
     ensures absolute { IfOk result (λ options. options.check ≡ false → All (λ dir. spec.is_absolute dir.now ≡ true) options.dirs.items) }
 {
-    if command == "check" {
-        Ok(check_options(alloc, given)?)
-    } else {
-        serve_options(alloc, given)
-    }
+    let check = command == "check";
+    let dirs = taken_dirs(alloc, check, given)?;
+    let workers = given_workers(given)?;
+    Ok(Options {
+        check,
+        dirs,
+        workers,
+    })
 }
 
 // What the matches of the whole command line ask for.

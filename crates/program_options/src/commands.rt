@@ -10,12 +10,12 @@ const VERSION: &str = "1 (rattle-kit-13b logic dac8208d650f15bf)";
 
 // How the program is called. Each message on a wrong command line shows it.
 const USAGE: &str = "protols serve [--root DIR] [--workers N] [--stdio] [--clientProcessId ID]
-       protols check [--root DIR]";
+       protols check [--root DIR] [--workers N]";
 
 const SERVE_USAGE: &str =
     "protols serve [--root DIR] [--workers N] [--stdio] [--clientProcessId ID]";
 
-const CHECK_USAGE: &str = "protols check [--root DIR]";
+const CHECK_USAGE: &str = "protols check [--root DIR] [--workers N]";
 
 const PROGRAM_HELP: &str = "\
 Example, for an editor whose .proto files lie in /home/ann/protos:
@@ -65,8 +65,8 @@ subfolders, and imports name them by their paths below it. Names{n}\
 that begin with `.` and symbolic links are skipped [default: .]";
 
 const WORKERS_HELP: &str = "\
-How many threads lex and parse the files, from 1 to 64. The answers{n}\
-are the same with any number [default: 4]";
+How many threads work on the files, from 1 to 64. The output is the{n}\
+same with any number [default: 4]";
 
 const STDIO_HELP: &str = "\
 Talk over standard input and output, which is the only way and the{n}\
@@ -129,13 +129,18 @@ fn serve_command<'a>(alloc: Global) -> Result<Command<'a>, AllocError> {
     serve.arg(client_option(alloc))
 }
 
-// `protols check`, with its option.
-fn check_command<'a>(alloc: Global) -> Result<Command<'a>, AllocError> {
+// `protols check`, without its options.
+fn plain_check<'a>(alloc: Global) -> Command<'a> {
     Command::new(alloc, "check")
         .about("Check a folder of .proto files and list what is wrong in them")
         .override_usage(CHECK_USAGE)
         .after_help(CHECK_HELP)
-        .arg(root_option(alloc, CHECK_ROOT_HELP))
+}
+
+// `protols check`, with its options.
+fn check_command<'a>(alloc: Global) -> Result<Command<'a>, AllocError> {
+    let check = plain_check(alloc).arg(root_option(alloc, CHECK_ROOT_HELP))?;
+    check.arg(workers_option(alloc))
 }
 
 // The program, without its commands.

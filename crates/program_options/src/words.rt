@@ -7,6 +7,6 @@ pub struct Options<'a> {
     pub check: bool,
     /// The folders that are given by `--root`, in their order.
     pub dirs: Vec<&'a str>,
-    /// How many workers lex and parse the files, from 1 to 64. `check` doesn't use it yet.
+    /// How many workers there are, from 1 to 64.
     pub workers: u8,
 }

@@ -17,6 +17,7 @@ pub mod Ahead
 pub mod Fronts
 pub mod ByLast
 pub mod PackageFronts
+pub mod Packaged
 pub mod UsesByName
 pub mod UsesOf
 pub mod Alike

@@ -1,7 +1,8 @@
 -- What the graph and the names of files are made from: what the files say to one another.
-use Rattle.std.proofs.Common.{◌≡◌, ℕ, zero, suc, ◌+◌, ◌<◌, List, [], ◌∷◌, ◌++◌, Bool, Option, None, if◌then◌else◌, length, get_or, set, map, filter, bytes_eq, nat_eq, not, refl, sym, ap, ap₂, subst, ◌∙◌, arith}
-use Rattle.std.specs.Prelude.{position}
+use Rattle.std.proofs.Common.{◌≡◌, ℕ, zero, suc, ◌+◌, ◌<◌, List, [], ◌∷◌, ◌++◌, Bool, Option, Some, None, if◌then◌else◌, length, get_or, set, map, filter, bytes_eq, nat_eq, not, refl, sym, ap, ap₂, subst, ◌∙◌, arith}
+use Rattle.std.specs.Prelude.{option_map, position}
 use Rattle.std.specs.List.{enumerate_from, flat_map, list_any, prefix_len, starts_with}
+use Rattle.std.specs.List.Sorted.{IsPermutation}
 use Rattle.std.proofs.Math.ListN as math
 use Rattle.std.proofs.Math.Path.{fun_ext}
 use Rattle.std.proofs.Math.Seq.{map-set_same}
@@ -10,17 +11,20 @@ use Rattle.std.proofs.lemmas.Simd.{map-map}
 use Rattle.file_facts.specs.declared.fact.Decl.{Decl}
 use Rattle.file_facts.specs.declared.fact.DeclKind.{DeclKind}
 use Rattle.file_facts.specs.declared.fact.FileFacts.{FileFacts}
+use Rattle.file_facts.specs.declared.fact.PackageFact.{PackageFact}
 use Rattle.import_graph.specs.declared.imports.ImportEdge.{ImportEdge}
 use Rattle.import_graph.specs.declared.imports.FileImports.{FileImports}
 use Rattle.import_graph.specs.declared.paths.NamedFacts.{NamedFacts}
 use Rattle.import_graph.specs.Imports.{graph_of, imports_of, edge_of}
 use Rattle.import_graph.specs.Paths.{IsInPathOrder, slash}
 use Rattle.proto_resolve.specs.declared.target.DeclRef.{DeclRef}
-use Rattle.proto_resolve.specs.Files.{all_decls, all_named, decl_at, facts_at, no_decl, no_facts}
+use Rattle.proto_resolve.specs.Files.{all_decls, all_named, decl_at, dot, facts_at, no_decl, no_facts}
 use Rattle.proto_resolve.specs.Holders.{is_held}
 use Rattle.proto_resolve.specs.Names.{is_holder}
 use Rattle.proto_resolve.specs.Outlines.{declared, imported, import_outline, with_facts}
+use Rattle.proto_resolve.specs.Packages.{packaged, ArePackaged}
 use Rattle.proto_resolve.specs.Seen.{exports}
+use Rattle.proto_resolve.specs.declared.packages.PackagedFile.{PackagedFile}
 use Rattle.proto_resolve.proofs.Order.{numbered, refs}
 
 -- elements at one place of lists that say the same
@@ -121,6 +125,28 @@ same_kind old new same r =
 pub same_held : (old new : List NamedFacts) → map telling old ≡ map telling new → (name : List ℕ) → is_held old name ≡ is_held new name
 same_held old new same name =
     ap₂ (λ (test : DeclRef → Bool) (all : List DeclRef). list_any test all) (fun_ext (λ r. ap is_holder (same_kind old new same r))) (same_named old new same name)
+
+-- ---- the packages
+
+package_alike : (n : ℕ) (a b : Option PackageFact) → option_map (λ p. p.full_name) a ≡ option_map (λ p. p.full_name) b → packaged n a ≡ packaged n b
+package_alike n None None same = refl
+package_alike n None (Some q) same = absurd (cc (same))
+package_alike n (Some p) None same = absurd (cc (same))
+package_alike n (Some p) (Some q) same = let names : p.full_name ≡ q.full_name = cc in ap (λ name. record { name = name ++ dot ∷ []; file = n } ∷ []) names
+
+packaged_from : (n : ℕ) (old new : List NamedFacts) → map telling old ≡ map telling new
+    → flat_map (λ e. packaged e.0 (let facts = e.1.facts in facts.«package»)) (enumerate_from n old) ≡ flat_map (λ e. packaged e.0 (let facts = e.1.facts in facts.«package»)) (enumerate_from n new)
+packaged_from n [] [] same = refl
+packaged_from n [] (y ∷ new) same = absurd (cc)
+packaged_from n (x ∷ old) [] same = absurd (cc)
+packaged_from n (x ∷ old) (y ∷ new) same =
+    let heads : telling x ≡ telling y = cc in
+    let tails : map telling old ≡ map telling new = cc in
+    ap₂ (λ a b. a ++ b) (package_alike n (let facts = x.facts in facts.«package») (let facts = y.facts in facts.«package») (ap (λ t. t.1) heads)) (packaged_from (n + 1) old new tails)
+
+-- files that tell the same have the same packages
+pub still_packaged : (old new : List NamedFacts) → map telling old ≡ map telling new → (list : List PackagedFile) → ArePackaged old list → ArePackaged new list
+still_packaged old new same list are = record { all = subst (λ all. IsPermutation all list) (packaged_from 0 old new same) are.all; ordered = are.ordered }
 
 -- ---- other facts of a file
 

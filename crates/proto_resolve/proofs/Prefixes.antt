@@ -1,25 +1,21 @@
 -- Texts that begin with others, and where they stand among sorted ones.
-use Rattle.std.proofs.Common.{◌≡◌, ◌∙◌, sym, inl, inr, ℕ, zero, suc, ◌+◌, ◌<◌, ◌≤◌, List, [], ◌∷◌, ◌++◌, Bool, true, false, ◌&&◌, ◌||◌, length, get_or, take, drop, map, refl, arith}
+use Rattle.std.proofs.Common.{◌≡◌, ◌∙◌, sym, ap, inl, inr, ℕ, ◌+◌, ◌<◌, ◌≤◌, List, [], ◌∷◌, ◌++◌, Bool, true, false, ◌&&◌, ◌||◌, length, get_or, take, drop, map, refl, arith}
 use Rattle.std.specs.Prelude.{nat_eq}
 use Rattle.std.specs.List.{starts_with, list_any}
+use Rattle.std.specs.List.Sorted.{IsSorted, IsPartitionPoint, IsPartitionedBy}
 use Rattle.std.specs.Cmp.Lexicographic.{slice_cmp}
-use Rattle.std.specs.Prelude.{Contains}
-use Rattle.std.specs.List.{dedup}
-use Rattle.std.specs.Cmp.{IsEquivalence, IsTotalOrder}
-use Rattle.std.specs.List.Sorted.{IsSorted, IsStrictlySortedBy, IsPartitionPoint, IsPartitionedBy}
-use Rattle.std.specs.Ordering.{nat_cmp, is_lt, ordering_then, ordering_index, ordering_reverse}
-use Rattle.std.proofs.lemmas.List.Kept.{Any-dedup, Contains-from_dedup}
-use Rattle.std.proofs.lemmas.Cmp.{nat_list_cmp_total}
-use Rattle.std.proofs.lemmas.List.Elements.{All-from_get_or}
-use Rattle.std.proofs.lemmas.List.Folds.{list_any_at, list_any_none, Any-from_list_any, list_any-from_Any}
-use Rattle.std.proofs.lemmas.List.Sorted.{searchable_from_sorted, sorted_far, ranks_by}
+use Rattle.std.specs.Ordering.{nat_cmp, is_lt, ordering_then, ordering_index}
 use Rattle.std.specs.declared.cmp.Ordering.{Ordering}
 use Rattle.std.specs.declared.cmp.Ordering.TheVariants.{Less, Equal, Greater}
-use Rattle.proto_resolve.specs.Files.{dot, ends_component, begins as components_begin}
-use Rattle.proto_resolve.specs.Views.{have}
 use Rattle.std.proofs.lemmas.Bool.{cases_Bool, cases_eq, cases_lt}
-use Rattle.proto_resolve.proofs.Search.{below, same}
 use Rattle.std.proofs.lemmas.Bool.Decides.{nat_tests}
+use Rattle.std.proofs.lemmas.Cmp.{nat_list_cmp_total}
+use Rattle.std.proofs.lemmas.List.{get_or_default, get_or-drop, get_or-take, length-drop, length-take, take-append-drop}
+use Rattle.std.proofs.lemmas.List.Folds.{list_any-append, list_any_none}
+use Rattle.std.proofs.lemmas.List.Sorted.{searchable_from_sorted, sorted_far, ranks_by}
+use Rattle.proto_resolve.specs.Files.{dot, ends_component, begins as components_begin}
+use Rattle.proto_resolve.proofs.Alike.{any_agree}
+use Rattle.proto_resolve.proofs.Search.{below, same}
 
 both : (a b c : Bool) → (a && (b && c)) ≡ ((a && b) && c)
 both true b c = refl
@@ -95,7 +91,15 @@ index_of_less Less e = omega arith
 index_of_less Equal e = absurd (cc (e))
 index_of_less Greater e = absurd (cc (e))
 
--- in sorted texts, the first one that isn't before a text tells whether any begins with it
+pub alone : (b : Bool) → (b || false) ≡ b
+alone true = refl
+alone false = refl
+
+-- what passes is in front of a place or behind it
+any_split : {S : Type 0} (p : S → Bool) (xs : List S) (n : ℕ) → list_any p xs ≡ (list_any p (take n xs) || list_any p (drop n xs))
+any_split p xs n = ap (list_any p) (sym (take-append-drop n xs)) ∙ list_any-append p (take n xs) (drop n xs)
+
+-- in sorted texts, those that begin with a text stand together that isn't before a text tells whether any begins with it
 module _ {S : Type 0} (bytes : S → List ℕ) (names : List S) (key : List ℕ) (sorted : IsSorted (λ x y. slice_cmp nat_cmp (bytes x) (bytes y)) names) where
   abbrev is_before : S → Bool
   is_before s = is_lt (slice_cmp nat_cmp (bytes s) key)
@@ -119,30 +123,67 @@ module _ {S : Type 0} (bytes : S → List ℕ) (names : List S) (key : List ℕ)
     below_place : (k : ℕ) (d : S) → k < place → begins (get_or names k d) ≡ false
     below_place k d lt = none_before (get_or names k d) (point.0 k d (omega arith) lt)
 
-    pub at_place : (d : S) → place < length names → list_any begins names ≡ begins (get_or names place d)
-    at_place d within = elim (cases_Bool (begins (get_or names place d))) [
-      | inl starts ↦ list_any_at begins names place d within starts ∙ sym starts
-      | inr other ↦ list_any_none begins names (All-from_get_or (λ s. begins s ≡ false) names d (λ k lt. elim (cases_lt k place) [
-        | inl lower ↦ below_place k d lower
-        | inr from ↦ beyond (bytes (get_or names place d)) (bytes (get_or names k d)) key (point.1 place d (omega arith) within) other
-            (sorted_far (λ x y. is_lt (slice_cmp nat_cmp (bytes x) (bytes y))) (ranks_by nat_list_cmp_total bytes) names sorted place k d from lt)
-      ])) ∙ sym other
-    ]
+    later_fails : (i j : ℕ) (d : S) → place ≤ i → i ≤ j → j < length names → begins (get_or names i d) ≡ false → begins (get_or names j d) ≡ false
+    later_fails i j d from le lt other =
+        beyond (bytes (get_or names i d)) (bytes (get_or names j d)) key (point.1 i d from (omega (arith, le, lt))) other
+        (sorted_far (λ x y. is_lt (slice_cmp nat_cmp (bytes x) (bytes y))) (ranks_by nat_list_cmp_total bytes) names sorted i j d le lt)
 
-    pub past_all : length names ≤ place → list_any begins names ≡ false
-    past_all le = list_any_none begins names (λ k d lt. below_place k d (omega (arith, le, lt)))
+    -- those from there on that begin with the text come first
+    pub begin_first : IsPartitionedBy begins (drop place names)
+    begin_first i j d le lt e =
+        let long : place + j < length names = omega (arith, lt, length-drop place names) in
+        elim (cases_Bool (begins (get_or (drop place names) i d))) [
+          | inl starts ↦ starts
+          | inr other ↦
+              let fails = later_fails (place + i) (place + j) d (omega arith) (omega (arith, le)) long (rw (get_or-drop place names i d) at other) in
+              absurd (cc (rw (get_or-drop place names j d) at e, fails))
+        ]
+
+    -- where the first of those doesn't begin with the text, or there is none, none does
+    pub none_at : (d : S) (test : S → Bool) → begins (get_or names place d) ≡ false → list_any (λ s. begins s && test s) names ≡ false
+    none_at d test other = list_any_none (λ s. begins s && test s) names (λ k e lt. elim (cases_lt k place) [
+      | inl lower ↦ rw (below_place k e lower) refl
+      | inr from ↦
+          let other' : begins (get_or names place e) ≡ false = rw (get_or_default names place d e (omega (arith, from, lt))) at other in
+          rw (later_fails place k e (omega arith) from lt other') refl
+    ])
+
+    pub none_past : (test : S → Bool) → length names ≤ place → list_any (λ s. begins s && test s) names ≡ false
+    none_past test le = list_any_none (λ s. begins s && test s) names (λ k d lt. rw (below_place k d (omega (arith, le, lt))) refl)
+
+    module _ (count : ℕ) (end : IsPartitionPoint (λ s. begins s ≡ true) (λ s. begins s ≡ false) (drop place names) count) (test : S → Bool) where
+      abbrev passes : S → Bool
+      passes s = begins s && test s
+
+      within_take : (n k : ℕ) (xs : List S) → k < length (take n xs) → (k < n) × (k < length xs)
+      within_take n k xs lt = (omega (arith, lt, length-take n xs), omega (arith, lt, length-take n xs))
+
+      none_first : list_any passes (take place names) ≡ false
+      none_first = list_any_none passes (take place names) (λ k d lt.
+          let inside = within_take place k names lt in
+          rw (get_or-take place names k d inside.0, below_place k d inside.0) refl)
+
+      all_then : list_any passes (take count (drop place names)) ≡ list_any test (take count (drop place names))
+      all_then = any_agree passes test (take count (drop place names)) (λ k d lt.
+          let inside = within_take count k (drop place names) lt in
+          let starts = end.0 k d (omega arith) inside.0 in
+          rw (get_or-take count (drop place names) k d inside.0, starts) refl)
+
+      none_last : list_any passes (drop count (drop place names)) ≡ false
+      none_last = list_any_none passes (drop count (drop place names)) (λ k d lt.
+          let fails = end.1 (count + k) d (omega arith) (omega (arith, lt, length-drop count (drop place names))) in
+          rw (get_or-drop count (drop place names) k d, fails) refl)
+
+      -- those of them that pass a test are those in between that do
+      pub run_is : list_any test (take count (drop place names)) ≡ list_any passes names
+      run_is =
+          sym (any_split passes names place ∙ ap (λ b. b || list_any passes (drop place names)) none_first
+          ∙ any_split passes (drop place names) count ∙ ap (λ b. list_any passes (take count (drop place names)) || b) none_last
+          ∙ alone (list_any passes (take count (drop place names))) ∙ all_then)
 
 pub any_map : {A B : Type 0} (p : B → Bool) (h : A → B) (xs : List A) → list_any p (map h xs) ≡ list_any (λ x. p (h x)) xs
 any_map p h [] = refl
 any_map p h (x ∷ xs) = rw (any_map p h xs) refl
-
-alone : (b : Bool) → (b || false) ≡ b
-alone true = refl
-alone false = refl
-
-any_first : (a b c : Bool) → (a || (b || c)) ≡ ((a || b) || c)
-any_first true b c = refl
-any_first false b c = refl
 
 never : (b : Bool) → (b && false) ≡ false
 never true = refl
@@ -153,47 +194,8 @@ nothing_begins [] = refl
 nothing_begins (x ∷ q) = refl
 
 -- with a dot behind both, a package begins with a name where its first components are the name's
-dotted : (n q : List ℕ) → starts_with nat_eq (n ++ dot ∷ []) (q ++ dot ∷ []) ≡ components_begin n q
+pub dotted : (n q : List ℕ) → starts_with nat_eq (n ++ dot ∷ []) (q ++ dot ∷ []) ≡ components_begin n q
 dotted [] [] = refl
 dotted (c ∷ n) [] = grind (arith, nat_tests)
 dotted [] (k ∷ q) = rw (nothing_begins q) (never (nat_eq k dot))
 dotted (c ∷ n) (k ∷ q) = rw (dotted n q) (both (nat_eq k c) (starts_with nat_eq n q) (ends_component (drop (length q) n)))
-
--- one more package
-pub one_more : {S : Type 0} (bytes : S → List ℕ) (names : List S) (s : S) (n q : List ℕ) → bytes s ≡ n ++ dot ∷ []
-    → have q (map bytes (names ++ s ∷ [])) ≡ (have q (map bytes names) || components_begin n q)
-one_more bytes [] s n q e = rw (e, dotted n q) (alone (components_begin n q))
-one_more bytes (x ∷ names) s n q e = rw (one_more bytes names s n q e) (any_first (starts_with nat_eq (bytes x) (q ++ dot ∷ [])) (have q (map bytes names)) (components_begin n q))
-
--- where repeats are dropped, no test changes that takes equals for equal
-module _ {S : Type 0} {tied : S → S → Bool} (laws : IsEquivalence tied) (p : S → Bool) (alike : (x y : S) → tied x y ≡ true → p x ≡ p y) where
-  still_some : (xs : List S) → list_any p xs ≡ true → list_any p (dedup tied xs) ≡ true
-  still_some xs e =
-      let one = Any-from_list_any p xs e in
-      let kept = Any-dedup laws xs one.1 (one.0, one.2, one.3) in
-      list_any-from_Any p (dedup tied xs) (kept.0, kept.1, kept.2, kept.3, sym (alike one.1 kept.1 kept.4) ∙ one.4)
-
-  was_some : (xs : List S) → list_any p (dedup tied xs) ≡ true → list_any p xs ≡ true
-  was_some xs e =
-      let one = Any-from_list_any p (dedup tied xs) e in
-      let there : Contains xs one.1 = Contains-from_dedup tied xs one.1 (one.0, one.2, one.3) in
-      list_any-from_Any p xs (there.0, one.1, there.1, there.2, one.4)
-
-  pub any_dedup : (xs : List S) → list_any p (dedup tied xs) ≡ list_any p xs
-  any_dedup xs = elim (cases_Bool (list_any p xs)) [
-    | inl some ↦ still_some xs some ∙ sym some
-    | inr none ↦ elim (cases_Bool (list_any p (dedup tied xs))) [
-      | inl some ↦ absurd (cc (none, was_some xs some))
-      | inr none' ↦ none' ∙ sym none
-    ]
-  ]
-
-less_is_no_greater : (a b : Ordering) → a ≡ Less → b ≡ ordering_reverse a → is_lt b ≡ false
-less_is_no_greater a b e e' = rw (e', e) refl
-
-pub strictly_is_sorted : {S : Type 0} {R : S → S → Ordering} → IsTotalOrder R → (xs : List S) → IsStrictlySortedBy R xs → IsSorted R xs
-unfolding IsStrictlySortedBy
-strictly_is_sorted o [] up k d le lt = absurd (omega (arith, lt))
-strictly_is_sorted o (x ∷ []) up k d le lt = absurd (omega (arith, lt))
-strictly_is_sorted {R = R} o (x ∷ y ∷ xs) up zero d le lt = less_is_no_greater (R x y) (R y x) up.0.0 (o.antisymm y x)
-strictly_is_sorted o (x ∷ y ∷ xs) up (suc k) d le lt = let e : suc k + 1 ≡ suc (k + 1) = omega arith in rw e (strictly_is_sorted o (y ∷ xs) up.1 k d (omega arith) (omega (arith, lt)))

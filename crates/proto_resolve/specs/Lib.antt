@@ -8,6 +8,7 @@ pub mod Sites
 pub mod Resolved
 pub mod Laws
 pub mod Holders
+pub mod Packages
 pub mod Tables
 pub mod Finding
 pub mod FindingLaws

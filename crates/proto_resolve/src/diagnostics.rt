@@ -17,6 +17,7 @@ use crate::scopes::{is_type, kind_at};
 use crate::site::{NameSite, Needs};
 use crate::target::{DeclRef, Target};
 use crate::view::View;
+use crate::views::sees_package;
 use file_facts::{Decl, Diag, ImportFact, Problem};
 use sqlite_items::Items;
 use std::alloc::{AllocError, Global};
@@ -170,7 +171,7 @@ fn push_diagnostics_of<I: Index>(
     if is_elsewhere(index.named(name), view) {
         found.push(diag(Problem::DeclaredElsewhere, decl.name_span))?;
     }
-    if view.packages.has(name) {
+    if sees_package(index, view, name) {
         found.push(diag(Problem::NameIsPackage, decl.name_span))?;
     }
     Ok(())

@@ -1,13 +1,13 @@
 // What stands at a full name.
-ghost use Rattle.std.specs.Prelude.{◌≡◌, ◌==◌, find, List, IfOk, IfSome};
+ghost use Rattle.std.specs.Prelude.{◌≡◌, ◌==◌, find, IfOk, IfSome};
 ghost use Rattle.std.specs.List.Sorted.{IsNonDecreasingBy};
-ghost use Rattle.import_graph.specs.declared.paths.NamedFacts.{NamedFacts};
 ghost use Rattle.proto_resolve.specs.Views.{IsView};
 ghost use Rattle.proto_resolve.specs.Names.{found, first_declared, is_seen, package_found, IsThere};
 
 use crate::index::Index;
 use crate::target::{DeclRef, Target};
 use crate::view::View;
+use crate::views::sees_package;
 use file_facts::Name;
 use std::alloc::{AllocError, Global};
 
@@ -60,7 +60,7 @@ pub fn found<I: Index>(
 {
     match first_declared(index.named(name), view) {
         Some(decl) => Ok(Some(Target::Declared(decl))),
-        None => package_found(alloc, view, name),
+        None => package_found(alloc, index, view, name),
     }
 }
 
@@ -74,11 +74,17 @@ fn first_declared(decls: &[DeclRef], view: &View) -> Option<DeclRef>
     }
 }
 
-fn package_found(alloc: Global, view: &View, name: &str) -> Result<Option<Target>, AllocError>
-    ensures value { (files : List NamedFacts) → IsView files view.now → IfOk result (λ r. r ≡ package_found files view.now.files name.now) }
-    ensures within { (files : List NamedFacts) → IfOk result (λ r. IfSome r (IsThere files)) }
+fn package_found<I: Index>(
+    alloc: Global,
+    index: &I,
+    view: &View,
+    name: &str,
+) -> Result<Option<Target>, AllocError>
+    requires { IsView (I.files index.now) view.now }
+    ensures value { IfOk result (λ r. r ≡ package_found (I.files index.now) view.now.files name.now) }
+    ensures within { IfOk result (λ r. IfSome r (IsThere (I.files index.now))) }
 {
-    if !view.packages.has(name) {
+    if !sees_package(index, view, name) {
         return Ok(None);
     }
     let name = String::from_str(alloc, name)?;

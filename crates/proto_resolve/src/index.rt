@@ -1,18 +1,21 @@
 // What has to be known of all files.
+use crate::packages::PackagedFile;
 use crate::target::DeclRef;
 use file_facts::FileFacts;
 use import_graph::Graph;
+use std::marker::Sync;
 
 /// The facts of all files, with their declarations by name. A file is its number in the list of all files, by path,
-/// counted from 0.
-pub trait Index {
-    ghost use Rattle.std.specs.Prelude.{List, All, ◌≡◌, ◌<◌, ◌≤◌, false, take, length};
+/// counted from 0. Several threads may read an index at once.
+pub trait Index: Sync {
+    ghost use Rattle.std.specs.Prelude.{List, All, ◌≡◌, ◌<◌, ◌≤◌, false, take, length, map};
     ghost use Rattle.std.specs.List.Sorted.{IsNonDecreasing};
     ghost use Rattle.file_facts.specs.Text.{joined};
     ghost use Rattle.import_graph.specs.declared.paths.NamedFacts.{NamedFacts};
     ghost use Rattle.import_graph.specs.Imports.{graph_of};
     ghost use Rattle.proto_resolve.specs.Files.{facts_at, all_named};
     ghost use Rattle.proto_resolve.specs.Holders.{has_dot, is_held, IsLast};
+    ghost use Rattle.proto_resolve.specs.Packages.{AreThoseWith};
 
     /// The files, by path.
     ghost files: { Self → List NamedFacts };
@@ -29,6 +32,10 @@ pub trait Index {
     /// The declarations of a full name, by path, then offset.
     fn named(&self, full_name: &str) -> &[DeclRef]
         ensures { result.now ≡ all_named (files self.now) full_name.now };
+
+    /// The files that have a package, given by its full name: those whose package it is and those whose package lies in it.
+    fn packaged(&self, full_name: &str) -> &[PackagedFile]
+        ensures { AreThoseWith (files self.now) full_name.now (map (λ p. p.file) result.now) };
 
     /// The longest front part of a scope, of these lengths, in which a message, an enum or a service of the name is declared:
     /// the length's place in the list. The name has no dot.

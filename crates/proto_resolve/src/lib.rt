@@ -37,6 +37,7 @@ pub use finding_laws::finding_law;
 pub use index::Index;
 pub use laws::{scope_law, seen_law, uses_law};
 pub use outline::{same_exports, same_imports};
+pub use packages::PackagedFile;
 pub use resolve::{Links, resolve_file};
 pub use table::Table;
 pub use target::{DeclRef, Target};

@@ -1,35 +1,30 @@
-// The packages of several files, in the order in which they are searched.
-ghost use Rattle.std.specs.Prelude.{◌≡◌, ◌≤◌, ◌++◌, ◌∷◌, [], ℕ, List, All, false, length, map, take, nat_eq, string_bytes};
+// The files that have packages, by the full names of these, each with a dot behind it. Those with the same first components
+// stand together so.
+ghost use Rattle.std.specs.Prelude.{◌≡◌, ◌≤◌, ◌++◌, ◌∷◌, ◌&&◌, [], ℕ, List, Bool, All, IfOk, OnOk, false, length, take, nat_eq, string_bytes};
 ghost use Rattle.std.specs.Cmp.Lexicographic.{slice_cmp};
 ghost use Rattle.std.specs.Ordering.{is_lt, nat_cmp};
 ghost use Rattle.std.specs.List.{list_any, starts_with};
-ghost use Rattle.std.specs.List.Sorted.{IsNonDecreasing};
+ghost use Rattle.std.specs.List.Sorted.{IsNonDecreasing, IsPermutation};
 ghost use Rattle.file_facts.specs.Text.{joined};
-ghost use Rattle.proto_resolve.specs.Files.{dot};
+ghost use Rattle.proto_resolve.specs.Files as spec;
+ghost use Rattle.proto_resolve.specs.Files.{dot, is_within};
 ghost use Rattle.proto_resolve.specs.Holders.{later, IsPast};
-ghost use Rattle.proto_resolve.specs.Views.{have};
+ghost use Rattle.proto_resolve.specs.Packages as packages;
+ghost use Rattle.proto_resolve.specs.Packages.{AreByPackage, AreNoLonger, ArePackaged};
+ghost use Rattle.proto_resolve.specs.declared.packages.PackagedFile.{PackagedFile};
 
 use crate::holders::common_len;
-use std::marker::Model;
+use file_facts::{Name, PackageFact};
+use import_graph::NamedFacts;
+use std::alloc::{AllocError, Global};
 
-// The full names of packages, each with a dot behind it, by their bytes. The names with the same first components stand
-// together so.
+/// A file that has a package.
 #[derive(Drop)]
-pub struct Packages {
-    names: Vec<String>,
-}
-
-impl Model for Packages {
-    ghost use Rattle.std.specs.Prelude.{ℕ, List, map, string_bytes};
-    ghost use Rattle.std.specs.Cmp.Lexicographic.{slice_cmp};
-    ghost use Rattle.std.specs.Ordering.{nat_cmp};
-    ghost use Rattle.std.specs.List.Sorted.{IsSorted};
-
-    ghost Value = { List (List ℕ) };
-
-    ghost view = { λ p. map string_bytes p.names.items };
-
-    ghost invariant = { λ p. IsSorted (λ x y. slice_cmp nat_cmp (string_bytes x) (string_bytes y)) p.names.items };
+pub struct PackagedFile {
+    /// The full name of its package, with a dot behind it.
+    pub name: Name,
+    /// The file's number in the list of all files, counted from 0.
+    pub file: usize,
 }
 
 // What stands behind each name.
@@ -47,7 +42,7 @@ fn is_before(text: &[u8], name: &[u8]) -> bool
 }
 
 // Whether a text begins with a name and a dot.
-fn begins(text: &[u8], name: &[u8]) -> bool
+fn begins_dotted(text: &[u8], name: &[u8]) -> bool
     ensures { result ≡ starts_with nat_eq text.now (name.now ++ dot ∷ []) }
 {
     if !text.starts_with(name) {
@@ -66,81 +61,178 @@ fn begins_with_dot(rest: &[u8]) -> bool
     }
 }
 
-// Whether a text goes on with a component and a dot where a scope of this length ends.
-fn goes_on(text: &[u8], at: usize, component: &[u8]) -> bool
-    ensures { result ≡ false → (scope : List ℕ) → length scope ≡ at → starts_with nat_eq text.now (joined scope component.now ++ dot ∷ []) ≡ false }
+// Whether the first components of a full name are these.
+fn begins(full_name: &[u8], name: &[u8]) -> bool
+    ensures { result ≡ spec.begins full_name.now name.now }
 {
-    if at == 0 {
-        return begins(text, component);
-    }
-    if at >= text.len() || text[at] != b'.' {
+    if !full_name.starts_with(name) {
         return false;
     }
-    begins(&text[at + 1..], component)
+    let (_, rest) = full_name.split_at(name.len());
+    ends_component(rest)
 }
 
-// A place behind which a text goes on with a component and a dot at no front part of a scope, of these lengths.
-fn last_inside(text: &[u8], scope: &[u8], lengths: &[usize], component: &[u8]) -> Option<usize>
+fn ends_component(rest: &[u8]) -> bool
+    ensures { result ≡ spec.ends_component rest.now }
+{
+    match rest {
+        [] => true,
+        [c, ..] => *c == b'.',
+    }
+}
+
+// Whether a package has the name, or lies in it.
+pub fn is_within(name: &str, package: &Option<PackageFact>) -> bool
+    ensures { result ≡ is_within name.now «package».now }
+{
+    match package {
+        None => false,
+        Some(package) => begins(package.full_name.as_str().as_bytes(), name.as_bytes()),
+    }
+}
+
+// The full name of a package with a dot behind it.
+fn with_dot(alloc: Global, name: &Name) -> Result<Name, AllocError>
+    ensures { IfOk result (λ n. n ≡ name.now ++ dot ∷ []) }
+{
+    let mut text = String::from_str(alloc, name.as_str())?;
+    text.push('.')?;
+    Ok(Name::of(text))
+}
+
+// Adds the file if it has a package.
+fn push_packaged(
+    alloc: Global,
+    file: usize,
+    package: &Option<PackageFact>,
+    found: &mut Vec<PackagedFile>,
+) -> Result<(), AllocError>
+    ensures { OnOk result (found.new.items ≡ found.old.items ++ packages.packaged file «package».now) }
+{
+    match package {
+        None => Ok(()),
+        Some(package) => {
+            let name = with_dot(alloc, &package.full_name)?;
+            found.push(PackagedFile { name, file })?;
+            Ok(())
+        }
+    }
+}
+
+fn all_packaged(alloc: Global, files: &[NamedFacts]) -> Result<Vec<PackagedFile>, AllocError>
+    ensures { IfOk result (λ v. v.items ≡ packages.all_packaged files.now) }
+{
+    let mut found = Vec::new(alloc);
+    for (number, file) in files.iter().enumerate() {
+        push_packaged(alloc, number, &file.facts.package, &mut found)?;
+    }
+    Ok(found)
+}
+
+// Puts them into the order of their packages.
+fn sort_by_package(files: &mut Vec<PackagedFile>)
+    ensures sorted { AreByPackage files.new.items }
+    ensures same { IsPermutation files.old.items files.new.items }
+{
+    files.sort_unstable_by(|a, b| a.name.as_str().cmp(b.name.as_str()));
+}
+
+// The files that have packages, by these.
+pub fn packaged_files(alloc: Global, files: &[NamedFacts]) -> Result<Vec<PackagedFile>, AllocError>
+    ensures { IfOk result (λ v. ArePackaged files.now v.items) }
+{
+    let mut found = all_packaged(alloc, files)?;
+    sort_by_package(&mut found);
+    Ok(found)
+}
+
+// How long the longest of the names is.
+pub fn longest_of(files: &[PackagedFile]) -> usize
+    ensures { AreNoLonger result files.now }
+{
+    let mut longest = 0;
+    for file in files {
+        longest = file.name.as_str().len().max(longest);
+    }
+    longest
+}
+
+// Of files by their packages, of which none has a longer name than this, those whose package has the name or lies in it.
+pub fn of_package<'a>(files: &'a [PackagedFile], longest: usize, name: &str) -> &'a [PackagedFile]
+    requires by_package { AreByPackage files.now }
+    requires longest { AreNoLonger longest files.now }
+    ensures { (test : PackagedFile → Bool) → list_any test result.now ≡ list_any (λ p. starts_with nat_eq p.name (name.now ++ dot ∷ []) && test p) files.now }
+{
+    if name.len() >= longest {
+        return &[];
+    }
+    let name = name.as_bytes();
+    let start = files.partition_point(|file| is_before(file.name.as_str().as_bytes(), name));
+    if start >= files.len() || !begins_dotted(files[start].name.as_str().as_bytes(), name) {
+        return &[];
+    }
+    let rest = &files[start..];
+    let count = rest.partition_point(|file| begins_dotted(file.name.as_str().as_bytes(), name));
+    &rest[..count]
+}
+
+// Whether a component is one of those of a package, which begins where a scope of this length ends.
+fn goes_on(package: &[u8], at: usize, component: &[u8]) -> bool
+    ensures { result ≡ false → (scope : List ℕ) → length scope ≡ at → spec.begins «package».now (joined scope component.now) ≡ false }
+{
+    if at == 0 {
+        return begins(package, component);
+    }
+    if at >= package.len() || package[at] != b'.' {
+        return false;
+    }
+    begins(&package[at + 1..], component)
+}
+
+// A place behind which a component goes on with a package at no front part of a scope, of these lengths.
+fn last_inside(package: &[u8], scope: &[u8], lengths: &[usize], component: &[u8]) -> Option<usize>
     requires ascending { IsNonDecreasing lengths.now }
     requires within { All (λ l. l ≤ length scope.now) lengths.now }
-    ensures { IsPast (λ l. starts_with nat_eq text.now (joined (take l scope.now) component.now ++ dot ∷ [])) lengths.now result }
+    ensures { IsPast (λ l. spec.begins «package».now (joined (take l scope.now) component.now)) lengths.now result }
 {
-    let past = common_len(text, scope) + 1;
+    let past = common_len(package, scope) + 1;
     let mut left = lengths.partition_point(|length| *length < past);
     while left > 0 {
         left -= 1;
-        if goes_on(text, lengths[left], component) {
+        if goes_on(package, lengths[left], component) {
             return Some(left);
         }
     }
     None
 }
 
-fn later(a: Option<usize>, b: Option<usize>) -> Option<usize>
+// A place behind which no front part of a scope, of these lengths, has the package, or one that it lies in, in it by the name.
+pub fn last_within(
+    package: &Option<PackageFact>,
+    scope: &[u8],
+    lengths: &[usize],
+    name: &str,
+) -> Option<usize>
+    requires ascending { IsNonDecreasing lengths.now }
+    requires within { All (λ l. l ≤ length scope.now) lengths.now }
+    ensures { IsPast (λ l. is_within (joined (take l scope.now) name.now) «package».now) lengths.now result }
+{
+    match package {
+        None => None,
+        Some(package) => {
+            let package = package.full_name.as_str().as_bytes();
+            last_inside(package, scope, lengths, name.as_bytes())
+        }
+    }
+}
+
+// The later of two places.
+pub fn later(a: Option<usize>, b: Option<usize>) -> Option<usize>
     ensures { result ≡ later a b }
 {
     match (a, b) {
         (None, b) => b,
         (a, None) => a,
         (Some(a), Some(b)) => Some(a.max(b)),
-    }
-}
-
-impl Packages {
-    // The packages of these names, each with a dot behind it.
-    pub fn of(mut names: Vec<String>) -> Packages
-        ensures { (name : List ℕ) → list_any (λ p. starts_with nat_eq p name) result ≡ list_any (λ p. starts_with nat_eq p name) (map string_bytes names.items) }
-    {
-        names.sort_unstable();
-        names.dedup();
-        Packages { names }
-    }
-
-    // Whether the first components of one of the packages are these.
-    pub fn has(&self, name: &str) -> bool
-        ensures { result ≡ list_any (λ p. starts_with nat_eq p (name.now ++ dot ∷ [])) self.now }
-    {
-        let name = name.as_bytes();
-        let place = self
-            .names
-            .as_slice()
-            .partition_point(|package| is_before(package.as_bytes(), name));
-        place < self.names.len() && begins(self.names[place].as_bytes(), name)
-    }
-
-    // A place behind which no front part of a scope, of these lengths, has a package of the name in it.
-    pub fn last_place(&self, scope: &[u8], lengths: &[usize], name: &str) -> Option<usize>
-        requires ascending { IsNonDecreasing lengths.now }
-        requires within { All (λ l. l ≤ length scope.now) lengths.now }
-        ensures { IsPast (λ l. have (joined (take l scope.now) name.now) self.now) lengths.now result }
-    {
-        let mut place = None;
-        for text in &self.names {
-            place = later(
-                place,
-                last_inside(text.as_bytes(), scope, lengths, name.as_bytes()),
-            );
-        }
-        place
     }
 }

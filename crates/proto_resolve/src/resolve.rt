@@ -33,7 +33,7 @@ pub fn resolve_file<I: Index>(
     requires { file < length (I.files index.now) }
     ensures { IfOk result (λ l. l ≡ resolved (I.files index.now) file text.now tree.now) }
 {
-    let view = view_of(alloc, index, file)?;
+    let view = view_of(index, file)?;
     let sites = names_of_file(alloc, text, index.facts(file), tree.nodes.as_slice())?;
     let names = resolve_names(alloc, index, &view, sites.as_slice())?;
     let found = view_diagnostics(alloc, index, &view, names.diagnostics)?;

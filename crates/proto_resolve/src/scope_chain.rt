@@ -2,11 +2,14 @@
 ghost use Rattle.std.specs.Prelude.{◌≡◌, ◌∷◌, ◌<◌, ◌≤◌, ℕ, List, [], false, length, slice_index_or, IfOk};
 ghost use Rattle.file_facts.specs.Text.{joined};
 ghost use Rattle.proto_resolve.specs.Holders.{has_dot, is_held, IsNext};
-ghost use Rattle.proto_resolve.specs.Views.{have};
+ghost use Rattle.std.specs.List.{list_any};
+ghost use Rattle.proto_resolve.specs.Files.{has_package};
+ghost use Rattle.proto_resolve.specs.Views.{IsView};
 
 use crate::full_names::push_component;
 use crate::index::Index;
-use crate::packages::Packages;
+use crate::view::View;
+use crate::views::last_package;
 use sqlite_items::Items;
 use std::alloc::{AllocError, Global};
 use std::marker::Model;
@@ -101,14 +104,22 @@ impl ScopeChain {
         }
     }
 
-    // The number of the next scope, from the one of a number on, in which there is a package of the name.
-    pub fn next_package(&self, packages: &Packages, number: usize, name: &str) -> Option<usize>
-        requires { number ≤ length self.now }
-        ensures { IsNext (λ s. have (joined s name.now) packages.now) self.now number result }
+    // A scope, by its number, or none, that no scope comes before in which there is a package of the name that the view sees,
+    // from the one of a number on.
+    pub fn next_package<I: Index>(
+        &self,
+        index: &I,
+        view: &View,
+        number: usize,
+        name: &str,
+    ) -> Option<usize>
+        requires view { IsView (I.files index.now) view.now }
+        requires within { number ≤ length self.now }
+        ensures { IsNext (λ s. list_any (has_package (I.files index.now) (joined s name.now)) view.now.files) self.now number result }
     {
         let left = self.lengths.len() - number;
         let lengths = &self.lengths.as_slice()[..left];
-        match packages.last_place(self.text.as_str().as_bytes(), lengths, name) {
+        match last_package(index, view, self.text.as_str().as_bytes(), lengths, name) {
             None => None,
             Some(place) => Some(self.lengths.len() - 1 - place),
         }

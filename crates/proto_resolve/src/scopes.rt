@@ -86,7 +86,7 @@ fn earlier(a: Option<usize>, b: Option<usize>) -> Option<usize>
     }
 }
 
-// Up to so many scopes are tried one by one: a look-up in each costs less than a walk over the packages.
+// Up to so many scopes are tried one by one: a look-up in each costs less than a walk over the view.
 const FEW: usize = 64;
 
 impl<I: Index> Resolver<'_, I> {
@@ -150,7 +150,7 @@ impl<I: Index> Resolver<'_, I> {
         }
         earlier(
             scopes.next_held(self.index, number, first),
-            scopes.next_package(&self.view.packages, number, first),
+            scopes.next_package(self.index, self.view, number, first),
         )
     }
 

@@ -10,6 +10,7 @@ ghost use Rattle.proto_resolve.specs.Tables.{listed};
 
 use crate::holders::{by_last, last_place, name_of};
 use crate::index::Index;
+use crate::packages::{PackagedFile, longest_of, of_package, packaged_files};
 use crate::target::DeclRef;
 use file_facts::{Decl, FileFacts};
 use import_graph::{Graph, NamedFacts};
@@ -18,7 +19,7 @@ use std::alloc::{AllocError, Global};
 use std::collections::BTreeMap;
 use std::marker::Model;
 
-/// Files with their graph, all their declarations, and those of each name. Contracts see it as the list of the files.
+/// Files with their graph, all their declarations, those of each name, and the files of each package. Contracts see it as the list of the files.
 #[derive(Drop)]
 pub struct Table {
     files: Vec<NamedFacts>,
@@ -27,6 +28,10 @@ pub struct Table {
     names: BTreeMap<String, Vec<DeclRef>>,
     // Messages, enums and services by the last components of their full names, then by what stands before those.
     holders: BTreeMap<String, Vec<DeclRef>>,
+    // The files that have packages, by these.
+    packaged: Vec<PackagedFile>,
+    // How long the longest name among those is.
+    longest: usize,
 }
 
 impl Model for Table {
@@ -36,13 +41,14 @@ impl Model for Table {
     ghost use Rattle.import_graph.specs.Paths.{IsInPathOrder};
     ghost use Rattle.proto_resolve.specs.Files.{all_decls, all_named};
     ghost use Rattle.proto_resolve.specs.Holders.{is_held};
+    ghost use Rattle.proto_resolve.specs.Packages.{AreNoLonger, ArePackaged};
     ghost use Rattle.proto_resolve.specs.Tables.{listed, name_at, AreByLast};
 
     ghost Value = { List NamedFacts };
 
     ghost view = { λ t. t.files.items };
 
-    ghost invariant = { λ t. (t.graph ≡ graph_of t.files.items) × (t.decls ≡ all_decls t.files.items) × ((q : List ℕ) → listed t.names q ≡ all_named t.files.items q) × AreByLast (name_at t.files.items) (is_held t.files.items) t.holders × IsInPathOrder t.files.items };
+    ghost invariant = { λ t. (t.graph ≡ graph_of t.files.items) × (t.decls ≡ all_decls t.files.items) × ((q : List ℕ) → listed t.names q ≡ all_named t.files.items q) × AreByLast (name_at t.files.items) (is_held t.files.items) t.holders × IsInPathOrder t.files.items × ArePackaged t.files.items t.packaged.items × AreNoLonger t.longest t.packaged.items };
 }
 
 fn push_decls(file: usize, decls: &[Decl], found: &mut Items<DeclRef>) -> Result<(), AllocError>
@@ -89,12 +95,16 @@ impl Table {
         let decls = all_decls(alloc, files.as_slice())?;
         let names = by_name(alloc, files.as_slice(), decls.as_slice())?;
         let holders = by_last(alloc, files.as_slice(), decls.as_slice())?;
+        let packaged = packaged_files(alloc, files.as_slice())?;
+        let longest = longest_of(packaged.as_slice());
         Ok(Table {
             files,
             graph,
             decls,
             names,
             holders,
+            packaged,
+            longest,
         })
     }
 
@@ -161,6 +171,10 @@ impl Index for Table {
             Some(decls) => decls.as_slice(),
             None => &[],
         }
+    }
+
+    fn packaged(&self, full_name: &str) -> &[PackagedFile] {
+        of_package(self.packaged.as_slice(), self.longest, full_name)
     }
 
     fn last_held(&self, scope: &str, lengths: &[usize], name: &str) -> Option<usize> {

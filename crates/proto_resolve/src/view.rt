@@ -1,20 +1,19 @@
 // What a file sees.
-ghost use Rattle.std.specs.Prelude.{◌≡◌, ◌∷◌, [], ◌++◌, nat_eq};
+ghost use Rattle.std.specs.Prelude.{◌≡◌};
+ghost use Rattle.std.specs.List.{list_any};
 ghost use Rattle.std.specs.List.Sorted.{IsStrictlyIncreasing};
 ghost use Rattle.proto_resolve.specs.Names.{is_seen};
 
-use crate::packages::Packages;
+use crate::packages::PackagedFile;
 use sqlite_items::Items;
 
-// A file, the files that it sees, and their packages.
+// A file and the files that it sees.
 #[derive(Drop)]
 pub struct View {
     // The file that sees.
     pub file: usize,
     // The files that it sees, ascending.
     pub files: Items<usize>,
-    // Their packages.
-    pub packages: Packages,
     ghost ascending: { IsStrictlyIncreasing files },
 }
 
@@ -24,5 +23,12 @@ impl View {
         ensures { result ≡ is_seen self.now.files file }
     {
         self.files.as_slice().binary_search(&file).is_ok()
+    }
+
+    // Whether the file sees one of these.
+    pub fn has_one_of(&self, files: &[PackagedFile]) -> bool
+        ensures { result ≡ list_any (λ p. is_seen self.now.files p.file) files.now }
+    {
+        files.iter().any(|packaged| self.has(packaged.file))
     }
 }

@@ -1,66 +1,80 @@
 // The view of a file.
-ghost use Rattle.std.specs.Prelude.{◌≡◌, ◌||◌, ◌<◌, ◌++◌, ◌∷◌, [], ℕ, List, length, map, All, IfOk, OnOk, string_bytes};
+ghost use Rattle.std.specs.Prelude.{◌≡◌, ◌<◌, ◌≤◌, List, length, take, All, IfOk};
+ghost use Rattle.std.specs.List.{list_any};
+ghost use Rattle.std.specs.List.Sorted.{IsNonDecreasing};
 ghost use Rattle.import_graph.specs.Imports.{graph_of};
 ghost use Rattle.import_graph.specs.Closures.{view_of};
-ghost use Rattle.proto_resolve.specs.Files.{dot, is_within};
-ghost use Rattle.proto_resolve.specs.Views.{have, ArePackagesOf, IsView};
+ghost use Rattle.file_facts.specs.Text.{joined};
+ghost use Rattle.proto_resolve.specs.Files.{has_package};
+ghost use Rattle.proto_resolve.specs.Holders.{IsPast};
+ghost use Rattle.proto_resolve.specs.Views.{IsView};
 
 use crate::index::Index;
-use crate::packages::Packages;
+use crate::packages::{is_within, last_within, later};
 use crate::view::View;
-use file_facts::{Name, PackageFact};
 use sqlite_items::Items;
 use std::alloc::{AllocError, Global};
 
-// The full name of a package with a dot behind it.
-fn with_dot(alloc: Global, name: &Name) -> Result<String, AllocError>
-    ensures { IfOk result (λ s. string_bytes s ≡ name.now ++ dot ∷ []) }
-{
-    let mut text = String::from_str(alloc, name.as_str())?;
-    text.push('.')?;
-    Ok(text)
-}
-
-// Adds the package, if there is one.
-fn push_package(
-    alloc: Global,
-    package: &Option<PackageFact>,
-    found: &mut Vec<String>,
-) -> Result<(), AllocError>
-    ensures { OnOk result ((q : List ℕ) → have q (map string_bytes found.new.items) ≡ (have q (map string_bytes found.old.items) || is_within q «package».now)) }
-{
-    match package {
-        None => Ok(()),
-        Some(package) => {
-            found.push(with_dot(alloc, &package.full_name)?)?;
-            Ok(())
-        }
-    }
-}
-
-fn packages_of<I: Index>(alloc: Global, index: &I, files: &[usize]) -> Result<Packages, AllocError>
-    requires { All (λ g. g < length (I.files index.now)) files.now }
-    ensures { IfOk result (λ found. ArePackagesOf (I.files index.now) files.now found) }
-{
-    let mut found = Vec::new(alloc);
-    for &file in files {
-        push_package(alloc, &index.facts(file).package, &mut found)?;
-    }
-    Ok(Packages::of(found))
-}
-
-// The files that a file sees, with their packages.
-pub fn view_of<I: Index>(alloc: Global, index: &I, file: usize) -> Result<View, AllocError>
+// The files that a file sees.
+pub fn view_of<I: Index>(index: &I, file: usize) -> Result<View, AllocError>
     requires { file < length (I.files index.now) }
     ensures file { IfOk result (λ v. v.file ≡ file) }
     ensures files { IfOk result (λ v. v.files ≡ view_of (graph_of (I.files index.now)) file) }
     ensures is_view { IfOk result (IsView (I.files index.now)) }
 {
     let files = Items::from_vec(index.graph().visible(file)?);
-    let packages = packages_of(alloc, index, files.as_slice())?;
-    Ok(View {
-        file,
-        files,
-        packages,
-    })
+    Ok(View { file, files })
+}
+
+// Whether one of the files has the package.
+fn have_package<I: Index>(index: &I, files: &[usize], name: &str) -> bool
+    requires { All (λ g. g < length (I.files index.now)) files.now }
+    ensures { result ≡ list_any (has_package (I.files index.now) name.now) files.now }
+{
+    for &file in files {
+        if is_within(name, &index.facts(file).package) {
+            return true;
+        }
+    }
+    false
+}
+
+// A view of up to so many files is walked: that takes less time than to look up who has a package.
+const FEW: usize = 16;
+
+// Whether a file of the view has the package. The shorter list is walked: that of the files that have it, or the view.
+pub fn sees_package<I: Index>(index: &I, view: &View, name: &str) -> bool
+    requires { IsView (I.files index.now) view.now }
+    ensures { result ≡ list_any (has_package (I.files index.now) name.now) view.now.files }
+{
+    if view.files.len() <= FEW {
+        return have_package(index, view.files.as_slice(), name);
+    }
+    let packaged = index.packaged(name);
+    if packaged.len() <= view.files.len() {
+        view.has_one_of(packaged)
+    } else {
+        have_package(index, view.files.as_slice(), name)
+    }
+}
+
+// A place behind which no front part of a scope, of these lengths, has in it a package of the name that the view sees.
+pub fn last_package<I: Index>(
+    index: &I,
+    view: &View,
+    scope: &[u8],
+    lengths: &[usize],
+    name: &str,
+) -> Option<usize>
+    requires view { IsView (I.files index.now) view.now }
+    requires ascending { IsNonDecreasing lengths.now }
+    requires within { All (λ l. l ≤ length scope.now) lengths.now }
+    ensures { IsPast (λ l. list_any (has_package (I.files index.now) (joined (take l scope.now) name.now)) view.now.files) lengths.now result }
+{
+    let mut place = None;
+    for &file in view.files.as_slice() {
+        let package = &index.facts(file).package;
+        place = later(place, last_within(package, scope, lengths, name));
+    }
+    place
 }

@@ -12,6 +12,7 @@ use crate::status::{fail, status_of, status_of_check};
 use lsp_frame::{FrameReader, FromRead, ToWrite};
 use lsp_session::{Config, Ended, OpenGate, ServeFault, check, serve};
 use program_options::options;
+use std::alloc::Global;
 use std::env::{self, Env};
 use std::io::{self, BufReader, ErrorKind};
 use std::marker::Send;
@@ -23,9 +24,17 @@ use std::thread::Threads;
 const NOT_UTF8: &str = "error: a word of the command line isn't UTF-8
 
 Usage: protols serve [--root DIR] [--workers N] [--stdio] [--clientProcessId ID]
-       protols check [--root DIR]
+       protols check [--root DIR] [--workers N]
 
 For more information, try '--help'.";
+
+// A gate that no worker waits at.
+fn open_gate(alloc: Global) -> Result<Arc<OpenGate>, ServeFault> {
+    match Arc::new(alloc, OpenGate) {
+        Ok(gate) => Ok(gate),
+        Err(_) => Err(ServeFault::Memory),
+    }
+}
 
 // Serves an editor on standard input and output with so many workers. The input is buffered, the output is written through.
 fn serve_with<R: Threads + Wait + Clone + Send + Drop + Input + Print + AllocGlobal + 'static>(
@@ -34,9 +43,7 @@ fn serve_with<R: Threads + Wait + Clone + Send + Drop + Input + Print + AllocGlo
     workers: u8,
 ) -> Result<Ended, ServeFault> {
     let alloc = rt.alloc();
-    let Ok(gate) = Arc::new(alloc, OpenGate) else {
-        return Err(ServeFault::Memory);
-    };
+    let gate = open_gate(alloc)?;
     let Ok(input) = BufReader::new(alloc, rt.reader()) else {
         return Err(ServeFault::Memory);
     };
@@ -72,15 +79,26 @@ fn serve_editor<
     Ok(serve_with(rt, config, workers)?)
 }
 
-// Writes a line for each fault in the files of the folder to standard output, and answers whether one is an error. With
-// no folder it is the current one.
-fn check_files<'d, R: Files + Print + Eprint + AllocGlobal>(
+// Writes a line for each fault in the files of a configuration to standard output, and answers whether one is an error. So
+// many workers do the work.
+fn check_with<R: Threads + Wait + Clone + Send + Drop + Print + AllocGlobal + 'static>(
     rt: &R,
-    dirs: &[&'d str],
-) -> Result<bool, Failure<'d>> {
-    let config = files_of(rt, dirs.first().copied().unwrap_or("."))?;
+    config: Config,
+    workers: u8,
+) -> Result<bool, ServeFault> {
+    let alloc = rt.alloc();
+    let gate = open_gate(alloc)?;
     let mut writer = ToWrite::new(io::writer(rt));
-    Ok(check(rt.alloc(), &mut writer, config)?)
+    check(rt, alloc, &mut writer, &gate, config, usize::from(workers))
+}
+
+// Checks the files of the folder. With no folder it is the current one.
+fn check_files<
+    'd,
+    R: Threads + Wait + Clone + Send + Drop + Files + Print + Eprint + AllocGlobal + 'static,
+>(rt: &R, dirs: &[&'d str], workers: u8) -> Result<bool, Failure<'d>> {
+    let config = files_of(rt, dirs.first().copied().unwrap_or("."))?;
+    Ok(check_with(rt, config, workers)?)
 }
 
 // Writes what is to be said of the command line: the help, or what is wrong with it.
@@ -118,7 +136,9 @@ fn main(rt: HostRuntime) -> ExitCode {
         Err(status) => return status,
     };
     match options(rt.alloc(), words.as_slice()) {
-        Ok(asked) if asked.check => status_of_check(&rt, check_files(&rt, asked.dirs.as_slice())),
+        Ok(asked) if asked.check => {
+            status_of_check(&rt, check_files(&rt, asked.dirs.as_slice(), asked.workers))
+        }
         Ok(asked) => status_of(&rt, serve_editor(&rt, asked.dirs.as_slice(), asked.workers)),
         Err(error) => explain(&rt, &error),
     }

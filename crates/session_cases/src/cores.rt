@@ -4,10 +4,12 @@ use crate::frames::push_body;
 use crate::settings::bytes_of;
 use case_notation::{Answer, Names, Trouble, field, file_of, first_word, number};
 use lsp_session::{
-    Config, Core, CoreEvent, CoreFault, CoreRun, Done, FileWork, Job, Piece, Reply, Verdict,
-    run_core,
+    Config, Core, CoreEvent, CoreFault, CoreRun, Done, FileWork, Job, OpenGate, Piece, Reply,
+    Verdict, run_core,
 };
 use std::alloc::{AllocError, Global};
+use std::sync::Wait;
+use std::thread::Threads;
 
 /// Writes the replies, each behind a blank.
 pub fn write_replies(names: &Names, line: &mut String, replies: &[Reply]) -> Answer<()> {
@@ -102,11 +104,27 @@ fn write_fault(line: &mut String, fault: CoreFault) -> Answer<()> {
     Ok(write!(line, " fault {code}")?)
 }
 
-fn advance(names: &Names, line: &mut String, core: &mut Core) -> Answer<()> {
-    match core.advance() {
+fn write_advance(
+    names: &Names,
+    line: &mut String,
+    answer: Result<Vec<Reply>, CoreFault>,
+) -> Answer<()> {
+    match answer {
         Ok(replies) => write_replies(names, line, replies.as_slice()),
         Err(fault) => write_fault(line, fault),
     }
+}
+
+// An advance whose analyses are made by threads, given their number.
+fn advance_in_shares<R: Threads + Wait>(
+    rt: &R,
+    names: &Names,
+    line: &mut String,
+    core: &mut Core,
+    workers: &str,
+) -> Answer<()> {
+    let answer = core.advance_in_shares(rt, workers.parse::<usize>()?, &OpenGate);
+    write_advance(names, line, answer)
 }
 
 fn next_job(line: &mut String, core: &mut Core) -> Answer<()> {
@@ -136,9 +154,18 @@ fn message(alloc: Global, line: &mut String, core: &mut Core, body: &str) -> Ans
     }
 }
 
-fn step(names: &Names, line: &mut String, core: &mut Core, step: &str) -> Answer<()> {
+fn step<R: Threads + Wait>(
+    rt: &R,
+    names: &Names,
+    line: &mut String,
+    core: &mut Core,
+    step: &str,
+) -> Answer<()> {
+    if let Some(workers) = step.strip_prefix("advance in shares ") {
+        return advance_in_shares(rt, names, line, core, workers);
+    }
     match step {
-        "advance" => return advance(names, line, core),
+        "advance" => return write_advance(names, line, core.advance()),
         "job" => return next_job(line, core),
         _ => {}
     }
@@ -149,12 +176,18 @@ fn step(names: &Names, line: &mut String, core: &mut Core, step: &str) -> Answer
 }
 
 // Steps, and behind each whether a message waits.
-fn write_steps(names: &Names, line: &mut String, mut core: Core, fields: &[&str]) -> Answer<()> {
+fn write_steps<R: Threads + Wait>(
+    rt: &R,
+    names: &Names,
+    line: &mut String,
+    mut core: Core,
+    fields: &[&str],
+) -> Answer<()> {
     let waits = core.waits();
     write!(line, "{waits}")?;
     for field in fields {
         if let Some(what) = field.strip_prefix("> ") {
-            step(names, line, &mut core, what)?;
+            step(rt, names, line, &mut core, what)?;
         }
         let waits = core.waits();
         write!(line, " {waits}")?;
@@ -162,30 +195,42 @@ fn write_steps(names: &Names, line: &mut String, mut core: Core, fields: &[&str]
     Ok(())
 }
 
-fn answer_steps(
+fn answer_steps<R: Threads + Wait>(
+    rt: &R,
     names: &Names,
     line: &mut String,
     core: Result<Core, CoreFault>,
     fields: &[&str],
 ) -> Answer<()> {
     match core {
-        Ok(core) => write_steps(names, line, core, fields),
+        Ok(core) => write_steps(rt, names, line, core, fields),
         Err(fault) => write_fault(line, fault),
     }
 }
 
-/// Calls on a core, one after the other: what each answers, and whether a message waits at first and after each.
-pub fn answer_core(names: &Names, line: &mut String, fields: &[&str]) -> Answer<()> {
+/// Calls on a core, one after the other: what each answers, and whether a message waits at first and after each. `advance in shares 3`
+/// is an advance whose analyses three threads make.
+pub fn answer_core<R: Threads + Wait>(
+    rt: &R,
+    names: &Names,
+    line: &mut String,
+    fields: &[&str],
+) -> Answer<()> {
     let core = Core::new(names.alloc(), config_of(names.alloc(), fields)?);
-    answer_steps(names, line, core, fields)
+    answer_steps(rt, names, line, core, fields)
 }
 
 /// The same, where the stamps begin behind that of the first field.
-pub fn answer_counting(names: &Names, line: &mut String, fields: &[&str]) -> Answer<()> {
+pub fn answer_counting<R: Threads + Wait>(
+    rt: &R,
+    names: &Names,
+    line: &mut String,
+    fields: &[&str],
+) -> Answer<()> {
     let stamp = number(field(fields, 0))?;
     let Some((_, rest)) = fields.split_first() else {
         return Ok(());
     };
     let core = Core::counting_from(names.alloc(), config_of(names.alloc(), rest)?, stamp);
-    answer_steps(names, line, core, rest)
+    answer_steps(rt, names, line, core, rest)
 }

@@ -1,10 +1,10 @@
-// Sessions whose workers a gate holds back until something else has happened.
+// Sessions and checks whose workers a gate holds back until something else has happened.
 use crate::configs::config_of;
 use crate::settings::bytes_of;
-use crate::streams::{write_ended, write_sent};
+use crate::streams::{write_ended, write_found, write_sent};
 use case_notation::{Answer, field};
 use lsp_frame::{ByteSource, Fail, FrameReader, MemSink, MemSource};
-use lsp_session::{Config, Gate, serve};
+use lsp_session::{Config, Gate, check, serve};
 use std::alloc::{AllocError, Global};
 use std::marker::Send;
 use std::sync::atomic::{AtomicU64, Ordering};
@@ -35,6 +35,17 @@ struct Meeting {
     first: AtomicU64,
     second: AtomicU64,
     misses: AtomicU64,
+}
+
+impl Meeting {
+    // A gate that nobody has come to.
+    fn new() -> Meeting {
+        Meeting {
+            first: AtomicU64::new(0),
+            second: AtomicU64::new(0),
+            misses: AtomicU64::new(0),
+        }
+    }
 }
 
 impl Gate for Meeting {
@@ -129,6 +140,14 @@ fn write_passed(
     write!(line, "misses {misses}, holders {holders}, {answer}")
 }
 
+// Writes an answer, and how often the two files came to a gate where their workers met.
+fn write_met(line: &mut String, answer: &str, gate: &Arc<Meeting>) -> Result<(), AllocError> {
+    let first = gate.first.load(Ordering::SeqCst);
+    let second = gate.second.load(Ordering::SeqCst);
+    write!(line, "came {first} and {second}, ")?;
+    write_passed(line, answer, &gate.misses, Arc::strong_count(gate))
+}
+
 /// The bytes of a stream and the files a.proto and b.proto: what comes of a session with two workers, which wait for each other
 /// before each piece of work.
 pub fn meet<R: Threads + Wait + Clone + Send + Drop + 'static>(
@@ -137,17 +156,39 @@ pub fn meet<R: Threads + Wait + Clone + Send + Drop + 'static>(
     line: &mut String,
     fields: &[&str],
 ) -> Answer<()> {
-    let meeting = Meeting {
-        first: AtomicU64::new(0),
-        second: AtomicU64::new(0),
-        misses: AtomicU64::new(0),
-    };
-    let gate = Arc::new(alloc, meeting)?;
+    let gate = Arc::new(alloc, Meeting::new())?;
     let source = MemSource::new(bytes_of(alloc, field(fields, 0))?, ROOM, 0, false);
     let config = config_of(alloc, fields.get(1..).unwrap_or(&[]))?;
     let answer = serve_behind(rt, alloc, source, &gate, config, 2)?;
-    let holders = Arc::strong_count(&gate);
-    Ok(write_passed(line, answer.as_str(), &gate.misses, holders)?)
+    Ok(write_met(line, answer.as_str(), &gate)?)
+}
+
+// Checks files behind a gate: whether an error is found, and the lines that went out.
+fn check_behind<R: Threads + Wait + Clone + Send + Drop + 'static, G: Gate + 'static>(
+    rt: &R,
+    alloc: Global,
+    gate: &Arc<G>,
+    config: Config,
+    workers: usize,
+) -> Answer<String> {
+    let mut sink = MemSink::new(alloc, ROOM, ROOM, 0, false)?;
+    let found = check(rt, alloc, &mut sink, gate, config, workers);
+    let mut line = String::new(alloc);
+    write_found(&mut line, found)?;
+    write_sent(&mut line, &sink)?;
+    Ok(line)
+}
+
+/// The files a.proto and b.proto: what comes of a check with two workers, which wait for each other before each piece of work.
+pub fn meet_in_check<R: Threads + Wait + Clone + Send + Drop + 'static>(
+    rt: &R,
+    alloc: Global,
+    line: &mut String,
+    fields: &[&str],
+) -> Answer<()> {
+    let gate = Arc::new(alloc, Meeting::new())?;
+    let answer = check_behind(rt, alloc, &gate, config_of(alloc, fields)?, 2)?;
+    Ok(write_met(line, answer.as_str(), &gate)?)
 }
 
 /// The first bytes of a stream and the others: what comes of a session with one worker, whose first piece of work begins when the

@@ -31,13 +31,14 @@ fn answer<R: Threads + Wait + Clone + Send + Drop + 'static>(
         "serve" => streams::serve_stream(rt, names.alloc(), line, fields),
         "meet" => gates::meet(rt, names.alloc(), line, fields),
         "hold" => gates::hold(rt, names.alloc(), line, fields),
-        "check" => streams::check_files(names.alloc(), line, fields),
+        "meet in check" => gates::meet_in_check(rt, names.alloc(), line, fields),
+        "check" => streams::check_files(rt, names.alloc(), line, fields),
         "config" => configs::answer(names.alloc(), line, fields),
         "session" => sessions::answer(names, line, fields),
         "codes" => sessions::answer_codes(line),
         "run" => cores::answer_run(names, line, fields),
-        "core" => cores::answer_core(names, line, fields),
-        "core from" => cores::answer_counting(names, line, fields),
+        "core" => cores::answer_core(rt, names, line, fields),
+        "core from" => cores::answer_counting(rt, names, line, fields),
         _ => frames::answer(names, line, call, fields),
     }
 }

@@ -8,7 +8,11 @@ use std::alloc::{AllocError, Global};
 
 /// The numbers of the faults of a core and of a server.
 pub fn answer_codes(line: &mut String) -> Answer<()> {
-    for fault in [CoreFault::Memory, CoreFault::Exhausted] {
+    for fault in [
+        CoreFault::Memory,
+        CoreFault::ThreadRefused,
+        CoreFault::Exhausted,
+    ] {
         let code = fault.code();
         write!(line, "{code} ")?;
     }

@@ -1,3 +1,8 @@
 mod Ascending
 pub mod Steps
 pub mod Changed
+pub mod Balance
+pub mod Crossing
+pub mod Joined
+pub mod Kept
+pub mod Promised

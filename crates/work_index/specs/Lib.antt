@@ -1,3 +1,5 @@
 pub mod Workspace
 pub mod Pieces
 pub mod Changes
+pub mod Fault
+pub mod Shares

@@ -4,10 +4,12 @@ ghost use Rattle.std.specs.List.{enumerate_from};
 ghost use Rattle.file_facts.specs.Facts.{facts_of};
 ghost use Rattle.piece_collector.specs.Board.{Ascends};
 ghost use Rattle.work_index.specs.Pieces.{workspace_of};
+ghost use Rattle.work_index.specs.Shares.{AreNumbersIn};
 ghost use Rattle.work_index.specs.Workspace.{Workspace, all_facts, analysis, resolution_of, merged, diagnostics_of};
 
 use crate::analysis::{Analysis, Resolutions};
 use crate::file_work::{FileWork, facts_in, tree_in};
+use crate::gate::{Gate, OpenGate};
 use crate::table_of::table_of;
 use file_facts::{Diag, Name, in_order};
 use piece_collector::Piece;
@@ -16,7 +18,7 @@ use sqlite_items::Items;
 use std::alloc::{AllocError, Global};
 
 // The paths of pieces.
-fn paths_of(alloc: Global, pieces: &[Piece<FileWork>]) -> Result<Items<Name>, AllocError>
+pub fn paths_of(alloc: Global, pieces: &[Piece<FileWork>]) -> Result<Items<Name>, AllocError>
     ensures { IfOk result (λ paths. paths ≡ map (λ p. p.path) pieces.now) }
 {
     let mut paths = Items::new(alloc);
@@ -72,21 +74,27 @@ fn push_linked(
     resolutions.links.push(found)
 }
 
-// Adds the same of all files.
-fn push_all_linked(
+// What is known, beside their facts, of some pieces, which are files of the table. The first has this number there, and the
+// others those that follow. Enters the gate before each file.
+pub fn link_files<G: Gate>(
     alloc: Global,
     table: &Table,
+    first: usize,
     pieces: &[Piece<FileWork>],
-    resolutions: &mut Resolutions,
-) -> Result<(), AllocError>
-    requires { table.now ≡ all_facts (workspace_of pieces.now) }
-    ensures links { OnOk result (resolutions.new.links ≡ resolutions.old.links ++ map (resolution_of (workspace_of pieces.now)) (enumerate_from 0 (workspace_of pieces.now))) }
-    ensures diagnostics { OnOk result (resolutions.new.diagnostics ≡ resolutions.old.diagnostics ++ map (diagnostics_of (workspace_of pieces.now)) (enumerate_from 0 (workspace_of pieces.now))) }
+    gate: &G,
+) -> Result<Resolutions, AllocError>
+    requires { AreNumbersIn (length table.now) first (length pieces.now) }
+    ensures links { (w : Workspace) → table.now ≡ all_facts w → IfOk result (λ found. found.links ≡ map (resolution_of w) (enumerate_from first (workspace_of pieces.now))) }
+    ensures diagnostics { (w : Workspace) → table.now ≡ all_facts w → IfOk result (λ found. found.diagnostics ≡ map (diagnostics_of w) (enumerate_from first (workspace_of pieces.now))) }
 {
-    for (file, piece) in pieces.iter().enumerate() {
-        push_linked(alloc, table, file, piece, resolutions)?;
+    let links = Items::new(alloc);
+    let diagnostics = Items::new(alloc);
+    let mut resolutions = Resolutions { links, diagnostics };
+    for (place, piece) in pieces.iter().enumerate() {
+        gate.enter(piece.path(), piece.stamp());
+        push_linked(alloc, table, first + place, piece, &mut resolutions)?;
     }
-    Ok(())
+    Ok(resolutions)
 }
 
 /// The analysis of the workspace of some pieces, which are in the order of their paths, no path twice: it is that of their
@@ -97,10 +105,7 @@ pub fn analyse_here(alloc: Global, pieces: &[Piece<FileWork>]) -> Result<Analysi
 {
     let table = table_of(alloc, pieces)?;
     let paths = paths_of(alloc, pieces)?;
-    let links = Items::new(alloc);
-    let diagnostics = Items::new(alloc);
-    let mut resolutions = Resolutions { links, diagnostics };
-    push_all_linked(alloc, &table, pieces, &mut resolutions)?;
+    let resolutions = link_files(alloc, &table, 0, pieces, &OpenGate)?;
     Ok(Analysis {
         table,
         paths,

@@ -6,13 +6,12 @@
 #![tactic(auto)]
 
 mod fault;
-mod gate;
 mod pool;
 mod worker;
 
 pub use fault::PoolFault;
-pub use gate::{Gate, OpenGate};
 pub use pool::Pool;
+pub use work_index::{Gate, OpenGate};
 pub use worker::worker_loop;
 
 #[cfg(test)]

@@ -3,7 +3,6 @@ ghost use Rattle.std.specs.Prelude.{◌≡◌, ◌+◌, ◌<◌, ◌↔◌, IsTr
 ghost use Rattle.worker_pool.specs.Pool.{workers_for};
 
 use crate::fault::PoolFault;
-use crate::gate::Gate;
 use crate::worker::worker_loop;
 use crossbeam_channel::{Receiver, Sender};
 use piece_collector::Job;
@@ -12,7 +11,7 @@ use std::marker::{Model, Send};
 use std::sync::{Arc, Wait};
 use std::thread;
 use std::thread::{JoinHandle, Threads};
-use work_index::Done;
+use work_index::{Done, Gate};
 
 // The places of each channel. At most this many jobs are out, so that each send finds a free place.
 const PLACES: usize = 256;
@@ -49,7 +48,7 @@ impl Pool {
         rt: &R,
         alloc: Global,
         workers: usize,
-        gate: Arc<G>,
+        gate: &Arc<G>,
     ) -> Result<Pool, PoolFault>
         ensures { IfOk result (λ pool. pool ≡ record { workers = workers_for workers; out = 0 }) }
     {
@@ -62,7 +61,7 @@ impl Pool {
             out: 0,
         };
         for _worker in 0..workers.clamp(1, 64) {
-            if let Err(fault) = pool.add_worker(rt, alloc, &their_jobs, &their_results, &gate) {
+            if let Err(fault) = pool.add_worker(rt, alloc, &their_jobs, &their_results, gate) {
                 pool.close(rt);
                 return Err(fault);
             }

@@ -1,12 +1,11 @@
 // What a worker does.
 ghost use Rattle.worker_pool.specs.Outcome.{IsOutcomeOf};
 
-use crate::gate::Gate;
 use crossbeam_channel::{Receiver, Sender};
 use piece_collector::{Job, Piece};
 use std::alloc::Global;
 use std::sync::Wait;
-use work_index::{Done, FileWork};
+use work_index::{Done, FileWork, Gate};
 
 // Does a job: enters the gate with its path and stamp, and works on its text. Gives the piece, or where memory is refused
 // the path and the stamp of the job.

@@ -1,4 +1,3 @@
-use Rattle.std.proofs.Common.{◌≡◌}
 use Rattle.lsp_frame.specs.Counts.{NoneFell, NoError}
 use Rattle.work_index.specs.Workspace.{analysis}
 use Rattle.lsp_check.specs.Listing.{listing}
@@ -14,5 +13,5 @@ invariant-loop-number g l =
     record {
       none_fell : NoneFell (counts l.initial.writer) (counts l.writer);
       no_error : NoError (counts l.initial.writer) (counts l.writer);
-      sent : Sent (written l.initial.writer) (written l.writer) (listing l.checked) (left_from (analysis l.checked) l.number l.pieces);
+      sent : Sent (written l.initial.writer) (written l.writer) (listing l.files) (left_from (analysis l.files) l.number l.files);
     }

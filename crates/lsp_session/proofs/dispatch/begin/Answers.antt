@@ -3,7 +3,7 @@ use Rattle.lsp_session.proofs.CoreLemmas.{if_ok, awaits-message, progresses}
 use Rattle.lsp_session.proofs.dispatch.begin.Goals as goal
 
 pub returns-in-Ok-clause-progress : goal.returns-in-Ok-clause-progress
-returns-in-Ok-clause-progress c = if_ok c.advance.result c.advance.ensures.advances (λ replies advances config bodies knows.
+returns-in-Ok-clause-progress g c = if_ok c.advance.result c.advance.ensures.advances (λ replies advances config bodies knows.
     let old = core_state c.args.core.now in
     let mid = core_state c.message.new.self in
     let body = c.args.body.now in

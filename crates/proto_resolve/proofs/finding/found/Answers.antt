@@ -12,6 +12,3 @@ pub returns-in-Some-clause-within : goal.returns-in-Some-clause-within
 returns-in-Some-clause-within g c =
     let e : first_declared c.args.view.now.file c.args.view.now.files (all_named (g.I.Index.files c.args.index.now) c.args.name.now) ≡ Some c.in-Some.decl = cc (c.in-Some.ensures, c.named.ensures, c.first_declared.ensures, c.in-Some.is) in
     first_within (g.I.Index.files c.args.index.now) c.args.view.now.file c.args.view.now.files c.args.name.now c.in-Some.decl e
-
-pub returns-in-None-clause-within : goal.returns-in-None-clause-within
-returns-in-None-clause-within g c = c.package_found.ensures.within (g.I.Index.files c.args.index.now)

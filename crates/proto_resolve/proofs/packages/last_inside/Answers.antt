@@ -11,7 +11,7 @@ loop-left-init c =
     let parted = IsPartitionedBy-ltb (λ n. n) c.args.lengths.now past c.requires.ascending in
     let point = IsPartitionPoint-from_clause (λ n. nat_lt n past) c.args.lengths.now c.partition_point-left.result c.partition_point-left.ensures.partitioned parted (λ a r q k. search rules) in (
       c.partition_point-left.ensures.bound,
-      none_behind c.args.text.now c.args.scope.now c.args.component.now c.args.lengths.now past c.partition_point-left.result
+      none_behind c.args.«package».now c.args.scope.now c.args.component.now c.args.lengths.now past c.partition_point-left.result
           (λ l from le. c.common_len.ensures.common l (omega (arith, from)) le) c.requires.within point,
     )
 

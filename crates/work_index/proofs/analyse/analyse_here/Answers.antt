@@ -1,22 +1,22 @@
-use Rattle.std.proofs.Common.{◌≡◌}
+use Rattle.std.proofs.Common.{rules}
 use Rattle.work_index.specs.Pieces.{workspace_of}
 use Rattle.work_index.specs.Workspace.{resolution_of, diagnostics_of}
-use Rattle.work_index.proofs.Steps.{made_from, as_long, paths_as_long, paths_are, is_analysis}
+use Rattle.work_index.proofs.Steps.{all_numbered, as_long, paths_as_long, paths_are, is_analysis}
 use Rattle.work_index.proofs.analyse.analyse_here.Goals as goal
+
+pub link_files-requires-after_bounds : goal.link_files-requires-after_bounds
+link_files-requires-after_bounds c κs = all_numbered c.args.pieces.now _ c.in_ok-table.ensures (search rules)
 
 pub invariant_of-result : goal.invariant_of-result
 invariant_of-result c =
     let ts = c.args.pieces.now in
     let w = workspace_of ts in
     let all = c.in_ok-table.ensures in
-    let linked : c.push_all_linked.new.resolutions.links ≡ made_from (resolution_of w) 0 ts = rw c.new-links.ensures at c.in_ok-push_all_linked.ensures.links in
-    let wrong : c.push_all_linked.new.resolutions.diagnostics ≡ made_from (diagnostics_of w) 0 ts = rw c.new-diagnostics.ensures at c.in_ok-push_all_linked.ensures.diagnostics in
-    (paths_as_long ts _ _ c.in_ok-paths.ensures all, as_long (resolution_of w) ts _ _ linked all, as_long (diagnostics_of w) ts _ _ wrong all, paths_are ts _ _ c.in_ok-paths.ensures all)
+    (paths_as_long ts _ _ c.in_ok-paths.ensures all, as_long (resolution_of w) ts _ _ (c.in_ok-resolutions.ensures.links w all) all, as_long (diagnostics_of w) ts _ _ (c.in_ok-resolutions.ensures.diagnostics w all) all, paths_are ts _ _ c.in_ok-paths.ensures all)
 
 pub returns : goal.returns
 returns c =
     let ts = c.args.pieces.now in
     let w = workspace_of ts in
-    let linked : c.push_all_linked.new.resolutions.links ≡ made_from (resolution_of w) 0 ts = rw c.new-links.ensures at c.in_ok-push_all_linked.ensures.links in
-    let wrong : c.push_all_linked.new.resolutions.diagnostics ≡ made_from (diagnostics_of w) 0 ts = rw c.new-diagnostics.ensures at c.in_ok-push_all_linked.ensures.diagnostics in
-    is_analysis ts _ _ _ _ c.in_ok-table.ensures c.in_ok-paths.ensures linked wrong
+    let all = c.in_ok-table.ensures in
+    is_analysis ts _ _ _ _ all c.in_ok-paths.ensures (c.in_ok-resolutions.ensures.links w all) (c.in_ok-resolutions.ensures.diagnostics w all)

@@ -3,7 +3,7 @@ use Rattle.serde_json.specs.Written.{compact_text}
 use Rattle.lsp_rpc.specs.Location.{locations_or_null}
 use Rattle.lsp_rpc.specs.Message.{id_view}
 use Rattle.lsp_rpc.specs.Reply.{result_reply}
-use Rattle.lsp_workspace.specs.Files.{Files, workspace}
+use Rattle.lsp_workspace.specs.Files.{Files}
 use Rattle.lsp_workspace.specs.View.{files_view}
 use Rattle.work_index.specs.Workspace.{Workspace}
 use Rattle.workspace_uri.specs.View.{root_text}
@@ -12,10 +12,9 @@ use Rattle.lsp_session.specs.AnswerViews.{place_view}
 use Rattle.lsp_session.proofs.KnownLemmas.{of-same}
 use Rattle.lsp_session.proofs.session.Session.define_at.Goals as goal
 
-pub returns-clause-reply : goal.returns-clause-reply
-returns-clause-reply c =
+pub returns : goal.returns
+returns c =
     let text : List ℕ → Files → Workspace → List ℕ = λ root files texts. compact_text (result_reply (id_view c.args.id.now) (locations_or_null (definition_at root files texts (place_view c.args.at.now)))) in
     let body : c.in_ok-body.body.items ≡ text (root_text c.known.result.root.now) (files_view c.known.result.files.now.entries) c.known.result.snapshot.now = c.in_ok-body.ensures in
     let known = of-same text c.known.ensures.root c.known.ensures.files (c.known.ensures.snapshot ∙ c.snapshot-snapshot.ensures) in
-    let fresh = ap (λ files. text (root_text c.args.self.now.root) files (workspace files)) c.refresh.ensures.files in
-    ap (λ b. b ∷ []) (c.new.ensures ∙ body ∙ known ∙ fresh)
+    ap (λ b. b ∷ []) (c.new.ensures ∙ body ∙ known)

@@ -1,9 +1,10 @@
 use Rattle.std.proofs.Common.{◌≡◌, ◌∙◌, sym, length}
 use Rattle.std.proofs.lemmas.List.{length-map}
 use Rattle.file_facts.specs.Text.{joined}
+use Rattle.std.specs.List.{list_any}
+use Rattle.proto_resolve.specs.Files.{has_package}
 use Rattle.proto_resolve.specs.Holders.{is_held}
 use Rattle.proto_resolve.specs.Names.{first_text, settles_at, texts_of}
-use Rattle.proto_resolve.specs.Views.{have}
 use Rattle.proto_resolve.proofs.Ahead.{unsettled, unsettled_whole}
 use Rattle.proto_resolve.proofs.NextScopes.{next_two, next_weaker}
 use Rattle.proto_resolve.proofs.resolver.Resolver.next_scope.Goals as goal
@@ -20,8 +21,7 @@ pub returns : goal.returns
 returns g c =
     rw c.earlier.ensures
     (next_two c.args.site.now.scopes c.args.number (λ s. is_held (g.I.Index.files c.args.self.now.index.now) (joined s (first_text c.args.site.now)))
-    (λ s. have (joined s (first_text c.args.site.now)) c.args.self.now.view.now.packages)
+    (λ s. list_any (has_package (g.I.Index.files c.args.self.now.index.now) (joined s (first_text c.args.site.now))) c.args.self.now.view.now.files)
     (settles_at (g.I.Index.files c.args.self.now.index.now) c.args.self.now.view.now.file c.args.self.now.view.now.files c.args.site.now)
-    (λ s none none'. unsettled_whole (g.I.Index.files c.args.self.now.index.now) c.args.self.now.view.now.file c.args.self.now.view.now.files c.args.site.now s none
-    (sym (c.args.self.now.sees.packages (joined s (first_text c.args.site.now))) ∙ none'))
+    (λ s none none'. unsettled_whole (g.I.Index.files c.args.self.now.index.now) c.args.self.now.view.now.file c.args.self.now.view.now.files c.args.site.now s none none')
     c.next_held-2.result c.next_package.result (rw (c.place-scopes.ensures, c.first_text-first.ensures) at c.next_held-2.ensures) (rw (c.place-scopes.ensures, c.first_text-first.ensures) at c.next_package.ensures))

@@ -1,23 +1,24 @@
 use Rattle.std.proofs.Common.{◌≡◌, length, arith}
 use Rattle.std.specs.Prelude.{string_bytes}
+use Rattle.std.specs.List.{list_any}
 use Rattle.file_facts.specs.Text.{joined}
-use Rattle.proto_resolve.specs.Views.{have}
+use Rattle.proto_resolve.specs.Files.{has_package}
 use Rattle.proto_resolve.proofs.NextScopes.{none_next, some_next}
 use Rattle.proto_resolve.proofs.ScopeChains.{as_many}
 use Rattle.proto_resolve.proofs.scope_chain.ScopeChain.next_package.Goals as goal
 
 pub returns-in-None : goal.returns-in-None
-returns-in-None c =
+returns-in-None g c =
     let many = as_many (string_bytes c.self.inside.text) c.self.inside.lengths in
     let long : length c.args.self.now ≡ length c.self.inside.lengths = rw (← c.self.view_is) many in
     let none = rw (c.len.ensures, c.as_slice.ensures, c.as_bytes.ensures.value, c.as_str.ensures.value) at c.in-None.ensures in
     rw (← c.self.view_is)
-    (none_next (λ s. have (joined s c.args.name.now) c.args.packages.now) (string_bytes c.self.inside.text) c.self.inside.lengths c.args.number (omega (arith, c.requires, long)) none)
+    (none_next (λ s. list_any (has_package (g.I.Index.files c.args.index.now) (joined s c.args.name.now)) c.args.view.now.files) (string_bytes c.self.inside.text) c.self.inside.lengths c.args.number (omega (arith, c.requires.within, long)) none)
 
 pub returns-in-Some : goal.returns-in-Some
-returns-in-Some c =
+returns-in-Some g c =
     let many = as_many (string_bytes c.self.inside.text) c.self.inside.lengths in
     let long : length c.args.self.now ≡ length c.self.inside.lengths = rw (← c.self.view_is) many in
     let last = rw (c.len.ensures, c.as_slice.ensures, c.as_bytes.ensures.value, c.as_str.ensures.value) at c.in-Some.ensures in
     rw (← c.self.view_is, c.len-in-Some.ensures)
-    (some_next (λ s. have (joined s c.args.name.now) c.args.packages.now) (string_bytes c.self.inside.text) c.self.inside.lengths c.args.number (omega (arith, c.requires, long)) c.in-Some.place last)
+    (some_next (λ s. list_any (has_package (g.I.Index.files c.args.index.now) (joined s c.args.name.now)) c.args.view.now.files) (string_bytes c.self.inside.text) c.self.inside.lengths c.args.number (omega (arith, c.requires.within, long)) c.in-Some.place last)

@@ -19,4 +19,6 @@ invariant_of-result c =
       still_by_last (name_at c.args.files.items) (name_at c.args.files.items) (λ n. list_any (λ r. bytes_eq (name_at c.args.files.items r) n && is_holder (let d = decl_at c.args.files.items r in d.kind)) (all_decls c.args.files.items)) (is_held c.args.files.items) c.in_ok-holders.holders
           (λ r. refl) (λ n. sym (any_kept (λ r. bytes_eq (name_at c.args.files.items r) n) (λ r. is_holder (let d = decl_at c.args.files.items r in d.kind)) (all_decls c.args.files.items))) (rw (holder_files_are, holder_decls_are) at c.in_ok-holders.ensures),
       c.requires,
+      rw c.as_slice-7.ensures.value at c.in_ok-packaged.ensures,
+      rw c.as_slice-8.ensures.value at c.longest_of-longest.ensures,
     )

@@ -3,7 +3,7 @@ use Rattle.import_graph.specs.declared.paths.NamedFacts.{NamedFacts}
 use Rattle.proto_resolve.specs.Holders.{is_held}
 use Rattle.proto_resolve.specs.Tables.{name_at}
 use Rattle.proto_resolve.proofs.ByLast.{still_by_last}
-use Rattle.proto_resolve.proofs.Outlines.{asking, telling, keeps_asking, keeps_telling, same_graph, same_decls, same_held, same_name, same_named, still_in_order}
+use Rattle.proto_resolve.proofs.Outlines.{asking, telling, keeps_asking, keeps_telling, same_graph, same_decls, same_held, same_name, same_named, still_in_order, still_packaged}
 use Rattle.proto_resolve.proofs.table.Table.set_facts.Goals as goal
 
 pub invariant_of-self : goal.invariant_of-self
@@ -22,4 +22,6 @@ invariant_of-self c =
       λ q. c.self.invariant.2 q ∙ same_named files new tells q,
       still_by_last (name_at files) (name_at new) (is_held files) (is_held new) c.self.inside.holders (same_name files new tells) (same_held files new tells) c.self.invariant.3,
       still_in_order files f file c.args.facts there is c.self.invariant.4,
+      still_packaged files new tells c.self.inside.packaged.items c.self.invariant.5,
+      c.self.invariant.6,
     )

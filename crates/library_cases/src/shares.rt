@@ -1,0 +1,188 @@
+// Analyses that several threads make.
+use crate::analyses::{pieces_at, write_by_path, write_decls, write_files};
+use crate::fact_lists::write_facts;
+use crate::links::write_links;
+use crate::places::write_diagnostics;
+use crate::visited::Visited;
+use case_notation::{Answer, Trouble, field, push_shown};
+use piece_collector::{Lent, Piece};
+use std::alloc::{AllocError, Global};
+use std::sync::Wait;
+use std::thread::Threads;
+use work_index::{Analysis, FileWork, analyse_in_shares};
+
+// How many threads each analysis is made by in turn. 0 count as 1, and more than 64 as 64.
+const WORKERS: [usize; 8] = [0, 1, 2, 3, 4, 7, 64, 65];
+
+// What comes of an analysis: the pieces that come back, what is known of them, and the gate that the threads passed.
+#[derive(Drop)]
+struct Shared {
+    lent: Lent<FileWork>,
+    found: Analysis,
+    gate: Visited,
+}
+
+// Has so many threads analyse some files. Where the files meet, each waits for all others at the gate.
+fn analysed<R: Threads + Wait>(
+    rt: &R,
+    alloc: Global,
+    files: &[&str],
+    workers: usize,
+    meet: bool,
+) -> Answer<Shared> {
+    let lent = pieces_at(alloc, files)?;
+    let gate = Visited::by(alloc, lent.pieces(), meet)?;
+    match analyse_in_shares(rt, alloc, lent, workers, &gate) {
+        Ok((lent, found)) => Ok(Shared { lent, found, gate }),
+        Err(fault) => Err(Trouble::Fault(fault.code())),
+    }
+}
+
+// A piece: its path, stamp and text, and what its text says by itself.
+fn write_piece(line: &mut String, piece: &Piece<FileWork>) -> Result<(), AllocError> {
+    let path = piece.path();
+    let stamp = piece.stamp();
+    write!(line, "; {path}@{stamp} ")?;
+    push_shown(line, piece.text())?;
+    write_facts(line, &piece.out().facts)
+}
+
+// What is known of a file of an analysis.
+fn write_known(
+    line: &mut String,
+    found: &Analysis,
+    file: usize,
+    text: &str,
+) -> Result<(), AllocError> {
+    if file >= found.files().len() {
+        return line.push_str(" unknown");
+    }
+    write_facts(line, found.facts(file))?;
+    write_links(line, text, found.links(file))?;
+    write_diagnostics(line, text, found.diagnostics(file))
+}
+
+// All that an analysis says, and the pieces.
+fn everything(
+    alloc: Global,
+    found: &Analysis,
+    pieces: &[Piece<FileWork>],
+) -> Result<String, AllocError> {
+    let mut line = String::new(alloc);
+    write_files(&mut line, found)?;
+    write_decls(&mut line, found.decls())?;
+    for (file, piece) in pieces.iter().enumerate() {
+        write_piece(&mut line, piece)?;
+        write_known(&mut line, found, file, piece.text())?;
+    }
+    Ok(line)
+}
+
+// How often each file came to a gate where each came once.
+fn once_each(alloc: Global, pieces: &[Piece<FileWork>]) -> Result<String, AllocError> {
+    let mut line = String::new(alloc);
+    for piece in pieces {
+        let path = piece.path();
+        write!(line, " {path} 1")?;
+    }
+    Ok(line)
+}
+
+// Writes where an analysis by so many threads says another thing than this one, or where a file didn't come to the gate once.
+fn note<R: Threads + Wait>(
+    rt: &R,
+    alloc: Global,
+    line: &mut String,
+    files: &[&str],
+    whole: &str,
+    workers: usize,
+) -> Answer<()> {
+    let shared = analysed(rt, alloc, files, workers, false)?;
+    let other = everything(alloc, &shared.found, shared.lent.pieces())?;
+    if other.as_str() != whole {
+        write!(line, "; but by {workers} threads:{other}")?;
+    }
+    let mut visits = String::new(alloc);
+    shared.gate.write(&mut visits)?;
+    if visits.as_str() != once_each(alloc, shared.lent.pieces())?.as_str() {
+        write!(line, "; but with {workers} threads there came{visits}")?;
+    }
+    Ok(())
+}
+
+/// Writes where an analysis of these files by threads says another thing than this one, which was made by none, with each number of
+/// threads.
+pub fn note_differences<R: Threads + Wait>(
+    rt: &R,
+    alloc: Global,
+    line: &mut String,
+    files: &[&str],
+    found: &Analysis,
+) -> Answer<()> {
+    let pieces = pieces_at(alloc, files)?;
+    let whole = everything(alloc, found, pieces.pieces())?;
+    for workers in WORKERS {
+        note(rt, alloc, line, files, whole.as_str(), workers)?;
+    }
+    Ok(())
+}
+
+// The pieces that came back, with their stamps; how often each file came to the gate; and what is wrong in each.
+fn shown(alloc: Global, shared: &Shared) -> Result<String, AllocError> {
+    let mut line = String::new(alloc);
+    let count = shared.lent.pieces().len();
+    write!(line, "{count} pieces:")?;
+    for piece in shared.lent.pieces() {
+        let path = piece.path();
+        let stamp = piece.stamp();
+        write!(line, " {path}@{stamp}")?;
+    }
+    line.push_str("; came:")?;
+    shared.gate.write(&mut line)?;
+    let count = shared.found.files().len();
+    write!(line, "; {count} files: ")?;
+    write_by_path(&mut line, &shared.found, shared.lent.pieces())?;
+    Ok(line)
+}
+
+fn answer_with<R: Threads + Wait>(
+    rt: &R,
+    alloc: Global,
+    files: &[&str],
+    workers: usize,
+    meet: bool,
+) -> Answer<String> {
+    let shared = analysed(rt, alloc, files, workers, meet)?;
+    Ok(shown(alloc, &shared)?)
+}
+
+/// Numbers of threads, and files: what comes of an analysis by so many threads. One answer stands for all numbers; one that differs
+/// is shown too.
+pub fn answer<R: Threads + Wait>(
+    rt: &R,
+    alloc: Global,
+    line: &mut String,
+    fields: &[&str],
+) -> Answer<()> {
+    let files = fields.get(1..).unwrap_or(&[]);
+    for number in field(fields, 0).split(' ') {
+        let answer = answer_with(rt, alloc, files, number.parse::<usize>()?, false)?;
+        if line.is_empty() {
+            line.push_str(answer.as_str())?;
+        } else if line.as_str() != answer.as_str() {
+            write!(line, "; but by {number} threads: {answer}")?;
+        }
+    }
+    Ok(())
+}
+
+/// Files: what comes of an analysis by as many threads, which wait for each other before each file.
+pub fn meet<R: Threads + Wait>(
+    rt: &R,
+    alloc: Global,
+    line: &mut String,
+    files: &[&str],
+) -> Answer<()> {
+    let answer = answer_with(rt, alloc, files, files.len(), true)?;
+    Ok(line.push_str(answer.as_str())?)
+}

@@ -1,0 +1,192 @@
+// The work on the files of a configuration, and their analysis, by workers.
+ghost use Rattle.std.specs.Prelude.{◌≡◌, ◌+◌, ◌<◌, ◌∷◌, ℕ, List, true, IsTrue, IfOk, IfErr, OnOk};
+ghost use Rattle.piece_collector.specs.Board.{IsAfter, IsFull};
+ghost use Rattle.piece_collector.specs.Events.{Event, NextJob};
+ghost use Rattle.lsp_config.specs.Configuration.{files_of};
+ghost use Rattle.lsp_config.specs.Fault.{IsOfWorkers};
+ghost use Rattle.lsp_check.specs.Steps.{event_of, IsCountedFailure};
+
+use lsp_config::{Config, CoreFault, ServeFault};
+use lsp_workspace::Workspace;
+use piece_collector::Verdict;
+use std::alloc::Global;
+use std::marker::Send;
+use std::sync::{Arc, Wait};
+use std::thread::Threads;
+use work_index::{Done, Gate};
+use worker_pool::Pool;
+
+// The workspace of the files of a configuration, on which no work is done yet.
+fn start_workspace(alloc: Global, config: Config) -> Result<Workspace, ServeFault>
+    ensures files { IfOk result (λ w. w.files ≡ files_of config) }
+    ensures fault { IfErr result IsOfWorkers }
+{
+    match Workspace::from_disk(alloc, config.into_files(), 0) {
+        Ok(workspace) => Ok(workspace),
+        // There are fewer files than stamps, so that only memory can be refused.
+        Err(_) => Err(ServeFault::Memory),
+    }
+}
+
+// Hands out the next job, and says whether there was one. `Memory` where it can't be sent.
+fn hand_out_next<R: Wait>(
+    rt: &R,
+    workspace: &mut Workspace,
+    pool: &mut Pool,
+) -> Result<bool, ServeFault>
+    requires { pool.old.out < 256 }
+    ensures files { workspace.new.files ≡ workspace.old.files }
+    ensures board { OnOk result ((opening : ℕ) (events : List Event) → IsAfter opening workspace.old.board events → IsAfter opening workspace.new.board (NextJob ∷ events)) }
+    ensures out { IfOk result (λ more. more ≡ true → pool.new.out ≡ pool.old.out + 1) }
+    ensures fault { IfErr result IsOfWorkers }
+{
+    let job = match workspace.next_job() {
+        Ok(Some(job)) => job,
+        Ok(None) => return Ok(false),
+        Err(_) => return Err(ServeFault::Memory),
+    };
+    match pool.send(rt, job) {
+        Ok(()) => Ok(true),
+        Err(_) => Err(ServeFault::Memory),
+    }
+}
+
+// Hands out jobs, in the order of the paths, until none is left or no more may be out.
+fn hand_out<R: Wait>(rt: &R, workspace: &mut Workspace, pool: &mut Pool) -> Result<(), ServeFault>
+    ensures files { workspace.new.files ≡ workspace.old.files }
+    ensures fault { IfErr result IsOfWorkers }
+{
+    'jobs: while pool.has_room() {
+        match hand_out_next(rt, workspace, pool) {
+            Ok(true) => {}
+            Ok(false) => return Ok(()),
+            Err(fault) => return Err(fault),
+        }
+    }
+    Ok(())
+}
+
+// Brings what became of a job. `Memory` where it failed because memory ran out, unless its text no longer counts.
+fn bring(workspace: &mut Workspace, done: Done) -> Result<(), ServeFault>
+    ensures files { workspace.new.files ≡ workspace.old.files }
+    ensures board { (opening : ℕ) (events : List Event) → IsAfter opening workspace.old.board events → IsAfter opening workspace.new.board (event_of done ∷ events) }
+    ensures fault { IfErr result IsOfWorkers }
+
+    // A failure that counts is never passed over.
+    ensures failed { OnOk result ((opening : ℕ) (events : List Event) → IsAfter opening workspace.old.board events → ¬ (IsCountedFailure opening events done)) }
+{
+    match done {
+        Done::Made(piece) => {
+            workspace.offer(piece);
+            Ok(())
+        }
+        Done::Failed { path, stamp } => match workspace.fail(path.as_str(), stamp) {
+            Verdict::Taken => Err(ServeFault::Memory),
+            _ => Ok(()),
+        },
+    }
+}
+
+// Waits for what becomes of a job, and brings it to the workspace. `ThreadRefused` where nothing can come, since no job is out
+// or no worker is left.
+fn take_result<R: Wait>(
+    rt: &R,
+    workspace: &mut Workspace,
+    pool: &mut Pool,
+) -> Result<(), ServeFault>
+    ensures files { workspace.new.files ≡ workspace.old.files }
+    ensures fault { IfErr result IsOfWorkers }
+{
+    match pool.receive(rt) {
+        Some(done) => bring(workspace, done),
+        None => Err(ServeFault::ThreadRefused),
+    }
+}
+
+// Hands out jobs, and takes the result of one.
+fn work_on<R: Wait>(rt: &R, workspace: &mut Workspace, pool: &mut Pool) -> Result<(), ServeFault>
+    ensures files { workspace.new.files ≡ workspace.old.files }
+    ensures fault { IfErr result IsOfWorkers }
+{
+    hand_out(rt, workspace, pool)?;
+    take_result(rt, workspace, pool)
+}
+
+// Lets the workers work until the work on each text is there.
+fn await_work<R: Wait>(rt: &R, workspace: &mut Workspace, pool: &mut Pool) -> Result<(), ServeFault>
+    ensures files { workspace.new.files ≡ workspace.old.files }
+    ensures full { OnOk result (IsFull workspace.new.board) }
+    ensures fault { IfErr result IsOfWorkers }
+{
+    for _result in rt.forever() {
+        if workspace.is_complete() {
+            return Ok(());
+        }
+        if let Err(fault) = work_on(rt, workspace, pool) {
+            return Err(fault);
+        }
+    }
+    unreachable!()
+}
+
+// Starts workers, has them work on each text, and ends them.
+fn work_on_all<R: Threads + Wait + Clone + Send + Drop + 'static, G: Gate + 'static>(
+    rt: &R,
+    alloc: Global,
+    gate: &Arc<G>,
+    workspace: &mut Workspace,
+    workers: usize,
+) -> Result<(), ServeFault>
+    ensures files { workspace.new.files ≡ workspace.old.files }
+    ensures full { OnOk result (IsFull workspace.new.board) }
+    ensures fault { IfErr result IsOfWorkers }
+{
+    match Pool::start(rt, alloc, workers, gate) {
+        Ok(pool) => {
+            let mut pool = pool;
+            let worked = await_work(rt, workspace, &mut pool);
+            pool.close(rt);
+            worked
+        }
+        Err(fault) => Err(ServeFault::from(fault)),
+    }
+}
+
+// Has threads analyse the files of a workspace on which all work is done.
+fn analyse<R: Threads + Wait, G: Gate>(
+    rt: &R,
+    gate: &G,
+    workspace: &mut Workspace,
+    workers: usize,
+) -> Result<(), ServeFault>
+    requires { IsFull workspace.old.board }
+    ensures files { OnOk result (workspace.new.files ≡ workspace.old.files) }
+    ensures current { OnOk result (IsTrue workspace.new.is_current) }
+    ensures fault { IfErr result IsOfWorkers }
+{
+    match workspace.refresh_in_shares(rt, workers, gate) {
+        Ok(()) => Ok(()),
+        Err(fault) => Err(ServeFault::from(CoreFault::from(fault))),
+    }
+}
+
+/// The workspace of the files of a configuration, with their analysis. So many workers do the work on the texts, and have ended
+/// by then; so many threads link the files. Each enters the gate before each piece of work.
+///
+/// `Memory` where memory was refused, and `ThreadRefused` where a thread was, or where no worker is left.
+pub fn analyse_files<R: Threads + Wait + Clone + Send + Drop + 'static, G: Gate + 'static>(
+    rt: &R,
+    alloc: Global,
+    gate: &Arc<G>,
+    config: Config,
+    workers: usize,
+) -> Result<Workspace, ServeFault>
+    ensures files { IfOk result (λ w. w.files ≡ files_of config) }
+    ensures current { IfOk result (λ w. IsTrue w.is_current) }
+    ensures fault { IfErr result IsOfWorkers }
+{
+    let mut workspace = start_workspace(alloc, config)?;
+    work_on_all(rt, alloc, gate, &mut workspace, workers)?;
+    analyse(rt, &**gate, &mut workspace, workers)?;
+    Ok(workspace)
+}

@@ -1,0 +1,10 @@
+use Rattle.std.proofs.Common.{take}
+use Rattle.std.specs.List.{list_any}
+use Rattle.file_facts.specs.Text.{joined}
+use Rattle.proto_resolve.specs.Files.{has_package}
+use Rattle.proto_resolve.specs.Holders.{IsPast}
+use Rattle.proto_resolve.proofs.views.last_package.Given as goal
+
+-- the place is behind those of the files so far
+abbrev pub invariant-loop-file : goal.invariant-loop-file
+invariant-loop-file g l = IsPast (λ n. list_any (has_package (g.I.Index.files l.index) (joined (take n l.scope) l.name)) (take l.file-index l.view.files)) l.lengths l.place

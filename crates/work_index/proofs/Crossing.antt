@@ -1,0 +1,68 @@
+-- What goes from one thread to another: a share to the thread that links it, and what is made of it back; and the table that all threads read.
+use denote.Param.Send.{IsSend, IsSync, sendable, struct_send, recorded_send}
+use denote.RattleType.{RattleType}
+use denote.Struct.Declared.{shape}
+use denote.Struct.Tuple.{TupleAt, type_at}
+use mathlib.Core.List.{[], ◌∷◌}
+use mir.Syntax.{Sym}
+use Rattle.std.proofs.Crossing.{crosses}
+use Rattle.syntax_tree.specs.contracts.node.FileTree as FileTree
+use Rattle.syntax_tree.specs.contracts.node.Node as Node
+use Rattle.syntax_tree.proofs.node.Node.TheLaws.TheKnot as knot
+use Rattle.syntax_tree.proofs.node.Fault.TheSendSync as Fault
+use Rattle.syntax_tree.proofs.node.Field.TheSendSync as Field
+use Rattle.syntax_tree.proofs.node.Literal.TheSendSync as Literal
+use Rattle.syntax_tree.proofs.node.MapField.TheSendSync as MapField
+use Rattle.syntax_tree.proofs.node.Number.TheSendSync as Number
+use Rattle.syntax_tree.proofs.node.ReservedList.TheSendSync as ReservedList
+use Rattle.syntax_tree.proofs.node.Span.TheSendSync as Span
+use Rattle.syntax_tree.proofs.node.TypeName.TheSendSync as TypeName
+use Rattle.sqlite_items.proofs.boxed.Boxed.TheSendSync as Boxed
+use Rattle.sqlite_items.proofs.items.Items.TheSendSync as Items
+use Rattle.file_facts.proofs.fact.FileFacts.TheSendSync as FileFacts
+use Rattle.proto_resolve.proofs.table.Table.TheSendSync as Table
+use Rattle.proto_resolve.proofs.resolve.Links.TheSendSync as Links
+use Rattle.file_facts.proofs.diagnostic.Diag.TheSendSync as Diag
+use Rattle.proto_resolve.specs.contracts.table.Table as TableRow
+use Rattle.work_index.specs.contracts.file_work.FileOut as FileOut
+use Rattle.std.specs.contracts.alloc.Global as Global
+use Rattle.work_index.specs.contracts.shares.Share as Share
+use Rattle.work_index.specs.contracts.linked.LinkedShare as LinkedShare
+use Rattle.work_index.specs.contracts.analysis.Resolutions as Resolutions
+
+node_send : IsSend Node.the_row
+node_send = search (knot.send-Node, sendable, Boxed.the_send, Items.the_send, Span.the_field_send, Span.the_send, TypeName.the_send, Field.the_send, MapField.the_send, Number.the_send, ReservedList.the_send, Literal.the_send) depth 20
+
+tree_field_send : IsSend (FileTree.the_field).row
+tree_field_send = search (sendable, node_send, Items.the_send, Fault.the_send) depth 20
+
+out_field_send : IsSend (FileOut.the_field).row
+out_field_send = struct_send (shape FileOut.the_type) (tree_field_send, (FileFacts.the_field_send, tt))
+
+pub out_send : IsSend FileOut.the_row
+out_send = search (sendable, out_field_send) depth 20
+
+pub heap_send : IsSend Global.the_row
+heap_send = search (sendable, crosses) depth 20
+
+share_field_send : IsSend (Share.the_field).row
+share_field_send = struct_send (shape Share.the_type) (search sendable, (search (sendable, crosses, out_send) depth 40, tt))
+
+pub table_sync : IsSync TableRow.the_row
+table_sync = Table.the_sync
+
+pub share_send : IsSend Share.the_row
+share_send = search (sendable, share_field_send) depth 20
+
+resolutions_field_send : IsSend (Resolutions.the_field).row
+resolutions_field_send = struct_send (shape Resolutions.the_type) (search (sendable, Items.the_send, Links.the_send) depth 40, (search (sendable, Items.the_send, Diag.the_send) depth 40, tt))
+
+linked_field_send : IsSend (LinkedShare.the_field).row
+linked_field_send = struct_send (shape LinkedShare.the_type) (search (sendable, crosses, out_send) depth 40, (resolutions_field_send, tt))
+
+pub linked_send : IsSend LinkedShare.the_row
+linked_send = search (sendable, linked_field_send) depth 20
+
+-- what a closure takes with it crosses where each of four does
+pub four_send : (name : Sym) (A B C D : RattleType) → IsSend A → IsSend B → IsSend C → IsSend D → IsSend (TupleAt name (A ∷ B ∷ C ∷ D ∷ []))
+four_send name A B C D a b c d = let T = type_at name (A ∷ B ∷ C ∷ D ∷ []) in recorded_send _ T.D T.to T.to_one (struct_send (shape T) (a, (b, (c, (d, tt)))))

@@ -1,0 +1,95 @@
+-- The shares and what is made of them, joined, are those of all files.
+use Rattle.std.proofs.Common.{◌≡◌, ℕ, ◌+◌, ◌≤◌, List, [], ◌∷◌, ◌++◌, map, length, refl, suc, sym, ap, ap₂, ◌∙◌, arith, Ok, Result, flat_map, subst}
+use Rattle.std.proofs.lemmas.List.{map-append, length-append, length-map}
+use Rattle.std.proofs.lemmas.List.Elements.{All-nil, All-cons}
+use Rattle.std.specs.List.{enumerate_from}
+use Rattle.std.specs.declared.alloc.AllocError.{AllocError}
+use Rattle.file_facts.specs.declared.diagnostic.Diag.{Diag}
+use Rattle.import_graph.specs.declared.paths.NamedFacts.{NamedFacts}
+use Rattle.proto_resolve.specs.declared.resolve.Links.{Links}
+use Rattle.piece_collector.specs.Views.{TextAt}
+use Rattle.work_index.specs.declared.shares.Share.{Share}
+use Rattle.work_index.specs.declared.linked.LinkedShare.{LinkedShare}
+use Rattle.work_index.specs.Pieces.{workspace_of}
+use Rattle.work_index.specs.Shares.{pieces_in, AreConsecutive, AreNumbersIn, ArePlacedIn, AreLinkedBy, AreJoined, IsLinkedIn}
+use Rattle.work_index.specs.Workspace.{Workspace, all_facts, resolution_of, diagnostics_of}
+use Rattle.work_index.proofs.Steps.{made_from, all_numbered}
+
+more : (n : ℕ) (ss : List Share) (s : Share) → AreConsecutive n ss → s.first ≡ n + length (pieces_in ss) → AreConsecutive n (ss ++ s ∷ [])
+more n [] s c begins = (omega (arith, begins), tt)
+more n (x ∷ ss) s c begins = (c.0, more (n + length x.pieces.items) ss s c.1 (omega (arith, begins, length-append x.pieces.items (pieces_in ss))))
+
+-- one more share, which takes of the rest of all pieces
+pub one_more_share : (old new : List Share) (s : Share) (rest all : List TextAt) → new ≡ old ++ s ∷ [] → AreConsecutive 0 old → pieces_in old ++ rest ≡ all
+    → s.first + length rest ≡ length all → AreConsecutive 0 new
+one_more_share old new s rest all added c whole first =
+    let begins : s.first ≡ 0 + length (pieces_in old) = omega (arith, first, ap length whole, length-append (pieces_in old) rest) in
+    subst (λ ss. AreConsecutive 0 ss) (sym added) (more 0 old s c begins)
+
+-- the places of consecutive shares are among the files, if there are so many
+pub placed : (files n : ℕ) (ss : List Share) → AreConsecutive n ss → n + length (pieces_in ss) ≤ files → files ≤ 18446744073709551615 → ArePlacedIn files ss
+placed files n [] c enough held = All-nil _
+placed files n (s ∷ ss) c enough held =
+    let long = length-append s.pieces.items (pieces_in ss) in
+    All-cons (λ (s : Share). AreNumbersIn files s.first (length s.pieces.items)) s ss
+    (record { within = omega (arith, c.0, long, enough); held = held })
+    (placed files (n + length s.pieces.items) ss c.1 (omega (arith, long, enough)) held)
+
+-- the places of shares that are all files of a table are among them
+pub all_placed : (ts : List TextAt) (ss : List Share) (files : List NamedFacts) → files ≡ all_facts (workspace_of ts) → pieces_in ss ≡ ts → AreConsecutive 0 ss
+    → length ts ≤ 18446744073709551615 → ArePlacedIn (length files) ss
+all_placed ts ss files is whole c held =
+    let n = all_numbered ts files is held in
+    placed (length files) 0 ss c (omega (arith, ap length whole, n.within)) n.held
+
+enumerate_append : {X : Type 0} (n : ℕ) (xs ys : List X) → enumerate_from n (xs ++ ys) ≡ enumerate_from n xs ++ enumerate_from (n + length xs) ys
+enumerate_append n [] ys = let e : n ≡ n + 0 = omega arith in ap (λ k. enumerate_from k ys) e
+enumerate_append n (x ∷ xs) ys =
+    let e : n + 1 + length xs ≡ n + length (x ∷ xs) = omega arith in
+    ap (λ l. (n, x) ∷ l) (enumerate_append (n + 1) xs ys ∙ ap (λ k. enumerate_from (n + 1) xs ++ enumerate_from k ys) e)
+
+-- what is made of files is what is made of the first of them, and of the others from their place on
+made_append : {X : Type 0} (f : ℕ × (List ℕ × List ℕ) → X) (n : ℕ) (ts us : List TextAt) → made_from f n (ts ++ us) ≡ made_from f n ts ++ made_from f (n + length ts) us
+made_append f n ts us =
+    let long : length (workspace_of ts) ≡ length ts = length-map ts _ in
+    ap (λ w. map f (enumerate_from n w)) (map-append _ ts us)
+    ∙ ap (map f) (enumerate_append n (workspace_of ts) (workspace_of us))
+    ∙ map-append f (enumerate_from n (workspace_of ts)) (enumerate_from (n + length (workspace_of ts)) (workspace_of us))
+    ∙ ap (λ k. made_from f n ts ++ made_from f (n + k) us) long
+
+-- the shares of a workspace, joined, are these pieces with what is known of each
+pub record AreAllLinked (w : Workspace) (n : ℕ) (ts : List TextAt) (pieces : List TextAt) (links : List Links) (diagnostics : List (List Diag)) : Type 0 where
+  pub pieces_are : pieces ≡ ts
+  pub links_are : links ≡ made_from (resolution_of w) n ts
+  pub diagnostics_are : diagnostics ≡ made_from (diagnostics_of w) n ts
+
+with_share : {X : Type 0} (f : ℕ × (List ℕ × List ℕ) → X) (n first : ℕ) (ts us : List TextAt) (here rest : List X) → first ≡ n
+    → here ≡ made_from f first ts → rest ≡ made_from f (n + length ts) us → here ++ rest ≡ made_from f n (ts ++ us)
+with_share f n first ts us here rest at is are = ap₂ (λ a b. a ++ b) (is ∙ ap (λ m. made_from f m ts) at) are ∙ sym (made_append f n ts us)
+
+joined : (w : Workspace) (files : List NamedFacts) → files ≡ all_facts w → (n : ℕ) (ss : List Share) (parts : List LinkedShare) → AreConsecutive n ss → AreLinkedBy files ss (map Ok parts)
+    → AreAllLinked w n (pieces_in ss) (flat_map (λ (p : LinkedShare). p.pieces.items) parts) (flat_map (λ (p : LinkedShare). p.resolutions.links) parts) (flat_map (λ (p : LinkedShare). p.resolutions.diagnostics) parts)
+joined w files is n [] [] c a = record { pieces_are = refl; links_are = refl; diagnostics_are = refl }
+joined w files is n [] (p ∷ parts) c a = absurd (omega (arith, a.len))
+joined w files is n (s ∷ ss) [] c a = absurd (omega (arith, a.len))
+joined w files is n (s ∷ ss) (p ∷ parts) c a =
+    let here : IsLinkedIn w s p = a.each 0 s p refl refl w is in
+    let rest = joined w files is (n + length s.pieces.items) ss parts c.1 (record { len = omega (arith, a.len); each = λ i t r x y. a.each (suc i) t r x y }) in
+    let us = pieces_in ss in
+    record {
+      pieces_are = ap₂ (λ a b. a ++ b) here.pieces rest.pieces_are;
+      links_are = with_share (resolution_of w) n s.first s.pieces.items us _ _ c.0 here.links rest.links_are;
+      diagnostics_are = with_share (diagnostics_of w) n s.first s.pieces.items us _ _ c.0 here.diagnostics rest.diagnostics_are;
+    }
+
+-- the linked shares of pieces, joined, are those pieces with what is known of each
+pub all_joined : (w : Workspace) (files : List NamedFacts) → files ≡ all_facts w → (ts : List TextAt) (ss : List Share) (answers : List (Result LinkedShare AllocError)) (r : LinkedShare)
+    → pieces_in ss ≡ ts → AreConsecutive 0 ss → AreLinkedBy files ss answers → AreJoined answers r → AreAllLinked w 0 ts r.pieces.items r.resolutions.links r.resolutions.diagnostics
+all_joined w files is ts ss answers r whole c linked j =
+    let P : List (Result LinkedShare AllocError) → Type 0 = λ xs. AreLinkedBy files ss xs in
+    let all = joined w files is 0 ss j.parts c (subst P j.none_refused linked) in
+    record {
+      pieces_are = j.pieces ∙ (all.pieces_are ∙ whole);
+      links_are = j.links ∙ (all.links_are ∙ ap (made_from (resolution_of w) 0) whole);
+      diagnostics_are = j.diagnostics ∙ (all.diagnostics_are ∙ ap (made_from (diagnostics_of w) 0) whole);
+    }

@@ -1,0 +1,60 @@
+-- Shares of the pieces of a workspace, and what is made of each.
+use Rattle.std.specs.Prelude.{◌≡◌, ℕ, ◌+◌, ◌≤◌, List, [], ◌∷◌, map, length, Result, Ok, Some, slice_get, flat_map, ⊤, All}
+use Rattle.std.specs.List.{enumerate_from}
+use Rattle.std.specs.declared.alloc.AllocError.{AllocError}
+use Rattle.piece_collector.specs.Views.{TextAt}
+use Rattle.import_graph.specs.declared.paths.NamedFacts.{NamedFacts}
+use Rattle.work_index.specs.declared.shares.Share.{Share}
+use Rattle.work_index.specs.declared.linked.LinkedShare.{LinkedShare}
+use Rattle.work_index.specs.Pieces.{workspace_of}
+use Rattle.work_index.specs.Workspace.{Workspace, all_facts, resolution_of, diagnostics_of}
+
+-- ---- the shares
+
+-- the pieces of all shares, one share after the other
+abbrev pub pieces_in : List Share → List TextAt
+pieces_in shares = flat_map (λ s. s.pieces.items) shares
+
+-- the first share begins at n, and each other one where the one before it ends
+abbrev pub AreConsecutive : ℕ → List Share → Type 0
+AreConsecutive n [] = ⊤
+AreConsecutive n (s ∷ rest) = (s.first ≡ n) × AreConsecutive (n + length s.pieces.items) rest
+
+-- no size is less than one after it, or more than it by more than one
+abbrev pub AreBalanced : List ℕ → Type 0
+AreBalanced [] = ⊤
+AreBalanced (a ∷ rest) = All (λ b. (b ≤ a) × (a ≤ b + 1)) rest × AreBalanced rest
+
+-- so many numbers from the first on are of files among so many, and a `usize` holds each of them
+pub record AreNumbersIn (files first count : ℕ) : Type 0 where
+  pub within : first + count ≤ files
+  pub held : files ≤ 18446744073709551615
+
+-- the places of each share are among so many
+abbrev pub ArePlacedIn : ℕ → List Share → Type 0
+ArePlacedIn files shares = All (λ s. AreNumbersIn files s.first (length s.pieces.items)) shares
+
+-- ---- what is made of them
+
+-- the pieces of a share, as they were, with what is known of each of them as a file of the workspace beside its facts
+pub record IsLinkedIn (w : Workspace) (share : Share) (linked : LinkedShare) : Type 0 where
+  pub pieces : linked.pieces.items ≡ share.pieces.items
+  pub links : linked.resolutions.links ≡ map (resolution_of w) (enumerate_from share.first (workspace_of share.pieces.items))
+  pub diagnostics : linked.resolutions.diagnostics ≡ map (diagnostics_of w) (enumerate_from share.first (workspace_of share.pieces.items))
+
+-- the same in the workspace of these files
+abbrev pub IsLinkedBy : List NamedFacts → Share → LinkedShare → Type 0
+IsLinkedBy files share linked = (w : Workspace) → files ≡ all_facts w → IsLinkedIn w share linked
+
+-- each answer that isn't a refusal is the share at its place, linked
+pub record AreLinkedBy (files : List NamedFacts) (shares : List Share) (answers : List (Result LinkedShare AllocError)) : Type 0 where
+  pub len : length answers ≡ length shares
+  pub each : (i : ℕ) (s : Share) (linked : LinkedShare) → slice_get shares i ≡ Some s → slice_get answers i ≡ Some (Ok linked) → IsLinkedBy files s linked
+
+-- no answer is a refusal, and these are all of them, one after the other
+pub record AreJoined (answers : List (Result LinkedShare AllocError)) (joined : LinkedShare) : Type 0 where
+  pub parts : List LinkedShare
+  pub none_refused : answers ≡ map Ok parts
+  pub pieces : joined.pieces.items ≡ flat_map (λ part. part.pieces.items) parts
+  pub links : joined.resolutions.links ≡ flat_map (λ part. part.resolutions.links) parts
+  pub diagnostics : joined.resolutions.diagnostics ≡ flat_map (λ part. part.resolutions.diagnostics) parts

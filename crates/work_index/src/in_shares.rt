@@ -1,0 +1,111 @@
+// The analysis of a workspace by several threads.
+ghost use Rattle.std.specs.Prelude.{◌≡◌, ℕ, List, length, IfOk};
+ghost use Rattle.std.specs.Thread.{IsSync};
+ghost use Rattle.import_graph.specs.declared.paths.NamedFacts.{NamedFacts};
+ghost use Rattle.work_index.specs.Pieces.{workspace_of};
+ghost use Rattle.work_index.specs.Shares.{AreNumbersIn, ArePlacedIn, IsLinkedBy, AreLinkedBy};
+ghost use Rattle.work_index.specs.Workspace.{analysis};
+
+use crate::analyse::paths_of;
+use crate::analysis::Analysis;
+use crate::fault::AnalyseFault;
+use crate::file_work::FileWork;
+use crate::gate::Gate;
+use crate::linked::{LinkedShare, gather, link_share};
+use crate::shares::{Share, cut};
+use crate::table_of::table_of;
+use piece_collector::Lent;
+use proto_resolve::Table;
+use std::alloc::{AllocError, Global};
+use std::snapshot::Snapshot;
+use std::sync::Wait;
+use std::thread;
+use std::thread::{Promise, Threads};
+
+// The share comes back linked.
+#[derive(Drop)]
+struct ShareLinked {
+    share: Snapshot<Share>,
+    table: Snapshot<Table>,
+}
+
+impl Promise<Result<LinkedShare, AllocError>> for ShareLinked {
+    ghost kept_by = { λ p answer. IfOk answer (IsLinkedBy p.table.value p.share.value) };
+}
+
+// Links each share in a thread of its own, and waits for all of them.
+fn link_all<R: Threads + Wait, G: Gate>(
+    rt: &R,
+    alloc: Global,
+    shares: Vec<Share>,
+    table: &Table,
+    gate: &G,
+) -> Result<Vec<Result<LinkedShare, AllocError>>, AnalyseFault>
+    requires { ArePlacedIn (length table.now) shares.items }
+    ensures { IfOk result (λ answers. AreLinkedBy table.now shares.items answers.items) }
+{
+    thread::scope(
+        thread::scope_env(),
+        rt,
+        |scope| -> Result<Vec<Result<LinkedShare, AllocError>>, AnalyseFault>
+            requires places { ArePlacedIn (length table.now) shares.items }
+            requires gate { IsSync G.row }
+            ensures { IfOk result (λ answers. AreLinkedBy table.entry.now shares.items answers.items) }
+        {
+            let mut handles = Vec::new(alloc);
+            for share in shares {
+                let promise = ShareLinked {
+                    share: Snapshot::of(&share),
+                    table: Snapshot::of(table),
+                };
+                let Ok(handle) = scope.spawn_with(
+                    promise,
+                    move || -> Result<LinkedShare, AllocError>
+                        requires { AreNumbersIn (length table.now) share.first (length share.pieces.items) }
+                        ensures { IfOk result (IsLinkedBy table.entry.now share) }
+                    { link_share(alloc, share, table, gate) },
+                ) else {
+                    return Err(AnalyseFault::ThreadRefused);
+                };
+                handles.push(handle)?;
+            }
+            let answers = thread::join_promised(rt, handles)?;
+            Ok(answers)
+        },
+    )
+}
+
+/// The analysis of the workspace of lent pieces, which come back as they were. It is the one that [`analyse_here`](crate::analyse_here)
+/// makes of them: the files are linked by so many threads, 0 of which count as 1 and over 64 as 64, and never by more than
+/// there are files. Each thread takes files that stand together, and enters the gate with the path and the stamp of each before
+/// it links it. The number of threads takes no part in what is made. It waits until each of them has ended.
+///
+/// `Memory` where memory was refused, here or in a thread, and `ThreadRefused` where a thread was. The pieces are gone then, and
+/// no thread is left.
+pub fn analyse_in_shares<R: Threads + Wait, G: Gate>(
+    rt: &R,
+    alloc: Global,
+    lent: Lent<FileWork>,
+    workers: usize,
+    gate: &G,
+) -> Result<(Lent<FileWork>, Analysis), AnalyseFault>
+    ensures pieces { IfOk result (λ r. r.0 ≡ lent) }
+    ensures analysis { IfOk result (λ r. r.1 ≡ analysis (workspace_of lent)) }
+{
+    let pieces = lent.into_pieces();
+    let table = table_of(alloc, pieces.as_slice())?;
+    let paths = paths_of(alloc, pieces.as_slice())?;
+    let count = workers.clamp(1, 64).min(pieces.len());
+    let shares = cut(alloc, pieces, count)?;
+    let answers = link_all(rt, alloc, shares, &table, gate)?;
+    let LinkedShare {
+        pieces,
+        resolutions,
+    } = gather(alloc, answers)?;
+    let analysis = Analysis {
+        table,
+        paths,
+        resolutions,
+    };
+    Ok((Lent::of(pieces), analysis))
+}

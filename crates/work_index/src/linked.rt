@@ -1,0 +1,64 @@
+// The pieces of a share with what is known of each.
+ghost use Rattle.std.specs.Prelude.{◌≡◌, length, IfOk};
+ghost use Rattle.work_index.specs.Shares.{AreNumbersIn, IsLinkedBy, AreJoined};
+
+use crate::analyse::link_files;
+use crate::analysis::Resolutions;
+use crate::file_work::FileWork;
+use crate::gate::Gate;
+use crate::shares::Share;
+use piece_collector::Piece;
+use proto_resolve::Table;
+use sqlite_items::Items;
+use std::alloc::{AllocError, Global};
+
+// The pieces of a share, as they were, with what their names mean and what is wrong in them.
+#[derive(Drop)]
+pub struct LinkedShare {
+    pub pieces: Vec<Piece<FileWork>>,
+    pub resolutions: Resolutions,
+}
+
+// The work of one thread: links the files of a share in order, and enters the gate before each of them.
+pub fn link_share<G: Gate>(
+    alloc: Global,
+    share: Share,
+    table: &Table,
+    gate: &G,
+) -> Result<LinkedShare, AllocError>
+    requires { AreNumbersIn (length table.now) share.first (length share.pieces.items) }
+    ensures { IfOk result (IsLinkedBy table.now share) }
+{
+    let Share { first, pieces } = share;
+    let resolutions = link_files(alloc, table, first, pieces.as_slice(), gate)?;
+    Ok(LinkedShare {
+        pieces,
+        resolutions,
+    })
+}
+
+// All pieces, with what is known of each, in the order of the shares. An `Err` where one of the answers is one.
+pub fn gather(
+    alloc: Global,
+    answers: Vec<Result<LinkedShare, AllocError>>,
+) -> Result<LinkedShare, AllocError>
+    ensures { IfOk result (AreJoined answers.items) }
+{
+    let mut pieces = Vec::new(alloc);
+    let mut links = Items::new(alloc);
+    let mut diagnostics = Items::new(alloc);
+    for answer in answers {
+        let LinkedShare {
+            pieces: mut more,
+            resolutions,
+        } = answer?;
+        pieces.append(&mut more)?;
+        links.append(resolutions.links)?;
+        diagnostics.append(resolutions.diagnostics)?;
+    }
+    let resolutions = Resolutions { links, diagnostics };
+    Ok(LinkedShare {
+        pieces,
+        resolutions,
+    })
+}
