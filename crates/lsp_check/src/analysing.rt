@@ -23,7 +23,7 @@ fn start_workspace(alloc: Global, config: Config) -> Result<Workspace, ServeFaul
 {
     match Workspace::from_disk(alloc, config.into_files(), 0) {
         Ok(workspace) => Ok(workspace),
-        // There are fewer files than stamps, so that only memory can be refused.
+        // There are fewer files than stamps, so only memory can be refused.
         Err(_) => Err(ServeFault::Memory),
     }
 }
@@ -171,9 +171,9 @@ fn analyse<R: Threads + Wait, G: Gate>(
 }
 
 /// The workspace of the files of a configuration, with their analysis. So many workers do the work on the texts, and have ended
-/// by then; so many threads link the files. Each enters the gate before each piece of work.
+/// by then; so many threads link the files. Each enters the gate before it works on a text, and before it links a file.
 ///
-/// `Memory` where memory was refused, and `ThreadRefused` where a thread was, or where no worker is left.
+/// `Memory` if memory was refused, or a job couldn't be sent, and `ThreadRefused` if a thread was, or if no worker is left.
 pub fn analyse_files<R: Threads + Wait + Clone + Send + Drop + 'static, G: Gate + 'static>(
     rt: &R,
     alloc: Global,

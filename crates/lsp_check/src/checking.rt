@@ -91,9 +91,9 @@ fn send_and_judge<K: ByteSink>(
 /// line feed. The lines come by path, and those of a file by start, end, number and words. Those of one file are in memory
 /// at a time.
 ///
-/// So many workers do the work on the texts, and so many threads link the files: 0 counts as 1, and over 64 as 64. Each enters
-/// the gate before each piece of work, and all have ended when the first line is written. How many there are takes no part in
-/// what is written.
+/// As many threads as there are `workers` do the work on the texts, and then as many link the files, but never more than there
+/// are files: 0 counts as 1, and over 64 as 64. Each enters the gate before it works on a text, and before it links a file, and
+/// all have ended when the first line is written. How many there are takes no part in what is written.
 ///
 /// The only faults are `Write` where the sink failed, `Memory` where memory was refused, also to a worker, or where a job
 /// couldn't be sent, and `ThreadRefused` where a thread was or where no worker is left. Whatever it ends with, what was written
@@ -113,7 +113,7 @@ pub fn check<R: Threads + Wait + Clone + Send + Drop + 'static, K: ByteSink, G: 
     // It answers true exactly where a diagnostic is an error.
     ensures errors { IfOk result (λ found. found ≡ has_errors (workspace (files_of config))) }
 
-    // The faults are those of workers, and the sink's, which is reported only where the sink failed in the call.
+    // The faults are those of memory and threads, and the sink's, which is reported only where the sink failed in the call.
     ensures fault { IfErr result (ComesWhileChecking (K.counts writer.old) (K.counts writer.new)) }
 
     // It ends well only where no error of the sink came, and after an error nothing more is written.

@@ -59,7 +59,7 @@ abbrev pub ComesWithoutThreads : CoreFault → Type 0
 ComesWithoutThreads core.ThreadRefused = ⊥
 ComesWithoutThreads _ = ⊤
 
--- a fault of workers: they want memory and threads
+-- memory or a thread was refused, or no worker is left
 abbrev pub IsOfWorkers : ServeFault → Type 0
 IsOfWorkers serve.Memory = ⊤
 IsOfWorkers serve.ThreadRefused = ⊤

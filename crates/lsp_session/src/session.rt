@@ -231,7 +231,7 @@ impl Session {
         self.workspace.refresh()
     }
 
-    /// Analyses the files by so many threads, each of which enters the gate before each of its files. Else as
+    /// Analyses the files by so many threads, each of which enters the gate before each of its files. Otherwise as
     /// [`analyse`](Session::analyse). After an `Err` the session can't be used any more.
     pub(crate) fn analyse_in_shares<R: Threads + Wait, G: Gate>(
         &mut self,

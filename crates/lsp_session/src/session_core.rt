@@ -200,12 +200,13 @@ impl Core {
         }
     }
 
-    /// Does what [`advance`](Core::advance) does, and analyses the files by so many threads: 0 counts as 1, and over 64 as 64, and
-    /// there are never more than files. Each thread enters the gate before each of its files. Where only one file has another text
-    /// since the last analysis, no thread is started. It waits until each thread has ended.
+    /// Does what [`advance`](Core::advance) does, but as many threads as there are `workers` make a whole analysis: 0 counts as 1,
+    /// and over 64 as 64, and there are never more than there are files. Each thread enters the gate before each of its files. If
+    /// only one file has another text since the last analysis, no thread is started and no gate is entered. It waits until each
+    /// thread has ended.
     ///
-    /// `Memory` where memory is refused, also to a thread, `ThreadRefused` where a thread is, `Exhausted` where a text finds no
-    /// stamp: then the replies of this call are lost.
+    /// `Memory` if memory was refused, here or in a thread, `ThreadRefused` if a thread couldn't be started, `Exhausted` if a text
+    /// finds no stamp: then the replies of this call are lost.
     pub fn advance_in_shares<R: Threads + Wait, G: Gate>(
         &mut self,
         rt: &R,

@@ -296,8 +296,8 @@ impl Workspace {
     /// one file alone has changed since the last analysis, no thread is started and no gate is entered. The board has to be
     /// complete.
     ///
-    /// `Memory` where memory was refused, and `ThreadRefused` where a thread was. The workspace may be without files then, and
-    /// its stamps count from 1 again.
+    /// `Memory` if memory was refused, and `ThreadRefused` if a thread was. The files and the board are then as before, or the
+    /// pieces are lost: then there is no file, and the stamps count from 1 again.
     pub fn refresh_in_shares<R: Threads + Wait, G: Gate>(
         &mut self,
         rt: &R,

@@ -20,17 +20,17 @@ abbrev pub AreConsecutive : ℕ → List Share → Type 0
 AreConsecutive n [] = ⊤
 AreConsecutive n (s ∷ rest) = (s.first ≡ n) × AreConsecutive (n + length s.pieces.items) rest
 
--- no size is less than one after it, or more than it by more than one
+-- each size is that of every later one, or one more
 abbrev pub AreBalanced : List ℕ → Type 0
 AreBalanced [] = ⊤
 AreBalanced (a ∷ rest) = All (λ b. (b ≤ a) × (a ≤ b + 1)) rest × AreBalanced rest
 
--- so many numbers from the first on are of files among so many, and a `usize` holds each of them
+-- `count` numbers from `first` on are numbers of files, of which there are so many; a `usize` holds that many
 pub record AreNumbersIn (files first count : ℕ) : Type 0 where
   pub within : first + count ≤ files
   pub held : files ≤ 18446744073709551615
 
--- the places of each share are among so many
+-- the files of each share have numbers below `files`
 abbrev pub ArePlacedIn : ℕ → List Share → Type 0
 ArePlacedIn files shares = All (λ s. AreNumbersIn files s.first (length s.pieces.items)) shares
 

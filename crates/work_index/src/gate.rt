@@ -1,9 +1,10 @@
-// What a worker passes before each piece of work.
+// What a thread enters before it works on a file.
 
 use std::marker::{Send, Sync};
 
-/// What a worker passes before it works on a file, as a test that holds workers back. A gate is shared by all workers.
-/// It takes no part in what they make.
+/// What a thread enters before it works on a file: before the work on its text, and again before it links the file in an
+/// analysis by several threads. A test can hold threads back with it. All threads share one gate, which takes no part in what
+/// they make.
 pub trait Gate: Send + Sync + Drop {
     /// Called with the path of the text and its stamp, before the work on it begins. The work waits until it returns.
     fn enter(&self, path: &str, stamp: u64);

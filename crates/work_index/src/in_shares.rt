@@ -76,12 +76,13 @@ fn link_all<R: Threads + Wait, G: Gate>(
 }
 
 /// The analysis of the workspace of lent pieces, which come back as they were. It is the one that [`analyse_here`](crate::analyse_here)
-/// makes of them: the files are linked by so many threads, 0 of which count as 1 and over 64 as 64, and never by more than
-/// there are files. Each thread takes files that stand together, and enters the gate with the path and the stamp of each before
-/// it links it. The number of threads takes no part in what is made. It waits until each of them has ended.
+/// makes of them. As many threads as there are `workers` link the files: 0 counts as 1, and over 64 as 64, and there are never
+/// more than there are files. Each takes a run of consecutive files; the runs differ in length by at most one, the longer ones
+/// first. A thread enters the gate with the path and the stamp of each of its files before it links it. The number of threads
+/// takes no part in what is made. It waits until each of them has ended.
 ///
-/// `Memory` where memory was refused, here or in a thread, and `ThreadRefused` where a thread was. The pieces are gone then, and
-/// no thread is left.
+/// `Memory` if memory was refused, here or in a thread, and `ThreadRefused` if a thread couldn't be started. The pieces are gone
+/// then.
 pub fn analyse_in_shares<R: Threads + Wait, G: Gate>(
     rt: &R,
     alloc: Global,
