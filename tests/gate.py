@@ -73,7 +73,10 @@ def main():
     parts = [run_and_count(["rt", "ci"], r"(\d+) passed, (\d+) failed$", "rt ci")]
     times.append(time_since(began, "rt ci"))
     parts.append(Part(0, 0, []) if build_program() else Part(0, 1, ["the program was not built"]))
-    parts.append(run_and_count([sys.executable, "tools/wrong_bodies.py", "--gate"], r"^(\d+) refused, (\d+) not$", "wrong bodies"))
+    if parts[0].failed == 0:
+        parts.append(run_and_count([sys.executable, "tools/wrong_bodies.py", "--gate"], r"^(\d+) refused, (\d+) not$", "wrong bodies"))
+    else:
+        parts.append(Part(0, 1, ["wrong bodies: not tried, since rt ci failed"]))
     times.append(time_since(began, "wrong bodies"))
     parts.append(run_own_tests())
     times.append(time_since(began, "all"))

@@ -66,6 +66,8 @@ EDITS = {
     "no_token": ("let same = n;", 'let same = "n;', "BAD EDIT"),
     "no_expression": ("let same = n;", "let same = ;", "BAD EDIT"),
     "weaker_contract": ("ensures { result ≡ n }", "ensures { n ≡ n }", "NOT REFUSED"),
+    "stronger_contract": ("ensures { result ≡ n }", "ensures { result ≡ n + 1 }", "REFUSED"),
+    "too_little_for_high": ("ensures { result ≡ n + 1 }", "ensures { n < result }", "REFUSED"),
 }
 TWO_FUNCTIONS = "file: src/lib.rt\nold: let more = n + 1;\nnew: let more = n + 1; let _ = more;\nold: let same = n;\nnew: let same = n / 2;\n"
 WANTED = {**{name: verdict for name, (_, _, verdict) in EDITS.items()}, "two_functions": "REFUSED"}
@@ -105,7 +107,7 @@ class Planted(unittest.TestCase):
         self.assertEqual(found, WANTED, ran.stdout)
         self.assertEqual(ran.returncode, 1)
         self.assertRegex(ran.stdout, r"wrong_low\.edit: REFUSED: with \d+ others")
-        self.assertTrue(ran.stdout.endswith("\n4 refused, 8 not\n"), ran.stdout)
+        self.assertTrue(ran.stdout.endswith("\n6 refused, 8 not\n"), ran.stdout)
 
         # What was refused is on record; the rest is tried again, also after a comment changed.
         self.assertEqual({*json.loads((self.crate / "wrong-bodies/verdicts.json").read_text())}, {f"{it}.edit" for it, verdict in WANTED.items() if verdict == "REFUSED"})
@@ -114,7 +116,7 @@ class Planted(unittest.TestCase):
                 (self.crate / f"wrong-bodies/{name}.edit").unlink()
         write(self.crate / "src/lib.rt", SOURCE.replace("// Planted.", "// Planted here."))
         ran, found = self.run_tool()
-        self.assertIn("planted: 4 edits, 0 tried in 0 checks", ran.stdout)
+        self.assertIn("planted: 6 edits, 0 tried in 0 checks", ran.stdout)
         self.assertEqual(ran.returncode, 0)
 
         # Under --gate a recorded edit that is gone is a failure.
@@ -126,20 +128,80 @@ class Planted(unittest.TestCase):
         # An edit that changes is tried again, and no other.
         self.plant("wrong_high", "file: src/lib.rt\nold: low(first)\nnew: n\n")
         ran, found = self.run_tool()
-        self.assertIn("planted: 3 edits, 1 tried", ran.stdout)
+        self.assertIn("planted: 5 edits, 1 tried", ran.stdout)
         self.assertEqual({*found.values()}, {"REFUSED"}, ran.stdout)
 
-        # What another function does is no reason to try an edit of one function again; what it promises is.
-        write(self.crate / "src/lib.rt", SOURCE.replace("let same = n;", "let same = n; let _ = same;"))
+        # What another function does is no reason to try an edit of one body again, but one to try an edit of clauses. What it promises is one for both.
+        write(self.crate / "src/lib.rt", SOURCE.replace("let more = n + 1;", "let more = n + 1; let _ = more;"))
         ran, found = self.run_tool()
-        self.assertIn("planted: 3 edits, 1 tried", ran.stdout)
+        self.assertIn("planted: 5 edits, 3 tried", ran.stdout)
         self.assertEqual({*found.values()}, {"REFUSED"}, ran.stdout)
 
         # A crate that isn't proved says nothing of its edits.
         write(self.crate / "src/lib.rt", SOURCE.replace("ensures { result ≡ n + 1 }", "ensures { result ≡ n + 3 }"))
         ran, found = self.run_tool()
-        self.assertEqual({*found.values()}, {"UNPROVED"}, ran.stdout)
+        self.assertIn("planted: UNPROVED: ", ran.stdout)
+        self.assertEqual(found, {})
         self.assertEqual(ran.returncode, 1)
+
+
+BASE = """#![tactic(auto)]
+
+ghost use Rattle.std.specs.Prelude.{◌≡◌, ◌+◌, ◌<◌};
+
+/// One more.
+pub fn more(n: usize) -> usize
+    requires { n < 1000 }
+    ensures { result ≡ n + 1 }
+{
+    n + 1
+}
+"""
+
+ABOVE = """#![tactic(auto)]
+
+ghost use Rattle.std.specs.Prelude.{◌≡◌, ◌+◌, ◌<◌};
+
+use base::more;
+
+/// Two more.
+pub fn two_more(n: usize) -> usize
+    requires { n < 900 }
+    ensures { result ≡ n + 2 }
+{
+    let first = more(n);
+    more(first)
+}
+"""
+
+
+class AfterCi(unittest.TestCase):
+    """What the gate does: the libraries are those that `rt ci` has left."""
+
+    def test_libraries_of_the_gate(self):
+        with tempfile.TemporaryDirectory() as room:
+            root = pathlib.Path(room, "repository")
+            (root / ".git").mkdir(parents=True)
+            write(root / "crates.txt", "base:\nabove: base\n")
+            write(root / "HANDLES", "Handles allowed: none.\n")
+            write(root / "crates/base/src/lib.rt", BASE)
+            write(root / "crates/above/src/lib.rt", ABOVE)
+            write(root / "crates/above/wrong-bodies/once.edit", "file: src/lib.rt\nold: more(first)\nnew: first\n")
+            words = [sys.executable, str(TOOLS / "wrong_bodies.py"), "--root", str(root), "--gate", "--show"]
+            how = {"stdin": subprocess.DEVNULL, "stdout": subprocess.PIPE, "stderr": subprocess.STDOUT, "text": True}
+
+            # Where it has left none, nothing is tried.
+            ran = subprocess.run(words, **how)
+            self.assertIn("above: UNPROVED: it is not proved, or a library below it isn't", ran.stdout)
+            self.assertEqual(ran.returncode, 1)
+
+            # Else they are taken as they are, and not proved again.
+            ran = subprocess.run(["rt", "ci"], cwd=root, **how)
+            self.assertEqual(ran.returncode, 0, ran.stdout)
+            ran = subprocess.run(words, **how)
+            self.assertIn("above/once.edit: REFUSED", ran.stdout)
+            self.assertEqual(ran.returncode, 0, ran.stdout)
+            self.assertFalse((root / "crates/base/out/incremental").exists())
 
 
 def edits_of(*names):
@@ -259,6 +321,7 @@ class Read(unittest.TestCase):
         source = rattle_source.Source("src/lib.rt", SOURCE)
         self.assertEqual(source.function_with([b"let more = n + 1;"]).name, "low")
         self.assertIsNone(source.function_with([b"let more = n + 1;", b"let same = n;"]))
+        self.assertIsNone(source.function_with([b"requires { n < 800 }"]))
         self.assertIsNone(source.function_with([b"ensures { result"]))
         self.assertIsNone(source.function_with([b"let there_is_none = 1;"]))
 

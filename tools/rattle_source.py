@@ -11,6 +11,8 @@ import tempfile
 import kit
 
 WORD = re.compile(r"[A-Za-z_]\w*")
+# The types that a file declares.
+TYPE = re.compile(r"(?m)^\s*(?:pub(?:\([a-z]+\))?\s+)?(?:struct|enum|union)\s+(\w+)")
 BEFORE_FN = ("pub", "const", "unsafe", "extern", "async", ")", "crate", "(", "super", "in", '""')
 
 
@@ -82,8 +84,8 @@ def last_name(words):
     return name
 
 
-def name_of_impl(words):
-    """The name of an `impl` as the checker prints it: the type's, and the trait's behind it."""
+def parts_of_impl(words):
+    """The type of an `impl`, and its trait if it has one."""
     if words[:1] == ["<"]:
         depth = 0
         for at, word in enumerate(words):
@@ -92,10 +94,18 @@ def name_of_impl(words):
                 words = words[at + 1 :]
                 break
     words = words[: words.index("where")] if "where" in words else words
-    if "for" in words:
-        at = words.index("for")
-        return f"{last_name(words[at + 1 :])}{last_name(words[:at])}"
-    return last_name(words)
+    at = words.index("for") if "for" in words else None
+    return (last_name(words), None) if at is None else (last_name(words[at + 1 :]), last_name(words[:at]))
+
+
+def type_of_impl(words):
+    return parts_of_impl(words)[0]
+
+
+def name_of_impl(words):
+    """The name of an `impl` as the checker prints it: the type's, and the trait's behind it."""
+    own, of = parts_of_impl(words)
+    return own if of is None else f"{own}{of}"
 
 
 def module_of(path):
@@ -103,12 +113,18 @@ def module_of(path):
     return [] if parts in (["lib"], ["main"]) else parts[:-1] if parts[-1] == "mod" else parts
 
 
-class Reader:
-    """Finds the functions of a file, in one pass over its code."""
+def homes_of(texts):
+    """The modules of the types that a crate's files declare, by their names, where they are declared once."""
+    found = [(name, module_of(path)) for path, text in texts.items() for name in TYPE.findall(text)]
+    return {name: modules for name, modules in found if sum(name == other for other, _ in found) == 1}
 
-    def __init__(self, path, tokens):
-        self.code, self.modules = code_of(tokens), module_of(path)
-        self.functions, self.at, self.above, self.of_traits, self.pending = [], 0, [], [], []
+
+class Reader:
+    """Finds the functions of a file, in one pass over its code. `homes` has the modules of the crate's types, by their names."""
+
+    def __init__(self, path, tokens, homes):
+        self.code, self.modules, self.homes = code_of(tokens), module_of(path), homes
+        self.functions, self.at, self.above, self.of_types, self.of_traits, self.pending = [], 0, [], [], [], []
 
     def word(self, at):
         return self.code[at][3] if at < len(self.code) else ""
@@ -131,7 +147,7 @@ class Reader:
             elif word == "{":
                 self.open()
             elif word == "}":
-                self.above, self.of_traits, self.pending = self.above[:-1], self.of_traits[:-1], []
+                self.above, self.of_types, self.of_traits, self.pending = self.above[:-1], self.of_types[:-1], self.of_traits[:-1], []
                 self.at += 1
             elif word == ";":
                 self.pending = []
@@ -149,6 +165,7 @@ class Reader:
         if kind and "macro_rules" not in self.pending:
             after = self.pending[self.pending.index(kind) + 1 :]
             self.above.append(after[0] if kind == "mod" else name_of_impl(after) or "" if kind == "impl" else "?trait")
+            self.of_types.append(type_of_impl(after) if kind == "impl" else None)
             self.of_traits.append(kind == "trait" or kind == "impl" and "for" in after)
         else:
             self.at = self.balanced(self.at)
@@ -177,7 +194,10 @@ class Reader:
             head = [it[3] for it in self.code[begin:end]]
             dash = head.index("-") if "-" in head else head.index("->") if "->" in head else len(head)
             is_plain = "const" not in head[: head.index("fn")] and "impl" not in head[dash:] and "?trait" not in self.above
-            path = "::".join([*self.modules, *[it for it in self.above if it not in ("", "?trait")], name])
+            above = [it for it in self.above if it not in ("", "?trait")]
+            home = self.homes.get(self.of_types[-1]) if self.of_types and self.of_types[-1] else None
+            # (a method is printed where its type is declared, which may be another file)
+            path = "::".join([*self.modules, *above, name] if home is None or len(above) > 1 else [*home, *above, name])
             is_public = "pub" in head and head[head.index("pub") + 1] != "("
             is_private = is_plain and not is_public and not any(self.of_traits)
             lines, body = (self.code[self.above_attributes(begin)][0], self.code[close][0]), (self.code[end][1], self.code[close][2])
@@ -187,29 +207,41 @@ class Reader:
 
 
 class Source:
-    """A source file: its bytes, and its functions, None where its text can't be read."""
+    """A source file: its bytes, and its functions, None where its text can't be read. `homes` is that of the crate's files."""
 
-    def __init__(self, path, text):
-        self.path, self.data = path, text.encode() if isinstance(text, str) else text
+    def __init__(self, path, text, homes={}):
+        self.path, self.homes, self.data = path, homes, text.encode() if isinstance(text, str) else text
         tokens = tokens_of(self.data)
-        self.functions = Reader(path, tokens).read() if tokens is not None else None
+        self.functions = Reader(path, tokens, homes).read() if tokens is not None else None
         self.tokens = tokens
+
+    def with_text(self, text):
+        """The same file with another text."""
+        return Source(self.path, text, self.homes)
 
     def body(self, function):
         return self.data[slice(*function.body)]
 
-    def pieces(self):
-        """The text between the bodies."""
+    def head(self, function):
+        """A function's text up to its body, with its clauses."""
+        return self.data[function.start : function.body[0]]
+
+    def whole(self, function):
+        """A function's text, clauses and body."""
+        return self.data[function.start : function.body[1]]
+
+    def between(self):
+        """The text between the functions."""
         at, pieces = 0, []
         for function in self.functions:
-            pieces.append(self.data[at : function.body[0]])
+            pieces.append(self.data[at : function.start])
             at = function.body[1]
         return [*pieces, self.data[at:]]
 
-    def with_bodies(self, bodies):
-        """The text with other bodies for some functions, by their number."""
-        pieces = self.pieces()
-        made = b"".join(piece + bodies.get(at, self.body(function)) for at, (piece, function) in enumerate(zip(pieces, self.functions)))
+    def with_functions(self, others):
+        """The text with others in the place of some functions, by their number."""
+        pieces = self.between()
+        made = b"".join(piece + others.get(at, self.whole(function)) for at, (piece, function) in enumerate(zip(pieces, self.functions)))
         return (made + pieces[-1]).decode()
 
     def words(self):

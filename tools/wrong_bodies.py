@@ -6,26 +6,31 @@ usage: wrong_bodies.py [CRATE..] [--root FOLDER] [--jobs N] [--must-fail] [--ane
 An edit has the form of the kit's must-fail edits: a line `file: src/NAME.rt`, then pairs of lines `old: TEXT` and `new: TEXT`, each TEXT once in that
 file. Its verdict is
 
-  REFUSED      the prover refuses the edited function, for a reason of its own
+  REFUSED      the prover refuses the edited function, for a reason of its own, or, tried over the whole crate, any function
   NOT REFUSED  tried alone, the crate is still proved
   BAD EDIT     it can't be applied, or what it makes can't be read
   UNPROVED     the crate itself isn't proved, so nothing was tried
 
 What is refused is kept in crates/NAME/wrong-bodies/verdicts.json, under a sum of all that it rests on: the edit, the edited function with its own
 proof files, the crate's definitions, lemmas and sources but for the bodies of other functions, what the crate sees of those below it (the definitions
-that it cites, the sources without bodies and private functions) and the kit's logic. Comments, layout and an edit's description don't count. What is current
-isn't tried again; --anew tries all. --must-fail takes the edits of must-fail/ in the same way, and keeps their verdicts in the crate's out/. --gate also fails where verdicts.json names an edit that isn't there. --alone tries each edit in a check of its own.
+that it cites, the sources without bodies and private functions) and the kit's logic. An edit of anything but one body rests on the whole crate.
+Comments, layout and an edit's description don't count. What is current isn't tried again; --anew tries all. --must-fail takes the edits of must-fail/
+in the same way, and keeps their verdicts in the crate's out/. --alone tries each edit in a check of its own. --gate, right after an `rt ci` that
+passed, takes the libraries as that has built them, whose statements alone are read, and also fails where verdicts.json names an edit that isn't there.
 
 The status is 0 if each edit is refused, else 1. The last line is `N refused, M not; ..`.
 
 How edits share a check
-  - The unchanged crate is checked once over what earlier checks kept. Each further check works on a copy of that.
-  - An edit may share a check if it changes one function's body and nothing else, and others don't see that body. Edits of one function, of functions
-    that may call each other in a ring, and of functions whose proofs cite each other stay apart.
+  - The unchanged crate has to be proved. A check of edits then asks for the edited functions alone: what they promise is what it was before, so nothing
+    but their own proofs can fail.
+  - An edit may share a check if it changes one function's body and nothing else, and nothing else sees that body. Edits of one function, of functions
+    that may call each other in a ring, and of functions whose proofs cite each other stay apart. An edit of one function's clauses has a check of
+    that function, and any other edit one of the whole crate.
   - In a shared check an edit counts as refused only if a goal of its own function failed: in the function's line, at a line of its text, or in its own
     proof files. That a callee isn't proved is no reason. A goal of functions that call each other in a ring is said of each of them, and counts
     for the one that it names. If an error is nobody's, the whole check says nothing.
-  - What a shared check leaves open is tried again with the others that are left, and at last alone, as `rt must-fail` does it.
+  - What a shared check leaves open is tried again with the others that are left, and at last alone. What isn't refused even so is tried over the whole
+    crate, as `rt must-fail` does it.
 """
 import argparse
 import hashlib
@@ -34,7 +39,6 @@ import os
 import pathlib
 import re
 import resource
-import shutil
 import subprocess
 import sys
 import tempfile
@@ -43,7 +47,7 @@ import time
 from concurrent.futures import ThreadPoolExecutor
 
 import kit
-from rattle_source import Source
+from rattle_source import Source, homes_of
 
 REFUSED, PASSED, BAD, UNPROVED = "REFUSED", "NOT REFUSED", "BAD EDIT", "UNPROVED"
 FOLDER, RECORD = "wrong-bodies", "verdicts.json"
@@ -62,6 +66,8 @@ NAMES_ONLY = re.compile(r"has no field|is not in scope|has no `|was not admitted
 ONLY_CALLEES = re.compile(r"(not proved|no proof)[:;] (in `[^`]+`, of this cycle of calls: )?it calls .*")
 # The goals of functions that call each other in a ring stand in one file, each behind the name of its function, and are said of every one of them.
 OF_A_RING = re.compile(r"no proof: expected answers in \./proofs/(?:\S+/)?\+\w+/Answers\.antt; `search` did not prove ((?:`[\w-]+`(?:, )?)+)(?:; it calls .*)?")
+# What is said where `--only` names no function.
+NO_FUNCTION = re.compile(r"has no function `([^`]+)`")
 # The proof files of one function.
 OWN_PROOFS = ("/Answers.antt", "/Invariants.antt")
 EDIT_NAME = re.compile(r"[A-Za-z0-9_-][A-Za-z0-9_.-]*\.edit")
@@ -142,30 +148,33 @@ class Surfaces:
 # -- edits
 
 class Edit:
-    """An edit file, and where its one changed body is if it may share a check."""
+    """An edit file, and which function it changes if it is one alone: its place in its file, and its new text, with clauses and body."""
 
     def __init__(self, file):
         self.file, self.name = file, os.path.basename(file)
-        self.path, self.number, self.function, self.body = None, None, None, None
+        self.path, self.number, self.function, self.new = None, None, None, None
 
-    def place(self, texts, sources, proved):
-        """Finds the one function whose body the edit changes, and says whether there is one and it may share a check."""
-        changed = []
+    def place(self, texts, sources):
+        """Finds the one function that the edit changes, and says whether it may share a check: it may if nothing but the body differs."""
+        changed, is_body = [], True
         for path, text in texts.items():
             if path not in sources:
                 return False
-            old, new = sources[path], Source(path, text)
-            if old.functions is None or new.functions is None or len(old.functions) != len(new.functions) or old.pieces() != new.pieces():
+            old = sources[path]
+            new = old.with_text(text)
+            if old.functions is None or new.functions is None or len(old.functions) != len(new.functions) or old.between() != new.between():
                 return False
-            changed += [(path, at, new.body(it)) for at, it in enumerate(new.functions) if new.body(it) != old.body(old.functions[at])]
+            pairs = [*zip(old.functions, new.functions)]
+            changed += [(path, at, new.whole(it)) for at, (before, it) in enumerate(pairs) if new.whole(it) != old.whole(before)]
+            is_body = is_body and all(new.head(it) == old.head(before) for before, it in pairs)
         if len(changed) != 1:
             return False
-        path, number, body = changed[0]
+        path, number, whole = changed[0]
         function = sources[path].functions[number]
-        if not function.is_plain or function.path not in proved:
+        if not function.is_plain:
             return False
-        self.path, self.number, self.body, self.function = path, number, body, function
-        return True
+        self.path, self.number, self.new, self.function = path, number, whole, function
+        return is_body
 
 
 def edits_in(folder):
@@ -260,13 +269,10 @@ class Said:
                 self.located.append((bool(found[1]), found[2], int(found[3]), found[4], line))
 
     def is_reached(self):
-        return self.last.startswith(("logic=not-proved", "logic=proved"))
+        return self.last.startswith("only=")
 
     def unproved(self):
         return {it: said for it, said in self.status.items() if not said.startswith(("proved", "assumed"))}
-
-    def proved_functions(self):
-        return {path for (kind, path), said in self.status.items() if kind == "fn" and re.match(r"proved\b", said)}
 
 
 def names_of_ring(words):
@@ -331,10 +337,11 @@ class Trial:
 
     def __init__(self, crate, given, slots, surfaces):
         self.crate, self.given, self.slots, self.surfaces = crate, given, slots, surfaces
-        self.folder, self.room = f"{crate.folder}/{given.folder}", f"{crate.folder}/out/{given.folder}"
+        self.folder = f"{crate.folder}/{given.folder}"
         self.recorded = pathlib.Path(self.folder if given.folder == FOLDER else f"{crate.folder}/out", RECORD)
         self.checks, self.log, self.verdicts, self.keys, self.writing = 0, [], {}, {}, threading.Lock()
-        self.sources = {path: Source(path, text) for path, text in sources_of(crate).items()}
+        homes = homes_of(sources_of(crate))
+        self.sources = {path: Source(path, text, homes) for path, text in sources_of(crate).items()}
         self.definitions = definitions_of(crate)
 
     def record(self):
@@ -368,102 +375,93 @@ class Trial:
         proofs = [(path, text) for path, text in self.definitions.items() if path.endswith(OWN_PROOFS) and function.owns_file(path)]
         return sum_of(source.words_in(function), proofs, edit_text(edit.file))
 
-    def check(self, texts, kept):
+    def check(self, group, texts):
+        """Checks the edited functions of a group, and those that they call."""
+        only = [word for it in group for word in ("--only", it.function.path)]
         with self.slots:
             self.checks += 1
-            return kit.rt.checked(self.crate, texts, FLAGS, kept)
+            return kit.rt.checked(self.crate, texts, [*FLAGS, *only], None)
 
-    def keep(self):
-        """The folder of what was checked of the unchanged crate, and what the check said; None where the crate isn't proved."""
-        kept = f"{self.room}/kept"
-        shutil.rmtree(self.room, ignore_errors=True)
-        os.makedirs(self.room)
-        seed = f"{self.crate.folder}/out/incremental"
-        if os.path.isdir(seed):
-            shutil.copytree(seed, kept)
-        else:
-            os.mkdir(kept)
-        ran = self.check({}, kept)
-        said = Said(ran.stdout, self.crate.name)
-        if ran.returncode or not said.last.startswith("logic=proved"):
-            self.log += said.lines[-3:]
-            return None, said
-        return kept, said
-
-    def over_a_copy(self, kept, call):
-        """A check writes what it made of the edited text over what was kept, so each gets a copy."""
-        with tempfile.TemporaryDirectory(dir=self.room) as room:
-            subprocess.run(["cp", "-a", "--reflink=auto", kept, f"{room}/kept"], check=True)
-            return call(f"{room}/kept")
-
-    def alone(self, edit, kept):
+    def alone(self, edit):
+        if edit.function is not None:
+            found = self.together([edit])
+            if edit in found:
+                return found[edit]
         with self.slots:
             self.checks += 1
-            outcome, text = self.over_a_copy(kept, lambda room: kit.rt.must_fail(self.crate, edit.file, FLAGS, room))
+            outcome, text = self.over_kept_work(lambda room: kit.rt.must_fail(self.crate, edit.file, FLAGS, room))
         said = text.partition(f"{edit.name}: ")[2] or text
         return verdict_alone(outcome, said), f"alone: {said}"
 
-    def together(self, group, kept):
+    def over_kept_work(self, call):
+        """A check of the whole crate writes over what it is given of earlier checks, so it gets a copy."""
+        kept = f"{self.crate.folder}/out/incremental"
+        # (what was checked over whole libraries is of no use over their statements)
+        if self.given.gate or not os.path.isdir(kept):
+            return call(None)
+        with tempfile.TemporaryDirectory(prefix="wrong-bodies-", dir=f"{self.crate.folder}/out") as room:
+            subprocess.run(["cp", "-a", "--reflink=auto", kept, f"{room}/kept"], check=True)
+            return call(f"{room}/kept")
+
+    def together(self, group):
         """The verdicts that one check of these edits gives. Those that it leaves open aren't in it."""
         texts, placed = {}, {}
         for path in {it.path for it in group}:
-            texts[path] = self.sources[path].with_bodies({it.number: it.body for it in group if it.path == path})
-            functions = Source(path, texts[path]).functions
+            texts[path] = self.sources[path].with_functions({it.number: it.new for it in group if it.path == path})
+            functions = self.sources[path].with_text(texts[path]).functions
             if functions is None:
-                return self.halves(group, kept)
+                return self.halves(group)
             placed.update({it: functions[it.number] for it in group if it.path == path})
-        ran = self.over_a_copy(kept, lambda room: self.check(texts, room))
+        ran = self.check(group, texts)
         said = Said(ran.stdout, self.crate.name)
         if not said.is_reached() or kit.rtlib.STALE.search(ran.stdout) or any(kit.rt.unread(it, texts) for it in said.lines):
-            return self.without_blamed(group, placed, said, kept)
+            return self.without_blamed(group, placed, said)
         refused = judge(said, group, placed) if ran.returncode else {}
         if refused is None:
             self.log.append(f"a check of {len(group)} has an error that is none of its functions': {[it.name for it in group]}")
-            return self.halves(group, kept)
-        found = {it: (REFUSED, f"with {len(group) - 1} others: {why}") for it, why in refused.items()}
+            return self.halves(group)
+        how = f"with {len(group) - 1} others" if len(group) > 1 else "alone"
+        found = {it: (REFUSED, f"{how}: {why}") for it, why in refused.items()}
         self.verdicts.update(found)
         self.write_record()
         return found
 
-    def without_blamed(self, group, placed, said, kept):
+    def without_blamed(self, group, placed, said):
         """Tries the edits again without those at whose lines something couldn't be read."""
         blamed = set()
         for line in said.lines:
             at = re.search(r"(?:\./)?(src/\S+?):(\d+)(?::\d+)?\b", line)
             if at:
                 blamed |= {it for it in group if it.path == at[1] and placed[it].first <= int(at[2]) <= placed[it].last}
+            unknown = NO_FUNCTION.search(line)
+            blamed |= {it for it in group if unknown and it.function.path == unknown[1]}
         self.log.append(f"a check of {len(group)} did not reach the prover; blamed: {sorted(it.name for it in blamed)}")
         if not blamed:
-            return self.halves(group, kept)
+            return self.halves(group)
         rest = [it for it in group if it not in blamed]
-        return self.together(rest, kept) if len(rest) > 1 else {}
+        return self.together(rest) if len(rest) > 1 else {}
 
-    def halves(self, group, kept):
+    def halves(self, group):
         half, found = len(group) // 2, {}
         for part in (group[:half], group[half:]):
-            found.update(self.together(part, kept) if len(part) > 1 else {})
+            found.update(self.together(part) if len(part) > 1 else {})
         return found
 
     def try_all(self, edits, texts):
-        kept, said = self.keep()
-        if kept is None:
-            self.verdicts.update({it: (UNPROVED, "the crate itself is not proved") for it in edits})
-            return
-        proved = said.proved_functions()
-        left = [it for it in edits if not self.given.alone and it.place(texts[it], self.sources, proved)]
+        placed = [it for it in edits if it.place(texts[it], self.sources)]
+        left = [] if self.given.alone else placed
         neighbours = Neighbours(self.crate, self.sources)
         with ThreadPoolExecutor(self.given.jobs) as pool:
             while len(left) > 1:
                 found = {}
-                for refused in pool.map(lambda it: self.together(it, kept) if len(it) > 1 else {}, neighbours.groups(left)):
+                for refused in pool.map(lambda it: self.together(it) if len(it) > 1 else {}, neighbours.groups(left)):
                     found.update(refused)
                 left = [it for it in left if it not in found]
                 if not found:
                     break
             alone = [it for it in edits if it not in self.verdicts]
             self.log.append(f"tried alone: {[it.name for it in alone]}")
-            self.verdicts.update(zip(alone, pool.map(lambda it: self.alone(it, kept), alone)))
-        shutil.rmtree(self.room, ignore_errors=True)
+            self.verdicts.update(zip(alone, pool.map(self.alone, alone)))
 
     def sort_out(self):
         """Settles the edits that need no check, and gives those that are left with their texts, and the recorded ones that aren't there."""
@@ -511,11 +509,17 @@ def arguments(words):
     return given
 
 
-def build_below(crates, jobs):
-    """Builds the libraries below these crates, and says which of the crates can be checked."""
-    libraries = [it for it in kit.in_order({below for crate in crates for below in crate.below()})]
-    built = kit.run_tasks([kit.proof_task(it, True) for it in libraries], lanes=jobs)
-    return [it for it in crates if all(built[below.name] for below in it.below())]
+def proved_by_ci(crates):
+    """Which of these crates `rt ci` has proved: those that it has built, and their libraries too. (A program that isn't proved fails there.)"""
+    return [it for it in crates if all(os.path.isdir(one.rlib) for one in [*it.below(), it] if one.makes_rlib())]
+
+
+def proved_now(crates, jobs):
+    """Proves these crates, over what earlier runs kept, and what they stand on, and says which are proved."""
+    some = kit.in_order({one for crate in crates for one in [*crate.below(), crate]})
+    used = {below for it in some for below in it.deps}
+    proved = kit.run_tasks([kit.proof_task(it, it in used) for it in some], lanes=jobs)
+    return [it for it in crates if proved[it.name]]
 
 
 def main(words):
@@ -529,7 +533,7 @@ def main(words):
     slots, surfaces, printing = threading.Semaphore(given.jobs), Surfaces(), threading.Lock()
     trials = {it: Trial(it, given, slots, surfaces) for it in crates}
     stale = [it for it in crates if trials[it].sort_out()[0]]
-    ready = build_below(stale, given.jobs)
+    ready = proved_by_ci(stale) if given.gate else proved_now(stale, given.jobs)
     # (from here on the repository is only read, as `rt must-fail` does, which holds no lock either)
     for it in held:
         os.close(it)
@@ -542,7 +546,7 @@ def main(words):
         if crate in stale and crate not in ready:
             with printing:
                 counts[UNPROVED] = counts.get(UNPROVED, 0) + 1
-                print(f"{crate.name}: UNPROVED: a library below it is not proved", flush=True)
+                print(f"{crate.name}: UNPROVED: it is not proved, or a library below it isn't", flush=True)
             return
         new, missing = trial.run()
         with printing:

@@ -61,7 +61,7 @@ impl Graph {
         let mut imports = Vec::new(alloc);
         let mut public = Vec::new(alloc);
         for file in files {
-            let imported = imports_of(alloc, files, &file.facts)?;
+            let imported = imports_of(alloc, files, file.facts.get())?;
             imports.push(imported.targets(alloc)?)?;
             public.push(imported.public_targets(alloc)?)?;
             file_imports.push(imported)?;

@@ -21,6 +21,7 @@ mod laws;
 mod outlook;
 mod paths;
 mod shared;
+mod shared_facts;
 mod ties;
 mod tour;
 
@@ -29,3 +30,4 @@ pub use imports::{FileImports, ImportEdge};
 pub use laws::{closure_law, one_view, view_law};
 pub use outlook::same_outlook;
 pub use paths::{FileNo, NamedFacts, are_in_path_order};
+pub use shared_facts::SharedFacts;

@@ -6,7 +6,8 @@ ghost use Rattle.std.specs.Cmp.Lexicographic.{slice_cmp};
 ghost use Rattle.std.specs.Ordering.{nat_cmp};
 ghost use Rattle.import_graph.specs.Paths.{IsInPathOrder, slash, file_named};
 
-use file_facts::{FileFacts, Name};
+use crate::shared_facts::SharedFacts;
+use file_facts::Name;
 use std::cmp::Ordering;
 
 /// The number of a file: its place, counted from 0, in the list of files in the order of their paths.
@@ -19,7 +20,7 @@ pub struct NamedFacts {
     /// which no import names.
     pub path: Name,
     /// The facts of the file's text.
-    pub facts: FileFacts,
+    pub facts: SharedFacts,
 }
 
 impl NamedFacts {

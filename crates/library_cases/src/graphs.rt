@@ -4,8 +4,8 @@ ghost use Rattle.import_graph.specs.Imports.{graph_of, edges_at};
 
 use crate::fact_lists::{facts_in, facts_of};
 use case_notation::{Answer, field, file_of, first_word};
-use import_graph::{FileNo, Graph, NamedFacts, are_in_path_order, same_outlook};
-use proto_facts::{FileFacts, Name};
+use import_graph::{FileNo, Graph, NamedFacts, SharedFacts, are_in_path_order, same_outlook};
+use proto_facts::Name;
 use std::alloc::{AllocError, Global};
 
 /// Writes the answer to a call on graphs of files.
@@ -25,7 +25,7 @@ pub fn answer(alloc: Global, line: &mut String, call: &str, fields: &[&str]) -> 
 pub fn named_facts(alloc: Global, path: String, text: &str) -> Result<NamedFacts, AllocError> {
     Ok(NamedFacts {
         path: Name::of(path),
-        facts: facts_of(alloc, text)?,
+        facts: SharedFacts::of(alloc, facts_of(alloc, text)?)?,
     })
 }
 
@@ -51,14 +51,14 @@ fn change(alloc: Global, files: &mut Vec<NamedFacts>, fields: &[&str]) -> Result
     for field in fields {
         if let Some(change) = field.strip_prefix("> ") {
             let (path, text) = first_word(change);
-            put(files, path, facts_in(alloc, text)?);
+            put(files, path, SharedFacts::of(alloc, facts_in(alloc, text)?)?);
         }
     }
     Ok(())
 }
 
 // Puts other facts at a path.
-fn put(files: &mut Vec<NamedFacts>, path: &str, facts: FileFacts) {
+fn put(files: &mut Vec<NamedFacts>, path: &str, facts: SharedFacts) {
     for file in files.iter_mut() {
         if file.path.as_str() == path {
             file.facts = facts;
@@ -98,7 +98,7 @@ fn show_file(
     requires file { file < length files.now }
 {
     write!(line, "{file}:")?;
-    for import in 0..files[file].facts.imports.as_slice().len() {
+    for import in 0..files[file].facts.get().imports.as_slice().len() {
         show_import(line, graph, file, import)?;
     }
     write_view(line, graph, file)
@@ -161,7 +161,7 @@ fn closing_imports(graph: &Graph, files: &[NamedFacts], file: FileNo) -> Result<
     requires file { file < length files.now }
 {
     let mut count: u32 = 0;
-    for import in 0..files[file].facts.imports.as_slice().len() {
+    for import in 0..files[file].facts.get().imports.as_slice().len() {
         if graph.closes_cycle(file, import)? {
             count = count.wrapping_add(1);
         }

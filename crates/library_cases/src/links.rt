@@ -6,7 +6,7 @@ use crate::graphs::{files_of, named_facts};
 use crate::places::{write_diagnostics, write_place};
 use crate::texts::tree_of;
 use case_notation::{Answer, Trouble, field, first_word, plain};
-use import_graph::{Graph, NamedFacts, are_in_path_order, same_outlook};
+use import_graph::{Graph, NamedFacts, SharedFacts, are_in_path_order, same_outlook};
 use proto_facts::FileFacts;
 use proto_resolve::{
     Index, Links, NameUse, Table, Target, resolve_file, same_exports, same_imports,
@@ -144,13 +144,23 @@ fn write_named(line: &mut String, table: &Table, names: &[&str]) -> Result<(), A
 // first one's, whether the file is closed then and was before, and whether its graphs look alike.
 fn write_replaced(alloc: Global, line: &mut String, fields: &[&str]) -> Answer<()> {
     let table = alone(alloc, field(fields, 0))?;
-    let other = facts_in(alloc, field(fields, 1))?;
+    let other = SharedFacts::of(alloc, facts_in(alloc, field(fields, 1))?)?;
     let (table, before) = table.replace_facts(alloc, 0, other)?;
+    Ok(write_after(line, &table, &before, fields)?)
+}
+
+fn write_after(
+    line: &mut String,
+    table: &Table,
+    before: &Graph,
+    fields: &[&str],
+) -> Result<(), AllocError>
+    requires { 0 < length before.now }
+{
     if table.len() == 1 {
-        write_graphs(line, &before, table.graph())?;
+        write_graphs(line, before, table.graph())?;
     }
-    write_replacement(line, &table, fields)?;
-    Ok(())
+    write_replacement(line, table, fields)
 }
 
 fn write_replacement(line: &mut String, table: &Table, fields: &[&str]) -> Result<(), AllocError> {
@@ -180,8 +190,7 @@ fn write_set(alloc: Global, line: &mut String, fields: &[&str]) -> Answer<()> {
     if !same_exports(&other, table.facts(0)) || !same_imports(&other, table.facts(0)) {
         return Err(Trouble::Unknown("not alike"));
     }
-    table.set_facts(0, other);
+    table.set_facts(0, SharedFacts::of(alloc, other)?);
     line.push_str("set")?;
-    write_replacement(line, &table, fields)?;
-    Ok(())
+    Ok(write_replacement(line, &table, fields)?)
 }

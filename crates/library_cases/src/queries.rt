@@ -162,6 +162,23 @@ fn write_asked(alloc: Global, line: &mut String, asked: Asked<'_>, question: &st
     }
 }
 
+// Writes the answers to the fields with `? ` at the front.
+fn write_answers(
+    alloc: Global,
+    line: &mut String,
+    asked: Asked<'_>,
+    fields: &[&str],
+) -> Answer<()> {
+    for field in fields {
+        if let Some(question) = field.strip_prefix("? ") {
+            write!(line, "{question}:")?;
+            write_asked(alloc, line, asked, question)?;
+            line.push_str("; ")?;
+        }
+    }
+    Ok(())
+}
+
 /// Writes the answers to the questions about some files, which are fields with `? ` at the front.
 pub fn answer(alloc: Global, line: &mut String, fields: &[&str]) -> Answer<()> {
     let files = files_in(alloc, fields)?;
@@ -172,12 +189,5 @@ pub fn answer(alloc: Global, line: &mut String, fields: &[&str]) -> Answer<()> {
         analysis: &analysis,
         pieces,
     };
-    for field in fields {
-        if let Some(question) = field.strip_prefix("? ") {
-            write!(line, "{question}:")?;
-            write_asked(alloc, line, asked, question)?;
-            line.push_str("; ")?;
-        }
-    }
-    Ok(())
+    write_answers(alloc, line, asked, fields)
 }

@@ -44,7 +44,7 @@ fn write_piece(line: &mut String, piece: &Piece<FileWork>) -> Result<(), AllocEr
     let stamp = piece.stamp();
     write!(line, "; {path}@{stamp} ")?;
     push_shown(line, piece.text())?;
-    write_facts(line, &piece.out().facts)
+    write_facts(line, piece.out().facts.get())
 }
 
 // What is known of a file of an analysis.
@@ -88,26 +88,64 @@ fn once_each(alloc: Global, pieces: &[Piece<FileWork>]) -> Result<String, AllocE
     Ok(line)
 }
 
-// Writes where an analysis by so many threads says another thing than this one, or where a file didn't come to the gate once.
+// What an analysis by so many threads has to say.
+#[derive(Clone, Copy)]
+struct Expected<'a> {
+    whole: &'a str,
+    workers: usize,
+}
+
+fn note_said(line: &mut String, said: &str, expected: Expected<'_>) -> Result<(), AllocError> {
+    if said != expected.whole {
+        let workers = expected.workers;
+        write!(line, "; but by {workers} threads:{said}")?;
+    }
+    Ok(())
+}
+
+fn note_came(
+    line: &mut String,
+    came: &str,
+    once: &str,
+    expected: Expected<'_>,
+) -> Result<(), AllocError> {
+    if came != once {
+        let workers = expected.workers;
+        write!(line, "; but with {workers} threads there came{came}")?;
+    }
+    Ok(())
+}
+
+// How often each file came to the gate.
+fn came(alloc: Global, shared: &Shared) -> Result<String, AllocError> {
+    let mut line = String::new(alloc);
+    shared.gate.write(&mut line)?;
+    Ok(line)
+}
+
+fn note_shared(
+    alloc: Global,
+    line: &mut String,
+    shared: &Shared,
+    expected: Expected<'_>,
+) -> Result<(), AllocError> {
+    let said = everything(alloc, &shared.found, shared.lent.pieces())?;
+    note_said(line, said.as_str(), expected)?;
+    let came = came(alloc, shared)?;
+    let once = once_each(alloc, shared.lent.pieces())?;
+    note_came(line, came.as_str(), once.as_str(), expected)
+}
+
+// Writes where an analysis by threads says another thing than is expected, or where a file didn't come to the gate once.
 fn note<R: Threads + Wait>(
     rt: &R,
     alloc: Global,
     line: &mut String,
     files: &[&str],
-    whole: &str,
-    workers: usize,
+    expected: Expected<'_>,
 ) -> Answer<()> {
-    let shared = analysed(rt, alloc, files, workers, false)?;
-    let other = everything(alloc, &shared.found, shared.lent.pieces())?;
-    if other.as_str() != whole {
-        write!(line, "; but by {workers} threads:{other}")?;
-    }
-    let mut visits = String::new(alloc);
-    shared.gate.write(&mut visits)?;
-    if visits.as_str() != once_each(alloc, shared.lent.pieces())?.as_str() {
-        write!(line, "; but with {workers} threads there came{visits}")?;
-    }
-    Ok(())
+    let shared = analysed(rt, alloc, files, expected.workers, false)?;
+    Ok(note_shared(alloc, line, &shared, expected)?)
 }
 
 /// Writes where an analysis of these files by threads says another thing than this one, which was made by none, with each number of
@@ -122,7 +160,11 @@ pub fn note_differences<R: Threads + Wait>(
     let pieces = pieces_at(alloc, files)?;
     let whole = everything(alloc, found, pieces.pieces())?;
     for workers in WORKERS {
-        note(rt, alloc, line, files, whole.as_str(), workers)?;
+        let expected = Expected {
+            whole: whole.as_str(),
+            workers,
+        };
+        note(rt, alloc, line, files, expected)?;
     }
     Ok(())
 }

@@ -16,6 +16,7 @@ use lsp_frame::{ByteSink, write_bytes};
 use lsp_workspace::Snapshot;
 use std::alloc::Global;
 use std::marker::Send;
+use std::mem;
 use std::sync::{Arc, Wait};
 use std::thread::Threads;
 use work_index::Gate;
@@ -95,6 +96,9 @@ fn send_and_judge<K: ByteSink>(
 /// are files: 0 counts as 1, and over 64 as 64. Each enters the gate before it works on a text, and before it links a file, and
 /// all have ended when the first line is written. How many there are takes no part in what is written.
 ///
+/// What is known of the files is never freed, since freeing it takes a good part of a check's time: call it where the process ends
+/// soon after.
+///
 /// The only faults are `Write` where the sink failed, `Memory` where memory was refused, also to a worker, or where a job
 /// couldn't be sent, and `ThreadRefused` where a thread was or where no worker is left. Whatever it ends with, what was written
 /// is a prefix of the lines, and all of them where no fault came.
@@ -121,7 +125,11 @@ pub fn check<R: Threads + Wait + Clone + Send + Drop + 'static, K: ByteSink, G: 
     ensures once { (K.counts writer.new).errors ≤ (K.counts writer.old).errors + 1 }
 {
     match analyse_files(rt, alloc, gate, config, workers) {
-        Ok(workspace) => send_and_judge(alloc, writer, &workspace.snapshot()),
+        Ok(workspace) => {
+            let found = send_and_judge(alloc, writer, &workspace.snapshot());
+            mem::forget(workspace);
+            found
+        }
         Err(fault) => Err(fault),
     }
 }

@@ -1,22 +1,29 @@
 -- Declarations by the last components of their names.
-use Rattle.std.proofs.Common.{◌≡◌, ◌∙◌, sym, ap, subst, refl, inl, inr, ◌&&◌, ◌<◌, ◌+◌, ℕ, List, [], ◌∷◌, Bool, true, map, filter, get_or, length, bytes_eq, arith}
-use Rattle.std.specs.Prelude.{All, String, Vec}
+use Rattle.std.proofs.Common.{◌≡◌, ◌∙◌, sym, ap, ap₂, subst, refl, inl, inr, ◌&&◌, ◌<◌, ◌+◌, ℕ, List, [], ◌∷◌, Bool, true, false, map, filter, get_or, length, bytes_eq, arith}
+use Rattle.std.specs.Prelude.{All}
 use Rattle.std.specs.List.{list_any}
-use Rattle.std.specs.List.Sorted.{IsSortedBy}
-use Rattle.std.specs.BTreeMap.{BTreeMap}
+use Rattle.std.specs.List.Sorted.{IsPermutation, IsSorted, IsSortedBy}
+use Rattle.std.specs.Cmp.{IsTotalOrder}
 use Rattle.std.specs.Cmp.Lexicographic.{slice_cmp}
-use Rattle.std.specs.Ordering.{is_lt, nat_cmp}
-use Rattle.std.specs.declared.alloc.Global.{Global}
+use Rattle.std.specs.Ordering.{is_lt, nat_cmp, ordering_then}
+use Rattle.std.specs.declared.cmp.Ordering.{Ordering}
+use Rattle.std.specs.declared.cmp.Ordering.TheVariants.{Less, Equal, Greater}
 use Rattle.std.proofs.Math.Path.{fun_ext}
 use Rattle.std.proofs.lemmas.Bool.{cases_Bool}
-use Rattle.std.proofs.lemmas.Cmp.{nat_list_cmp_total}
+use Rattle.std.proofs.lemmas.Cmp.{nat_list_cmp_total, on_total, then_total, tied_itself}
 use Rattle.std.proofs.lemmas.List.{get_or-map, length-map}
-use Rattle.std.proofs.lemmas.List.Elements.{All-cons, All-head, All-nil, All-tail}
+use Rattle.std.proofs.lemmas.List.Elements.{All-cons, All-head, All-tail, filter_passes}
 use Rattle.std.proofs.lemmas.List.Kept.{IsSortedBy-filter}
-use Rattle.std.proofs.lemmas.List.Sorted.{ranks_by}
+use Rattle.std.proofs.lemmas.List.Sorted.{All-permutation, IsPermutation-map, list_any-IsPermutation, ranks_by}
 use Rattle.std.proofs.lemmas.Slice.Eq.{bytes_eq-Decides}
+use Rattle.file_facts.specs.Text.{joined}
+use Rattle.proto_resolve.specs.declared.hashed.HashedDecl.{HashedDecl}
 use Rattle.proto_resolve.specs.declared.target.DeclRef.{DeclRef}
-use Rattle.proto_resolve.specs.Tables.{scope_before, stands_in, AreByLast, IsByScope}
+use Rattle.proto_resolve.specs.Hashed.{hash_of, hashed, is_before}
+use Rattle.proto_resolve.specs.Holders.{has_dot}
+use Rattle.proto_resolve.specs.Tables.{by_scope, last_of, of_last, scope_before, scope_of, stands_in, AreByLast, IsByScope}
+use Rattle.proto_resolve.proofs.Hashes.{all_fit, decls_back, keeps_mapped, put_by_hash, Fits}
+use Rattle.proto_resolve.proofs.LastParts.{parts_of_any}
 
 pub any_kept : {X : Type 0} (p g : X → Bool) (xs : List X) → list_any g (filter p xs) ≡ list_any (λ x. p x && g x) xs
 any_kept p g [] = refl
@@ -25,53 +32,130 @@ any_kept p g (x ∷ xs) = elim (cases_Bool (p x)) [
   | inr fails ↦ rw (fails, any_kept p g xs) refl
 ]
 
-module _ {H : Type 0} (scope last : H → List ℕ) (decl : H → DeclRef) (name : DeclRef → List ℕ) where
-  abbrev pub Fits : H → Type 0
-  Fits h = scope h ≡ scope_before (length (last h)) (name (decl h))
+keeps_fits : {X : Type 0} (P : X → Type 0) (p : X → Bool) (xs : List X) → All P xs → All P (filter p xs)
+keeps_fits P p [] all = all
+keeps_fits P p (x ∷ xs) all = elim (cases_Bool (p x)) [
+  | inl passes ↦ rw passes (All-cons P x (filter p xs) (All-head P x xs all) (keeps_fits P p xs (All-tail P x xs all)))
+  | inr fails ↦ rw fails (keeps_fits P p xs (All-tail P x xs all))
+]
 
-  abbrev pub group : List ℕ → List H → List DeclRef
-  group q hs = map decl (filter (λ h. bytes_eq (last h) q) hs)
+-- ---- in the order of two tests
 
-  fits : (q : List ℕ) (h : H) → Fits h → bytes_eq (last h) q ≡ true → scope_before (length q) (name (decl h)) ≡ scope h
-  fits q h is holds = ap (λ l. scope_before (length l) (name (decl h))) (sym ((bytes_eq-Decides (last h) q).0 holds)) ∙ sym is
+first_of_two : (o p : Ordering) → is_lt (ordering_then o p) ≡ false → is_lt o ≡ false
+first_of_two Less p e = absurd (cc (e))
+first_of_two Equal p e = refl
+first_of_two Greater p e = refl
 
-  pub group_has : (s q : List ℕ) (hs : List H) → All Fits hs → stands_in name (length q) (group q hs) s ≡ list_any (λ h. bytes_eq (last h) q && bytes_eq (scope h) s) hs
-  group_has s q [] all = refl
-  group_has s q (h ∷ hs) all = elim (cases_Bool (bytes_eq (last h) q)) [
-    | inl holds ↦ rw (holds, fits q h (All-head Fits h hs all) holds, group_has s q hs (All-tail Fits h hs all)) refl
-    | inr fails ↦ rw (fails, group_has s q hs (All-tail Fits h hs all)) refl
+second_of_two : (o p : Ordering) → o ≡ Equal → is_lt (ordering_then o p) ≡ false → is_lt p ≡ false
+second_of_two Less p tied e = absurd (cc (tied))
+second_of_two Equal p tied e = e
+second_of_two Greater p tied e = absurd (cc (tied))
+
+module _ (name : DeclRef → List ℕ) where
+  abbrev last_at : DeclRef → List ℕ
+  last_at r = last_of (name r)
+
+  pub scopes_total : IsTotalOrder (by_scope name)
+  scopes_total = then_total (on_total (λ (k : HashedDecl). k.hash ∷ last_at k.decl) nat_list_cmp_total) (on_total (λ (k : HashedDecl). scope_of (name k.decl)) nat_list_cmp_total)
+
+  abbrev goes_before : HashedDecl → HashedDecl → Bool
+  goes_before a b = is_lt (by_scope name a b)
+
+  by_last_first : (gs : List HashedDecl) → IsSorted (by_scope name) gs → IsSortedBy (is_before last_at) gs
+  by_last_first gs sorted k d from lt =
+      let a = get_or gs (k + 1) d in
+      let b = get_or gs k d in
+      first_of_two (slice_cmp nat_cmp (a.hash ∷ last_at a.decl) (b.hash ∷ last_at b.decl)) (slice_cmp nat_cmp (scope_of (name a.decl)) (scope_of (name b.decl))) (sorted k d from lt)
+
+  module _ (gs : List HashedDecl) (sorted : IsSorted (by_scope name) gs) (fits : All (Fits (λ (k : HashedDecl). k.hash) (λ k. k.decl) last_at) gs) (q : List ℕ) where
+    abbrev has_it : HashedDecl → Bool
+    has_it k = bytes_eq (last_at k.decl) q
+
+    kept : List HashedDecl
+    kept = filter has_it gs
+
+    kept_sorted : IsSortedBy goes_before (filter has_it gs)
+    kept_sorted = IsSortedBy-filter goes_before (ranks_by scopes_total (λ k. k)) has_it gs sorted
+
+    itself : (k : ℕ) (d : HashedDecl) → k < length (filter has_it gs) → last_at (let h = get_or (filter has_it gs) k d in h.decl) ≡ q
+    itself k d lt = (bytes_eq-Decides (last_at (let h = get_or (filter has_it gs) k d in h.decl)) q).0 (filter_passes has_it gs k d lt)
+
+    hashed_so : (k : ℕ) (d : HashedDecl) → k < length (filter has_it gs) → (let h = get_or (filter has_it gs) k d in h.hash) ≡ hash_of q
+    hashed_so k d lt = keeps_fits (Fits (λ (k : HashedDecl). k.hash) (λ k. k.decl) last_at) has_it gs fits k d lt ∙ ap hash_of (itself k d lt)
+
+    neighbours : (k : ℕ) (d : HashedDecl) → k + 1 < length (filter has_it gs)
+        → is_lt (slice_cmp nat_cmp (scope_before (length q) (name (let h = get_or (filter has_it gs) (k + 1) d in h.decl))) (scope_before (length q) (name (let h = get_or (filter has_it gs) k d in h.decl)))) ≡ false
+    neighbours k d lt =
+        let a = get_or (filter has_it gs) (k + 1) d in
+        let b = get_or (filter has_it gs) k d in
+        let first : last_at a.decl ≡ q = itself (k + 1) d lt in
+        let second : last_at b.decl ≡ q = itself k d (omega (arith, lt)) in
+        let equal : a.hash ∷ last_at a.decl ≡ b.hash ∷ last_at b.decl =
+        ap₂ (λ (h : ℕ) (l : List ℕ). h ∷ l) (hashed_so (k + 1) d lt ∙ sym (hashed_so k d (omega (arith, lt)))) (first ∙ sym second) in
+        let tied : slice_cmp nat_cmp (a.hash ∷ last_at a.decl) (b.hash ∷ last_at b.decl) ≡ Equal =
+        ap (λ l. slice_cmp nat_cmp l (b.hash ∷ last_at b.decl)) equal ∙ tied_itself nat_list_cmp_total (b.hash ∷ last_at b.decl) in
+        let up : is_lt (slice_cmp nat_cmp (scope_of (name a.decl)) (scope_of (name b.decl))) ≡ false =
+        second_of_two (slice_cmp nat_cmp (a.hash ∷ last_at a.decl) (b.hash ∷ last_at b.decl)) (slice_cmp nat_cmp (scope_of (name a.decl)) (scope_of (name b.decl))) tied (kept_sorted k d (omega arith) lt) in
+        let here : scope_of (name a.decl) ≡ scope_before (length q) (name a.decl) = ap (λ l. scope_before (length l) (name a.decl)) first in
+        let there : scope_of (name b.decl) ≡ scope_before (length q) (name b.decl) = ap (λ l. scope_before (length l) (name b.decl)) second in
+        ap₂ (λ (x y : List ℕ). is_lt (slice_cmp nat_cmp x y)) (sym here) (sym there) ∙ up
+
+    abbrev decl_of : HashedDecl → DeclRef
+    decl_of k = k.decl
+
+    abbrev AreNeighbours : List HashedDecl → Type 0
+    AreNeighbours hs = (k : ℕ) (d : HashedDecl) → k + 1 < length hs
+        → is_lt (slice_cmp nat_cmp (scope_before (length q) (name (decl_of (get_or hs (k + 1) d)))) (scope_before (length q) (name (decl_of (get_or hs k d))))) ≡ false
+
+    into_decls : (hs : List HashedDecl) → AreNeighbours hs → IsByScope name (length q) (map decl_of hs)
+    into_decls [] pairs k d from lt = absurd (omega (arith, lt))
+    into_decls (h ∷ hs) pairs k d from lt =
+        let long : k + 1 < length (h ∷ hs) = rw (length-map (h ∷ hs) decl_of) at lt in
+        rw (get_or-map decl_of (h ∷ hs) k h d (omega (arith, long)), get_or-map decl_of (h ∷ hs) (k + 1) h d long) (pairs k h long)
+
+    pub of_one_last : IsByScope name (length q) (of_last name (map decl_of gs) q)
+    of_one_last = subst (IsByScope name (length q)) (sym (keeps_mapped (λ r. bytes_eq (last_at r) q) decl_of gs)) (into_decls (filter has_it gs) neighbours)
+
+  -- ---- which there are
+
+  both_parts : (s q : List ℕ) → has_dot q ≡ false → (n : List ℕ) → (bytes_eq (last_of n) q && bytes_eq (scope_before (length q) n) s) ≡ bytes_eq n (joined s q)
+  both_parts s q plain n = elim (cases_Bool (bytes_eq (last_of n) q)) [
+    | inl holds ↦
+        let is : last_of n ≡ q = (bytes_eq-Decides (last_of n) q).0 holds in
+        ap (λ l. bytes_eq (last_of n) q && bytes_eq (scope_before (length l) n) s) (sym is) ∙ (parts_of_any n).only s q plain
+    | inr fails ↦ rw fails (rw fails at ((parts_of_any n).only s q plain))
   ]
 
-  abbrev FitsIn : List ℕ → H → Type 0
-  FitsIn q h = scope_before (length q) (name (decl h)) ≡ scope h
+  other_way : (a b c : Bool) → b ≡ c → (a && b) ≡ (c && a)
+  other_way true b true e = e
+  other_way true b false e = e
+  other_way false b true e = refl
+  other_way false b false e = refl
 
-  kept : (q : List ℕ) (hs : List H) → All Fits hs → All (FitsIn q) (filter (λ h. bytes_eq (last h) q) hs)
-  kept q [] all = All-nil (FitsIn q)
-  kept q (h ∷ hs) all = elim (cases_Bool (bytes_eq (last h) q)) [
-    | inl holds ↦ rw holds (All-cons (FitsIn q) h (filter (λ h. bytes_eq (last h) q) hs) (fits q h (All-head Fits h hs all) holds) (kept q hs (All-tail Fits h hs all)))
-    | inr fails ↦ rw fails (kept q hs (All-tail Fits h hs all))
-  ]
+  pub stands_alike : (holder : DeclRef → Bool) (decls ds : List DeclRef) → IsPermutation (filter holder decls) ds → (s q : List ℕ) → has_dot q ≡ false
+      → stands_in name (length q) (of_last name ds q) s ≡ list_any (λ r. bytes_eq (name r) (joined s q) && holder r) decls
+  stands_alike holder decls ds moved s q plain =
+      let both : DeclRef → Bool = λ r. bytes_eq (last_of (name r)) q && bytes_eq (scope_before (length q) (name r)) s in
+      any_kept (λ r. bytes_eq (last_of (name r)) q) (λ r. bytes_eq (scope_before (length q) (name r)) s) ds
+      ∙ sym (list_any-IsPermutation (λ r. bytes_eq (last_of (name r)) q && bytes_eq (scope_before (length q) (name r)) s) (filter holder decls) ds moved)
+      ∙ any_kept holder (λ r. bytes_eq (last_of (name r)) q && bytes_eq (scope_before (length q) (name r)) s) decls
+      ∙ ap (λ (test : DeclRef → Bool). list_any test decls) (fun_ext (λ r. other_way (holder r) (bytes_eq (last_of (name r)) q && bytes_eq (scope_before (length q) (name r)) s) (bytes_eq (name r) (joined s q)) (both_parts s q plain (name r))))
 
-  abbrev ByScope : List H → Type 0
-  ByScope hs = IsSortedBy (λ a b. is_lt (slice_cmp nat_cmp (scope a) (scope b))) hs
+  pub put_by_last : (holder : DeclRef → Bool) (decls : List DeclRef) (gs : List HashedDecl) → IsPermutation (map (hashed last_at) (filter holder decls)) gs → IsSorted (by_scope name) gs
+      → AreByLast name (λ n. list_any (λ r. bytes_eq (name r) n && holder r) decls) (map (λ (k : HashedDecl). k.hash) gs) (map (λ (k : HashedDecl). k.decl) gs)
+  put_by_last holder decls gs moved sorted =
+      let ds : List DeclRef = filter holder decls in
+      let fits = All-permutation (Fits (λ (k : HashedDecl). k.hash) (λ k. k.decl) last_at) (map (hashed last_at) ds) gs moved (all_fit last_at ds) in
+      let moved' : IsPermutation (filter holder decls) (map (λ (k : HashedDecl). k.decl) gs) =
+      subst (λ xs. IsPermutation xs (map (λ (k : HashedDecl). k.decl) gs)) (decls_back last_at ds) (IsPermutation-map (λ (k : HashedDecl). k.decl) (map (hashed last_at) ds) gs moved) in
+      record {
+        hashed = put_by_hash last_at ds gs moved (by_last_first gs sorted);
+        all = λ s q plain. stands_alike holder decls (map (λ (k : HashedDecl). k.decl) gs) moved' s q plain;
+        ordered = λ q. of_one_last gs sorted fits q;
+      }
 
-  into_decls : (q : List ℕ) (hs : List H) → All (FitsIn q) hs → ByScope hs → IsByScope name (length q) (map decl hs)
-  into_decls q [] all sorted k d from lt = absurd (omega (arith, lt))
-  into_decls q (h ∷ hs) all sorted k d from lt =
-      let long : k + 1 < length (h ∷ hs) = rw (length-map (h ∷ hs) decl) at lt in
-      let this = get_or-map decl (h ∷ hs) k h d (omega (arith, long)) in
-      let next = get_or-map decl (h ∷ hs) (k + 1) h d long in
-      let here : scope_before (length q) (name (decl (get_or (h ∷ hs) k h))) ≡ scope (get_or (h ∷ hs) k h) = all k h (omega (arith, long)) in
-      let there : scope_before (length q) (name (decl (get_or (h ∷ hs) (k + 1) h))) ≡ scope (get_or (h ∷ hs) (k + 1) h) = all (k + 1) h long in
-      rw (this, next, here, there) (sorted k h from long)
-
-  pub group_sorted : (q : List ℕ) (hs : List H) → All Fits hs → ByScope hs → IsByScope name (length q) (group q hs)
-  group_sorted q hs all sorted =
-      into_decls q (filter (λ h. bytes_eq (last h) q) hs) (kept q hs all)
-      (IsSortedBy-filter (λ a b. is_lt (slice_cmp nat_cmp (scope a) (scope b))) (ranks_by nat_list_cmp_total scope) (λ h. bytes_eq (last h) q) hs sorted)
-
-module _ (name name' : DeclRef → List ℕ) (test test' : List ℕ → Bool) (table : BTreeMap (String Global) (Vec DeclRef Global)) where
-  -- the same table for the same names
-  pub still_by_last : ((r : DeclRef) → name r ≡ name' r) → ((n : List ℕ) → test n ≡ test' n) → AreByLast name test table → AreByLast name' test' table
+module _ (name name' : DeclRef → List ℕ) (test test' : List ℕ → Bool) (hashes : List ℕ) (decls : List DeclRef) where
+  -- the same declarations for the same names
+  pub still_by_last : ((r : DeclRef) → name r ≡ name' r) → ((n : List ℕ) → test n ≡ test' n) → AreByLast name test hashes decls → AreByLast name' test' hashes decls
   still_by_last names tests are =
-      subst (λ n. AreByLast n test' table) (fun_ext names) (subst (λ t. AreByLast name t table) (fun_ext tests) are)
+      subst (λ n. AreByLast n test' hashes decls) (fun_ext names) (subst (λ t. AreByLast name t hashes decls) (fun_ext tests) are)

@@ -1,5 +1,5 @@
 -- A full name comes apart at its last dot in one way.
-use Rattle.std.proofs.Common.{◌≡◌, ◌≢◌, ◌∙◌, sym, ap, refl, ◌&&◌, ◌==◌, ◌<◌, ◌+◌, ◌-◌, inl, inr, ℕ, zero, suc, List, [], ◌∷◌, ◌++◌, true, false, take, drop, get_or, length, bytes_eq, arith}
+use Rattle.std.proofs.Common.{◌≡◌, ◌≢◌, ◌⊎◌, ◌∙◌, sym, ap, subst, refl, ◌&&◌, ◌==◌, ◌<◌, ◌+◌, ◌-◌, inl, inr, ℕ, zero, suc, List, [], ◌∷◌, ◌++◌, true, false, take, drop, get_or, length, bytes_eq, arith}
 use Rattle.std.specs.Prelude.{slice_range}
 use Rattle.std.proofs.lemmas.Bool.{cases_Bool, cases_eq}
 use Rattle.std.proofs.lemmas.Bool.Decides.{nat_tests}
@@ -9,7 +9,7 @@ use Rattle.std.proofs.lemmas.List.Elements.{All-from_get_or}
 use Rattle.std.proofs.lemmas.List.Folds.{list_any_none}
 use Rattle.file_facts.specs.Text.{joined}
 use Rattle.proto_resolve.specs.Holders.{has_dot}
-use Rattle.proto_resolve.specs.Tables.{scope_before, AreParts}
+use Rattle.proto_resolve.specs.Tables.{behind_dot, last_of, scope_before, scope_of, AreParts}
 
 dot_inside : (b p : List ℕ) → has_dot (b ++ 46 ∷ p) ≡ true
 dot_inside [] p = refl
@@ -107,3 +107,53 @@ some_front (x ∷ n) (suc k) pos lt e = absurd (cc (e))
 
 pub front_is : (n : List ℕ) (k : ℕ) → slice_range n 0 k ≡ take k n
 front_is n k = let e : k - 0 ≡ k = omega arith in ap (λ j. take j n) e
+
+-- ---- the last component
+
+behind_at : (a q : List ℕ) → has_dot q ≡ false → behind_dot (a ++ 46 ∷ q) ≡ q
+behind_at [] q plain = rw plain refl
+behind_at (x ∷ a) q plain = rw (dot_inside a q) (behind_at a q plain)
+
+plain_tail : (c : ℕ) (cs : List ℕ) → has_dot (c ∷ cs) ≡ false → has_dot cs ≡ false
+plain_tail c cs plain = elim (cases_Bool (c == 46)) [
+  | inl holds ↦ absurd (cc (rw holds at plain))
+  | inr fails ↦ rw fails at plain
+]
+
+pub last_alone : (n : List ℕ) → has_dot n ≡ false → n ≡ last_of n
+last_alone [] plain = refl
+last_alone (c ∷ cs) plain = rw (plain_tail c cs plain) refl
+
+pub last_leading : (r : List ℕ) → has_dot r ≡ false → 46 ∷ r ≡ last_of (46 ∷ r)
+last_leading r plain = rw plain refl
+
+pub last_apart : (a q : List ℕ) → (a ≢ []) → has_dot q ≡ false → q ≡ last_of (a ++ 46 ∷ q)
+last_apart [] q some plain = absurd (some refl)
+last_apart (c ∷ a) q some plain = rw (dot_inside a q) (sym (behind_at a q plain))
+
+-- ---- the parts of any name
+
+split : (n : List ℕ) → (has_dot n ≡ false) ⊎ ((a : List ℕ) × (q : List ℕ) × (n ≡ a ++ 46 ∷ q) × (has_dot q ≡ false))
+split [] = inl refl
+split (c ∷ cs) = elim (split cs) [
+  | inl plain ↦ elim (cases_eq c 46) [
+    | inl equal ↦ inr ([], cs, ap (λ x. x ∷ cs) equal, plain)
+    | inr other ↦ inl (let fails : (c == 46) ≡ false = grind (arith, nat_tests) in rw (fails, plain) refl)
+  ]
+  | inr parts ↦ inr (c ∷ parts.0, parts.1, ap (λ xs. c ∷ xs) parts.2, parts.3)
+]
+
+settled : (s l n : List ℕ) → AreParts s l n → l ≡ last_of n → AreParts (scope_of n) (last_of n) n
+settled s l n are is = subst (λ l. AreParts (scope_before (length l) n) l n) is (subst (λ s. AreParts s l n) are.before are)
+
+parts_at : (a q : List ℕ) → has_dot q ≡ false → AreParts (scope_of (a ++ 46 ∷ q)) (last_of (a ++ 46 ∷ q)) (a ++ 46 ∷ q)
+parts_at [] q plain = settled [] (46 ∷ q) (46 ∷ q) (leading q plain) (last_leading q plain)
+parts_at (c ∷ a) q plain =
+    let some : c ∷ a ≢ [] = λ e. absurd (cc (e)) in
+    settled (c ∷ a) q ((c ∷ a) ++ 46 ∷ q) (apart (c ∷ a) q some plain) (last_apart (c ∷ a) q some plain)
+
+pub parts_of_any : (n : List ℕ) → AreParts (scope_of n) (last_of n) n
+parts_of_any n = elim (split n) [
+  | inl plain ↦ settled [] n n (alone n plain) (last_alone n plain)
+  | inr parts ↦ subst (λ n. AreParts (scope_of n) (last_of n) n) (sym parts.2) (parts_at parts.0 parts.1 parts.3)
+]

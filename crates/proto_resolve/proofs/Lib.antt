@@ -16,6 +16,7 @@ pub mod NextScopes
 pub mod Ahead
 pub mod Fronts
 pub mod ByLast
+pub mod Hashes
 pub mod PackageFronts
 pub mod Packaged
 pub mod UsesByName

@@ -10,6 +10,7 @@ pub mod Laws
 pub mod Holders
 pub mod Packages
 pub mod Tables
+pub mod Hashed
 pub mod Finding
 pub mod FindingLaws
 pub mod Seen

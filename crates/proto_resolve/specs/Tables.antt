@@ -1,21 +1,17 @@
 -- Declarations by name.
-use Rattle.std.specs.Prelude.{◌≡◌, ℕ, ◌-◌, ◌&&◌, List, [], Bool, false, String, Vec, length, take, bytes_eq}
+use Rattle.std.specs.Prelude.{◌≡◌, ℕ, ◌-◌, ◌==◌, ◌&&◌, if◌then◌else◌, List, [], ◌∷◌, Bool, false, length, take, filter, bytes_eq}
 use Rattle.std.specs.List.{list_any}
 use Rattle.std.specs.List.Sorted.{IsSortedBy}
-use Rattle.std.specs.BTreeMap.{BTreeMap, get_by_text}
 use Rattle.std.specs.Cmp.Lexicographic.{slice_cmp}
-use Rattle.std.specs.Option.{option_map_or}
-use Rattle.std.specs.Ordering.{is_lt, nat_cmp}
-use Rattle.std.specs.declared.alloc.Global.{Global}
+use Rattle.std.specs.Ordering.{is_lt, nat_cmp, ordering_then}
+use Rattle.std.specs.declared.cmp.Ordering.{Ordering}
 use Rattle.import_graph.specs.declared.paths.NamedFacts.{NamedFacts}
 use Rattle.file_facts.specs.Text.{joined}
+use Rattle.proto_resolve.specs.declared.hashed.HashedDecl.{HashedDecl}
 use Rattle.proto_resolve.specs.declared.target.DeclRef.{DeclRef}
-use Rattle.proto_resolve.specs.Files.{decl_at}
+use Rattle.proto_resolve.specs.Files.{decl_at, dot}
 use Rattle.proto_resolve.specs.Holders.{has_dot}
-
--- the declarations that a table has for a name
-abbrev pub listed : BTreeMap (String Global) (Vec DeclRef Global) → List ℕ → List DeclRef
-listed names name = option_map_or (λ v. v.items) (get_by_text names name) []
+use Rattle.proto_resolve.specs.Hashed.{AreByHash}
 
 -- the full name of a declaration
 abbrev pub name_at : List NamedFacts → DeclRef → List ℕ
@@ -33,10 +29,35 @@ IsByScope name last decls = IsSortedBy (λ r s. is_lt (slice_cmp nat_cmp (scope_
 abbrev pub stands_in : (DeclRef → List ℕ) → ℕ → List DeclRef → List ℕ → Bool
 stands_in name last decls scope = list_any (λ r. bytes_eq (scope_before last (name r)) scope) decls
 
--- a table has the names that pass by their last components, and those of one last component by their scopes
-pub record AreByLast (name : DeclRef → List ℕ) (test : List ℕ → Bool) (table : BTreeMap (String Global) (Vec DeclRef Global)) : Type 0 where
-  pub all : (scope last : List ℕ) → has_dot last ≡ false → stands_in name (length last) (listed table last) scope ≡ test (joined scope last)
-  pub ordered : (last : List ℕ) → IsByScope name (length last) (listed table last)
+-- what stands behind the last dot of a text, or all of it where there is none
+abbrev pub behind_dot : List ℕ → List ℕ
+behind_dot [] = []
+behind_dot (c ∷ cs) = if has_dot cs then behind_dot cs else if c == dot then cs else c ∷ cs
+
+-- the last component of a full name; a dot at its front parts nothing
+abbrev pub last_of : List ℕ → List ℕ
+last_of [] = []
+last_of (c ∷ cs) = if has_dot cs then behind_dot cs else c ∷ cs
+
+-- what stands before the last component of a full name, without the dot
+abbrev pub scope_of : List ℕ → List ℕ
+scope_of full_name = scope_before (length (last_of full_name)) full_name
+
+-- by the hashes that stand with them and their last components, then by their scopes
+abbrev pub by_scope : (DeclRef → List ℕ) → HashedDecl → HashedDecl → Ordering
+by_scope name a b =
+    ordering_then (slice_cmp nat_cmp (a.hash ∷ last_of (name a.decl)) (b.hash ∷ last_of (name b.decl))) (slice_cmp nat_cmp (scope_of (name a.decl)) (scope_of (name b.decl)))
+
+-- the declarations of one last component
+abbrev pub of_last : (DeclRef → List ℕ) → List DeclRef → List ℕ → List DeclRef
+of_last name decls last = filter (λ r. bytes_eq (last_of (name r)) last) decls
+
+-- declarations by their last components, those of one last component by their scopes; one of a full name is among them exactly if that
+-- name passes the test
+pub record AreByLast (name : DeclRef → List ℕ) (test : List ℕ → Bool) (hashes : List ℕ) (decls : List DeclRef) : Type 0 where
+  pub hashed : AreByHash (λ r. last_of (name r)) hashes decls
+  pub all : (scope last : List ℕ) → has_dot last ≡ false → stands_in name (length last) (of_last name decls last) scope ≡ test (joined scope last)
+  pub ordered : (last : List ℕ) → IsByScope name (length last) (of_last name decls last)
 
 -- the parts are those into which a full name comes apart at its last dot
 pub record AreParts (scope last full_name : List ℕ) : Type 0 where

@@ -1,147 +1,74 @@
 // Messages, enums and services by the last components of their full names: what may settle the scope of a name.
-ghost use Rattle.std.specs.Prelude.{◌≡◌, ◌<◌, ◌≤◌, ◌&&◌, ◌||◌, ℕ, List, All, IfOk, OnOk, IfSome, None, take, map, filter, length, false, true, nat_eq, bytes_eq, string_bytes};
+ghost use Rattle.std.specs.Prelude.{◌≡◌, ◌<◌, ◌≤◌, ◌&&◌, ℕ, List, All, IfOk, IfSome, None, take, map, filter, length, false, true, nat_eq, bytes_eq};
 ghost use Rattle.std.specs.List.{list_any, starts_with};
-ghost use Rattle.std.specs.List.Sorted.{IsNonDecreasing, IsSortedBy, IsPermutation};
+ghost use Rattle.std.specs.List.Sorted.{IsNonDecreasing, IsPermutation, IsSorted};
 ghost use Rattle.std.specs.Cmp.Lexicographic.{slice_cmp};
 ghost use Rattle.std.specs.Ordering.{is_lt, nat_cmp};
-ghost use Rattle.file_facts.specs.Text.{joined};
 ghost use Rattle.proto_resolve.specs.Files.{decl_at};
-ghost use Rattle.proto_resolve.specs.Holders.{has_dot, IsLast};
+ghost use Rattle.proto_resolve.specs.Holders.{IsLast};
 ghost use Rattle.proto_resolve.specs.Names.{is_holder};
-ghost use Rattle.proto_resolve.specs.Tables.{listed, name_at, scope_before, stands_in, AreByLast, AreParts, IsByScope};
+ghost use Rattle.proto_resolve.specs.Tables.{by_scope, name_at, scope_before, scope_of, stands_in, AreByLast, IsByScope};
 
+use crate::hashed::{HashedDecl, HashedDecls, apart, compare, hashed_decls};
+use crate::naming::{LastComponents, name_of, parts_of};
 use crate::scopes::is_holder;
 use crate::target::DeclRef;
 use file_facts::DeclKind;
 use import_graph::NamedFacts;
 use std::alloc::{AllocError, Global};
-use std::collections::BTreeMap;
-
-// The two parts of a full name.
-#[derive(Clone, Copy)]
-struct Parts<'a> {
-    scope: &'a str,
-    last: &'a str,
-}
-
-// A declaration with the parts of its full name.
-#[derive(Clone, Copy)]
-struct Holder<'a> {
-    scope: &'a str,
-    last: &'a str,
-    decl: DeclRef,
-}
-
-pub fn name_of(files: &[NamedFacts], decl: DeclRef) -> &str
-    ensures { result.now ≡ name_at files.now decl }
-{
-    match files.get(decl.file) {
-        None => "",
-        Some(file) => match file.facts.decls.as_slice().get(decl.number) {
-            None => "",
-            Some(decl) => decl.full_name.as_str(),
-        },
-    }
-}
+use std::cmp::Ordering;
 
 fn kind_of(files: &[NamedFacts], decl: DeclRef) -> DeclKind
     ensures { result ≡ (let d = decl_at files.now decl in d.kind) }
 {
     match files.get(decl.file) {
         None => DeclKind::Field,
-        Some(file) => match file.facts.decls.as_slice().get(decl.number) {
+        Some(file) => match file.facts.get().decls.as_slice().get(decl.number) {
             None => DeclKind::Field,
             Some(decl) => decl.kind,
         },
     }
 }
 
-// A full name, apart at its last dot.
-fn parts_of(name: &str) -> Parts<'_>
-    ensures { AreParts result.scope.now result.last.now name.now }
+fn scope_of(files: &[NamedFacts], decl: DeclRef) -> &str
+    ensures { result.now ≡ scope_of (name_at files.now decl) }
 {
-    match name.rfind('.') {
-        None => Parts {
-            scope: "",
-            last: name,
-        },
-        Some(at) => {
-            if at == 0 {
-                return Parts {
-                    scope: "",
-                    last: name,
-                };
-            }
-            Parts {
-                scope: &name[..at],
-                last: &name[at + 1..],
-            }
-        }
-    }
+    parts_of(name_of(files, decl)).scope
 }
 
-fn with_parts(files: &[NamedFacts], decl: DeclRef) -> Holder<'_>
-    ensures parts { AreParts result.scope.now result.last.now (name_at files.now decl) }
-    ensures decl { result.decl ≡ decl }
-{
-    let parts = parts_of(name_of(files, decl));
-    Holder {
-        scope: parts.scope,
-        last: parts.last,
-        decl,
-    }
-}
-
-// Adds a declaration if it may settle a scope.
-fn push_holder<'a>(
-    files: &'a [NamedFacts],
-    decl: DeclRef,
-    found: &mut Vec<Holder<'a>>,
-) -> Result<(), AllocError>
-    ensures all { OnOk result ((s q : List ℕ) → has_dot q ≡ false → list_any (λ h. bytes_eq h.last.now q && bytes_eq h.scope.now s) found.new.items ≡ (list_any (λ h. bytes_eq h.last.now q && bytes_eq h.scope.now s) found.old.items || (bytes_eq (name_at files.now decl) (joined s q) && is_holder (let d = decl_at files.now decl in d.kind)))) }
-    ensures parts { OnOk result (All (λ h. h.scope.now ≡ scope_before (length h.last.now) (name_at files.now h.decl)) found.old.items → All (λ h. h.scope.now ≡ scope_before (length h.last.now) (name_at files.now h.decl)) found.new.items) }
-{
-    if is_holder(kind_of(files, decl)) {
-        found.push(with_parts(files, decl))?;
-    }
-    Ok(())
-}
-
-fn holders_of<'a>(
+// Those of the declarations that may settle a scope.
+fn holders_of(
     alloc: Global,
-    files: &'a [NamedFacts],
+    files: &[NamedFacts],
     decls: &[DeclRef],
-) -> Result<Vec<Holder<'a>>, AllocError>
-    ensures all { IfOk result (λ hs. (s q : List ℕ) → has_dot q ≡ false → list_any (λ h. bytes_eq h.last.now q && bytes_eq h.scope.now s) hs.items ≡ list_any (λ r. bytes_eq (name_at files.now r) (joined s q) && is_holder (let d = decl_at files.now r in d.kind)) decls.now) }
-    ensures parts { IfOk result (λ hs. All (λ h. h.scope.now ≡ scope_before (length h.last.now) (name_at files.now h.decl)) hs.items) }
+) -> Result<Vec<DeclRef>, AllocError>
+    ensures { IfOk result (λ hs. hs.items ≡ filter (λ r. is_holder (let d = decl_at files.now r in d.kind)) decls.now) }
 {
     let mut found = Vec::new(alloc);
     for decl in decls {
-        push_holder(files, *decl, &mut found)?;
+        if is_holder(kind_of(files, *decl)) {
+            found.push(*decl)?;
+        }
     }
     Ok(found)
 }
 
-// Puts them into the order of their scopes.
-fn sort_by_scope(holders: &mut Vec<Holder<'_>>)
-    ensures sorted { IsSortedBy (λ a b. is_lt (slice_cmp nat_cmp a.scope.now b.scope.now)) holders.new.items }
-    ensures same { IsPermutation holders.old.items holders.new.items }
+// By the hashes and the texts of their last components, then by their scopes.
+fn compare_scopes(files: &[NamedFacts], a: HashedDecl, b: HashedDecl) -> Ordering
+    ensures { result ≡ by_scope (name_at files.now) a b }
 {
-    holders.sort_unstable_by(|a, b| a.scope.cmp(b.scope));
+    match compare::<LastComponents>(files, a, b) {
+        Ordering::Equal => scope_of(files, a.decl).cmp(scope_of(files, b.decl)),
+        other => other,
+    }
 }
 
-fn grouped(
-    alloc: Global,
-    holders: &[Holder<'_>],
-) -> Result<BTreeMap<String, Vec<DeclRef>>, AllocError>
-    ensures { IfOk result (λ m. (q : List ℕ) → listed m q ≡ map (λ h. h.decl) (filter (λ h. bytes_eq h.last.now q) holders.now)) }
+// Puts them into that order.
+fn sort_by_scope(files: &[NamedFacts], hashed: &mut Vec<HashedDecl>)
+    ensures sorted { IsSorted (by_scope (name_at files.now)) hashed.new.items }
+    ensures same { IsPermutation hashed.old.items hashed.new.items }
 {
-    let mut groups: BTreeMap<String, Vec<DeclRef>> = BTreeMap::new(alloc);
-    for holder in holders {
-        let last = String::from_str(alloc, holder.last)?;
-        groups.entry(last)?.or_default().push(holder.decl)?;
-    }
-    Ok(groups)
+    hashed.sort_unstable_by(|a, b| compare_scopes(files, *a, *b));
 }
 
 // Those of the declarations that may settle a scope, by the last components of their full names.
@@ -149,12 +76,13 @@ pub fn by_last(
     alloc: Global,
     files: &[NamedFacts],
     decls: &[DeclRef],
-) -> Result<BTreeMap<String, Vec<DeclRef>>, AllocError>
-    ensures { IfOk result (AreByLast (name_at files.now) (λ n. list_any (λ r. bytes_eq (name_at files.now r) n && is_holder (let d = decl_at files.now r in d.kind)) decls.now)) }
+) -> Result<HashedDecls, AllocError>
+    ensures { IfOk result (λ n. AreByLast (name_at files.now) (λ full. list_any (λ r. bytes_eq (name_at files.now r) full && is_holder (let d = decl_at files.now r in d.kind)) decls.now) n.hashes.items n.decls.items) }
 {
-    let mut holders = holders_of(alloc, files, decls)?;
-    sort_by_scope(&mut holders);
-    grouped(alloc, holders.as_slice())
+    let holders = holders_of(alloc, files, decls)?;
+    let mut hashed = hashed_decls::<LastComponents>(alloc, files, holders.as_slice())?;
+    sort_by_scope(files, &mut hashed);
+    apart(alloc, hashed.as_slice())
 }
 
 // What stands before the last component of a full name, where that has so many bytes.

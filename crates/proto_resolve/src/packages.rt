@@ -124,7 +124,7 @@ fn all_packaged(alloc: Global, files: &[NamedFacts]) -> Result<Vec<PackagedFile>
 {
     let mut found = Vec::new(alloc);
     for (number, file) in files.iter().enumerate() {
-        push_packaged(alloc, number, &file.facts.package, &mut found)?;
+        push_packaged(alloc, number, &file.facts.get().package, &mut found)?;
     }
     Ok(found)
 }

@@ -1,22 +1,21 @@
 // An index that holds its files.
-ghost use Rattle.std.specs.Prelude.{◌≡◌, ◌<◌, ◌++◌, ℕ, List, filter, length, IfOk, OnOk, bytes_eq};
-ghost use Rattle.std.specs.List.{enumerate_from};
+ghost use Rattle.std.specs.Prelude.{◌≡◌, ◌<◌, ◌++◌, length, IfOk, OnOk};
 ghost use Rattle.import_graph.specs.Imports.{graph_of};
 ghost use Rattle.import_graph.specs.Paths.{IsInPathOrder};
-ghost use Rattle.proto_resolve.specs.Files.{all_decls, decl_at, facts_at, refs_of};
+ghost use Rattle.proto_resolve.specs.Files.{all_decls, facts_at, refs_of};
 ghost use Rattle.proto_resolve.specs.Outlines.{import_outline, with_facts};
 ghost use Rattle.proto_resolve.specs.Seen.{exports};
-ghost use Rattle.proto_resolve.specs.Tables.{listed};
 
-use crate::holders::{by_last, last_place, name_of};
+use crate::hashed::{HashedDecls, by_text, with_text};
+use crate::holders::{by_last, last_place};
 use crate::index::Index;
+use crate::naming::{FullNames, LastComponents};
 use crate::packages::{PackagedFile, longest_of, of_package, packaged_files};
 use crate::target::DeclRef;
 use file_facts::{Decl, FileFacts};
-use import_graph::{Graph, NamedFacts};
+use import_graph::{Graph, NamedFacts, SharedFacts};
 use sqlite_items::Items;
 use std::alloc::{AllocError, Global};
-use std::collections::BTreeMap;
 use std::marker::Model;
 
 /// Files with their graph, all their declarations, those of each name, and the files of each package. Contracts see it as the list of the files.
@@ -25,9 +24,10 @@ pub struct Table {
     files: Vec<NamedFacts>,
     graph: Graph,
     decls: Items<DeclRef>,
-    names: BTreeMap<String, Vec<DeclRef>>,
+    // All of them by their full names.
+    names: HashedDecls,
     // Messages, enums and services by the last components of their full names, then by what stands before those.
-    holders: BTreeMap<String, Vec<DeclRef>>,
+    holders: HashedDecls,
     // The files that have packages, by these.
     packaged: Vec<PackagedFile>,
     // How long the longest name among those is.
@@ -35,20 +35,21 @@ pub struct Table {
 }
 
 impl Model for Table {
-    ghost use Rattle.std.specs.Prelude.{◌≡◌, ℕ, List};
+    ghost use Rattle.std.specs.Prelude.{◌≡◌, ℕ, List, bytes_eq, filter};
     ghost use Rattle.import_graph.specs.declared.paths.NamedFacts.{NamedFacts};
     ghost use Rattle.import_graph.specs.Imports.{graph_of};
     ghost use Rattle.import_graph.specs.Paths.{IsInPathOrder};
     ghost use Rattle.proto_resolve.specs.Files.{all_decls, all_named};
     ghost use Rattle.proto_resolve.specs.Holders.{is_held};
     ghost use Rattle.proto_resolve.specs.Packages.{AreNoLonger, ArePackaged};
-    ghost use Rattle.proto_resolve.specs.Tables.{listed, name_at, AreByLast};
+    ghost use Rattle.proto_resolve.specs.Hashed.{AreByHash};
+    ghost use Rattle.proto_resolve.specs.Tables.{name_at, AreByLast};
 
     ghost Value = { List NamedFacts };
 
     ghost view = { λ t. t.files.items };
 
-    ghost invariant = { λ t. (t.graph ≡ graph_of t.files.items) × (t.decls ≡ all_decls t.files.items) × ((q : List ℕ) → listed t.names q ≡ all_named t.files.items q) × AreByLast (name_at t.files.items) (is_held t.files.items) t.holders × IsInPathOrder t.files.items × ArePackaged t.files.items t.packaged.items × AreNoLonger t.longest t.packaged.items };
+    ghost invariant = { λ t. (t.graph ≡ graph_of t.files.items) × (t.decls ≡ all_decls t.files.items) × AreByHash (name_at t.files.items) t.names.hashes.items t.names.decls.items × ((q : List ℕ) → filter (λ r. bytes_eq (name_at t.files.items r) q) t.names.decls.items ≡ all_named t.files.items q) × AreByLast (name_at t.files.items) (is_held t.files.items) t.holders.hashes.items t.holders.decls.items × IsInPathOrder t.files.items × ArePackaged t.files.items t.packaged.items × AreNoLonger t.longest t.packaged.items };
 }
 
 fn push_decls(file: usize, decls: &[Decl], found: &mut Items<DeclRef>) -> Result<(), AllocError>
@@ -65,24 +66,9 @@ fn all_decls(alloc: Global, files: &[NamedFacts]) -> Result<Items<DeclRef>, Allo
 {
     let mut found = Items::new(alloc);
     for (number, file) in files.iter().enumerate() {
-        push_decls(number, file.facts.decls.as_slice(), &mut found)?;
+        push_decls(number, file.facts.get().decls.as_slice(), &mut found)?;
     }
     Ok(found)
-}
-
-fn by_name(
-    alloc: Global,
-    files: &[NamedFacts],
-    decls: &[DeclRef],
-) -> Result<BTreeMap<String, Vec<DeclRef>>, AllocError>
-    ensures { IfOk result (λ m. (q : List ℕ) → listed m q ≡ filter (λ r. bytes_eq (let d = decl_at files.now r in d.full_name) q) decls.now) }
-{
-    let mut names: BTreeMap<String, Vec<DeclRef>> = BTreeMap::new(alloc);
-    for decl in decls {
-        let name = String::from_str(alloc, name_of(files, *decl))?;
-        names.entry(name)?.or_default().push(*decl)?;
-    }
-    Ok(names)
 }
 
 impl Table {
@@ -93,7 +79,7 @@ impl Table {
     {
         let graph = Graph::of(alloc, files.as_slice())?;
         let decls = all_decls(alloc, files.as_slice())?;
-        let names = by_name(alloc, files.as_slice(), decls.as_slice())?;
+        let names = by_text::<FullNames>(alloc, files.as_slice(), decls.as_slice())?;
         let holders = by_last(alloc, files.as_slice(), decls.as_slice())?;
         let packaged = packaged_files(alloc, files.as_slice())?;
         let longest = longest_of(packaged.as_slice());
@@ -110,7 +96,7 @@ impl Table {
 
     /// Puts other facts of a file, given by its number from 0, in the place of its facts, which say the same to the other files
     /// and of imports. Takes no memory.
-    pub fn set_facts(&mut self, file: usize, facts: FileFacts)
+    pub fn set_facts(&mut self, file: usize, facts: SharedFacts)
         requires within { file < length self.old }
         requires imports { import_outline facts ≡ import_outline (facts_at self.old file) }
         requires exports { exports facts ≡ exports (facts_at self.old file) }
@@ -125,7 +111,7 @@ impl Table {
         self,
         alloc: Global,
         file: usize,
-        facts: FileFacts,
+        facts: SharedFacts,
     ) -> Result<(Table, Graph), AllocError>
         requires { file < length self }
         ensures table { IfOk result (λ r. r.0 ≡ with_facts self file facts) }
@@ -163,14 +149,11 @@ impl Index for Table {
     }
 
     fn facts(&self, file: usize) -> &FileFacts {
-        &self.files[file].facts
+        self.files[file].facts.get()
     }
 
     fn named(&self, full_name: &str) -> &[DeclRef] {
-        match self.names.get(full_name) {
-            Some(decls) => decls.as_slice(),
-            None => &[],
-        }
+        with_text::<FullNames>(self.files.as_slice(), &self.names, full_name)
     }
 
     fn packaged(&self, full_name: &str) -> &[PackagedFile] {
@@ -178,15 +161,13 @@ impl Index for Table {
     }
 
     fn last_held(&self, scope: &str, lengths: &[usize], name: &str) -> Option<usize> {
-        match self.holders.get(name) {
-            Some(decls) => last_place(
-                self.files.as_slice(),
-                decls.as_slice(),
-                name.len(),
-                scope.as_bytes(),
-                lengths,
-            ),
-            None => None,
-        }
+        let decls = with_text::<LastComponents>(self.files.as_slice(), &self.holders, name);
+        last_place(
+            self.files.as_slice(),
+            decls,
+            name.len(),
+            scope.as_bytes(),
+            lengths,
+        )
     }
 }

@@ -13,9 +13,9 @@ ghost use Rattle.work_index.specs.Workspace.{Workspace, all_facts, analysis, dia
 
 use crate::analyse::{diagnostics_of, resolution_of};
 use crate::analysis::{Analysis, Resolutions};
-use crate::file_work::{FileWork, facts_in};
+use crate::file_work::{FileWork, shared_in};
 use file_facts::FileFacts;
-use import_graph::{Graph, same_outlook};
+use import_graph::{Graph, SharedFacts, same_outlook};
 use piece_collector::Piece;
 use proto_resolve::{Index, Table, same_exports, same_imports, seen_law};
 use std::alloc::{AllocError, Global};
@@ -127,7 +127,7 @@ fn table_after(
     ensures table { IfOk result (λ after. after.0 ≡ all_facts (workspace_of pieces.now)) }
     ensures graph { IfOk result (λ after. MatchOption after.1 (differences.imports ≡ false) (λ graph. graph ≡ graph_of table)) }
 {
-    let facts = facts_at(pieces, changed).copy()?;
+    let facts = shared_at(pieces, changed).another()?;
     if differences.imports || differences.exports {
         let (table, before) = table.replace_facts(alloc, changed, facts)?;
         return Ok((
@@ -144,12 +144,20 @@ fn table_after(
     Ok((table, None))
 }
 
+// The facts of a piece, as what shares them.
+fn shared_at<'p>(pieces: &'p [Piece<FileWork>], file: usize) -> &'p SharedFacts
+    requires { file < length pieces.now }
+    ensures { result.now ≡ facts_at (all_facts (workspace_of pieces.now)) file }
+{
+    shared_in(&pieces[file])
+}
+
 // The facts of a piece.
 fn facts_at<'p>(pieces: &'p [Piece<FileWork>], file: usize) -> &'p FileFacts
     requires { file < length pieces.now }
     ensures { result.now ≡ facts_at (all_facts (workspace_of pieces.now)) file }
 {
-    facts_in(&pieces[file])
+    shared_at(pieces, file).get()
 }
 
 /// The analysis of the workspace of some pieces, which are in the order of their paths, no path twice, after a change of the

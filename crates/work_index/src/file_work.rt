@@ -4,6 +4,7 @@ ghost use Rattle.file_facts.specs.Facts.{facts_of};
 ghost use Rattle.syntax_tree.specs.Read.{value_tree};
 
 use file_facts::FileFacts;
+use import_graph::SharedFacts;
 use piece_collector::{Piece, Work};
 use proto_facts::facts;
 use proto_syntax::parse_text;
@@ -16,7 +17,7 @@ pub struct FileOut {
     /// The tree of the text; that of the empty text where the text has more than 16,777,216 bytes.
     pub tree: FileTree,
     /// What the text says by itself.
-    pub facts: FileFacts,
+    pub facts: SharedFacts,
 }
 
 /// The work on one file: its tokens, its tree and its facts.
@@ -45,7 +46,7 @@ impl Work for FileWork {
 
     fn work(&self, text: &str) -> Result<FileOut, AllocError> {
         let tree = tree_of(self.alloc, text)?;
-        let facts = facts(self.alloc, text, &tree)?;
+        let facts = SharedFacts::of(self.alloc, facts(self.alloc, text, &tree)?)?;
         Ok(FileOut { tree, facts })
     }
 }
@@ -68,9 +69,16 @@ pub fn tree_in(piece: &Piece<FileWork>) -> &FileTree
     &piece.out().tree
 }
 
+// The facts of a piece's text, as what shares them.
+pub fn shared_in(piece: &Piece<FileWork>) -> &SharedFacts
+    ensures { result.now ≡ facts_of piece.now.text }
+{
+    &piece.out().facts
+}
+
 // The facts of a piece's text.
 pub fn facts_in(piece: &Piece<FileWork>) -> &FileFacts
     ensures { result.now ≡ facts_of piece.now.text }
 {
-    &piece.out().facts
+    shared_in(piece).get()
 }

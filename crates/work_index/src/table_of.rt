@@ -4,20 +4,20 @@ ghost use Rattle.piece_collector.specs.Board.{Ascends};
 ghost use Rattle.work_index.specs.Pieces.{workspace_of};
 ghost use Rattle.work_index.specs.Workspace.{named_facts, all_facts};
 
-use crate::file_work::{FileWork, facts_in};
+use crate::file_work::{FileWork, shared_in};
 use file_facts::Name;
 use import_graph::NamedFacts;
 use piece_collector::Piece;
 use proto_resolve::Table;
 use std::alloc::{AllocError, Global};
 
-// A file with a copy of its facts.
+// A file with its facts, which the piece shares.
 fn named_facts(alloc: Global, piece: &Piece<FileWork>) -> Result<NamedFacts, AllocError>
     ensures { IfOk result (λ file. file ≡ named_facts (piece.now.path, piece.now.text)) }
 {
     Ok(NamedFacts {
         path: Name::of(String::from_str(alloc, piece.path())?),
-        facts: facts_in(piece).copy()?,
+        facts: shared_in(piece).another()?,
     })
 }
 
@@ -31,7 +31,7 @@ fn all_facts(alloc: Global, pieces: &[Piece<FileWork>]) -> Result<Vec<NamedFacts
     Ok(files)
 }
 
-// The table of the files of some pieces, which are in the order of their paths. It holds nothing of the pieces.
+// The table of the files of some pieces, which are in the order of their paths. It shares their facts.
 pub fn table_of(alloc: Global, pieces: &[Piece<FileWork>]) -> Result<Table, AllocError>
     requires { Ascends pieces.now }
     ensures { IfOk result (λ table. table ≡ all_facts (workspace_of pieces.now)) }

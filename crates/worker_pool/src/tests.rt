@@ -39,7 +39,7 @@ fn shown(alloc: Global, done: &Done) -> Result<String, AllocError> {
         Done::Made(piece) => {
             let (path, stamp) = (piece.path(), piece.stamp());
             let mut line = format!(in alloc; "{path} {stamp}")?;
-            for decl in piece.out().facts.decls.as_slice() {
+            for decl in piece.out().facts.get().decls.as_slice() {
                 line.push(' ')?;
                 line.push_str(decl.full_name.as_str())?;
             }

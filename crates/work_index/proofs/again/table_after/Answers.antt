@@ -6,9 +6,9 @@ use Rattle.work_index.proofs.again.table_after.Goals as goal
 pub returns-then-differences-clause-table : goal.returns-then-differences-clause-table
 returns-then-differences-clause-table c =
     c.in_ok-table.ensures.table
-    ∙ replaced (workspace_of c.args.pieces.now) c.args.changed c.requires.before.text c.args.table c.in_ok-facts.facts c.requires.before.within c.requires.before.are (c.in_ok-facts.ensures ∙ c.facts_at.ensures)
+    ∙ replaced (workspace_of c.args.pieces.now) c.args.changed c.requires.before.text c.args.table c.in_ok-facts.facts c.requires.before.within c.requires.before.are (c.in_ok-facts.ensures ∙ c.shared_at.ensures)
 
 pub returns-clause-table : goal.returns-clause-table
 returns-clause-table c =
     c.set_facts.ensures
-    ∙ replaced (workspace_of c.args.pieces.now) c.args.changed c.requires.before.text c.args.table c.in_ok-facts.facts c.requires.before.within c.requires.before.are (c.in_ok-facts.ensures ∙ c.facts_at.ensures)
+    ∙ replaced (workspace_of c.args.pieces.now) c.args.changed c.requires.before.text c.args.table c.in_ok-facts.facts c.requires.before.within c.requires.before.are (c.in_ok-facts.ensures ∙ c.shared_at.ensures)

@@ -8,4 +8,4 @@ of-requires c =
     let files : List NamedFacts = c.self.inside.files.items in
     let seen : c.args.self ≡ files = cc in
     let there : c.args.file < length files = rw seen at c.requires in
-    still_in_order files c.args.file c.index_mut.result.now c.args.facts there c.index_mut.ensures.value c.self.invariant.4
+    still_in_order files c.args.file c.index_mut.result.now c.args.facts there c.index_mut.ensures.value c.self.invariant.5

@@ -1,0 +1,30 @@
+-- Declarations by hash: in the order of hashes made of their full names, or of a part of these, here a text, and where hashes are equal
+-- in the order of the texts.
+use Rattle.std.specs.Prelude.{◌≡◌, ℕ, ◌∷◌, List, Bool, map}
+use Rattle.std.specs.List.Sorted.{IsSorted}
+use Rattle.std.specs.Cmp.Lexicographic.{slice_cmp}
+use Rattle.std.specs.Hash.FoldHasher.{initial, write, finish}
+use Rattle.std.specs.Ordering.{is_lt, nat_cmp}
+use Rattle.proto_resolve.specs.declared.hashed.HashedDecl.{HashedDecl}
+use Rattle.proto_resolve.specs.declared.target.DeclRef.{DeclRef}
+
+-- the hash of a text
+abbrev pub hash_of : List ℕ → ℕ
+hash_of text = finish (write initial text)
+
+-- a text behind its hash
+abbrev pub with_hash : List ℕ → List ℕ
+with_hash text = hash_of text ∷ text
+
+-- whether a declaration comes before another, by the hashes that stand with them, then by text
+abbrev pub is_before : (DeclRef → List ℕ) → HashedDecl → HashedDecl → Bool
+is_before text a b = is_lt (slice_cmp nat_cmp (a.hash ∷ text a.decl) (b.hash ∷ text b.decl))
+
+-- a declaration with the hash of its text
+abbrev pub hashed : (DeclRef → List ℕ) → DeclRef → HashedDecl
+hashed text r = record { hash = hash_of (text r); decl = r }
+
+-- declarations with the hashes of their texts, in the order of these and then of the texts
+pub record AreByHash (text : DeclRef → List ℕ) (hashes : List ℕ) (decls : List DeclRef) : Type 0 where
+  pub hashed : hashes ≡ map (λ r. hash_of (text r)) decls
+  pub ordered : IsSorted (λ r s. slice_cmp nat_cmp (with_hash (text r)) (with_hash (text s))) decls
