@@ -1,7 +1,7 @@
 """What the tools of this folder share: the kit's command `rt` as a module, the crates of this repository, and tasks side by side.
 
 Relied on of the kit: `rt` on the PATH is a Python file with `rtlib.py` beside it. Of `rt`: KIT, processors(), free(), checked(), read_edit(),
-must_fail(), with REFUSED and AT_LIMIT in some kits, unread(), read_files(). Of `rtlib`: RATTLE, STALE, crates_below(), guarded(), lock(), text_of() and the class Crate with name, folder,
+must_fail(), with REFUSED and AT_LIMIT in some kits, linked(), unread(), read_files(). Of `rtlib`: RATTLE, STALE, crates_below(), guarded(), lock(), text_of() and the class Crate with name, folder,
 is_program, of_kit, deps, rlib, out, makes_rlib(), below(), stamp(), need(), words(), prove(), build_rlib(), check(), has_tests() and test_whole().
 """
 import importlib.machinery

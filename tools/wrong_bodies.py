@@ -39,7 +39,6 @@ import os
 import pathlib
 import re
 import resource
-import subprocess
 import sys
 import tempfile
 import threading
@@ -339,7 +338,7 @@ class Trial:
         self.crate, self.given, self.slots, self.surfaces = crate, given, slots, surfaces
         self.folder = f"{crate.folder}/{given.folder}"
         self.recorded = pathlib.Path(self.folder if given.folder == FOLDER else f"{crate.folder}/out", RECORD)
-        self.checks, self.log, self.verdicts, self.keys, self.writing = 0, [], {}, {}, threading.Lock()
+        self.checks, self.log, self.verdicts, self.keys, self.writing, self.turn = 0, [], {}, {}, threading.Lock(), threading.Lock()
         homes = homes_of(sources_of(crate))
         self.sources = {path: Source(path, text, homes) for path, text in sources_of(crate).items()}
         self.definitions = definitions_of(crate)
@@ -378,29 +377,28 @@ class Trial:
     def check(self, group, texts):
         """Checks the edited functions of a group, and those that they call."""
         only = [word for it in group for word in ("--only", it.function.path)]
-        with self.slots:
-            self.checks += 1
-            return kit.rt.checked(self.crate, texts, [*FLAGS, *only], None)
+        return self.over_kept_work(lambda kept: kit.rt.checked(self.crate, texts, [*FLAGS, *only], kept))
 
     def alone(self, edit):
         if edit.function is not None:
             found = self.together([edit])
             if edit in found:
                 return found[edit]
-        with self.slots:
-            self.checks += 1
-            outcome, text = self.over_kept_work(lambda room: kit.rt.must_fail(self.crate, edit.file, FLAGS, room))
+        outcome, text = self.over_kept_work(lambda kept: kit.rt.must_fail(self.crate, edit.file, FLAGS, kept))
         said = text.partition(f"{edit.name}: ")[2] or text
         return verdict_alone(outcome, said), f"alone: {said}"
 
     def over_kept_work(self, call):
-        """A check of the whole crate writes over what it is given of earlier checks, so it gets a copy."""
+        """Runs a check over a copy of what the crate's own check kept, or where there is none, over what the checks before it kept, in turn."""
         kept = f"{self.crate.folder}/out/incremental"
         # (what was checked over whole libraries is of no use over their statements)
         if self.given.gate or not os.path.isdir(kept):
-            return call(None)
-        with tempfile.TemporaryDirectory(prefix="wrong-bodies-", dir=f"{self.crate.folder}/out") as room:
-            subprocess.run(["cp", "-a", "--reflink=auto", kept, f"{room}/kept"], check=True)
+            with self.turn, self.slots:
+                self.checks += 1
+                return call(self.room)
+        with self.slots, tempfile.TemporaryDirectory(prefix="wrong-bodies-", dir=f"{self.crate.folder}/out") as room:
+            self.checks += 1
+            kit.rt.linked(kept, f"{room}/kept")
             return call(f"{room}/kept")
 
     def together(self, group):
@@ -451,7 +449,7 @@ class Trial:
         placed = [it for it in edits if it.place(texts[it], self.sources)]
         left = [] if self.given.alone else placed
         neighbours = Neighbours(self.crate, self.sources)
-        with ThreadPoolExecutor(self.given.jobs) as pool:
+        with tempfile.TemporaryDirectory(prefix="wrong-bodies-", dir=f"{self.crate.folder}/out") as self.room, ThreadPoolExecutor(self.given.jobs) as pool:
             while len(left) > 1:
                 found = {}
                 for refused in pool.map(lambda it: self.together(it) if len(it) > 1 else {}, neighbours.groups(left)):
@@ -517,8 +515,7 @@ def proved_by_ci(crates):
 def proved_now(crates, jobs):
     """Proves these crates, over what earlier runs kept, and what they stand on, and says which are proved."""
     some = kit.in_order({one for crate in crates for one in [*crate.below(), crate]})
-    used = {below for it in some for below in it.deps}
-    proved = kit.run_tasks([kit.proof_task(it, it in used) for it in some], lanes=jobs)
+    proved = kit.run_tasks([kit.proof_task(it, it.makes_rlib()) for it in some], lanes=jobs)
     return [it for it in crates if proved[it.name]]
 
 
