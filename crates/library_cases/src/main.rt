@@ -11,6 +11,7 @@ mod graphs;
 mod laws;
 mod links;
 mod messages;
+mod parts;
 mod places;
 mod queries;
 mod replies;
@@ -48,6 +49,7 @@ fn answer<R: Threads + Wait>(
         "analysis" => analyses::answer(rt, alloc, line, fields),
         "shares" => shares::answer(rt, alloc, line, fields),
         "meet" => shares::meet(rt, alloc, line, fields),
+        "parts" => parts::answer(alloc, line, fields),
         "again" => changes::answer(alloc, line, fields),
         "queries" => queries::answer(alloc, line, fields),
         "offsets" | "positions" | "edits" => documents::answer(alloc, line, call, fields),

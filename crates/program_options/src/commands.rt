@@ -6,7 +6,7 @@ use std::alloc::{AllocError, Global};
 
 // What `protols --version` writes behind the program's name: its version, as `initialize` tells it, and the kit that it is
 // proved with, by the line of `rt version`.
-const VERSION: &str = "1 (rattle-kit-13b logic dac8208d650f15bf)";
+const VERSION: &str = "1 (rattle-kit-13f logic dac8208d650f15bf)";
 
 // How the program is called. Each message on a wrong command line shows it.
 const USAGE: &str = "protols serve [--root DIR] [--workers N] [--stdio] [--clientProcessId ID]

@@ -41,7 +41,7 @@ module _ {S : Type 0} (p : S → Bool) where
     | inr fails ↦ rw fails (keeps_none_any xs (rw fails at none))
   ]
 
-  keeps_alike : (q : S → Bool) (xs : List S) → All (λ x. p x ≡ q x) xs → filter p xs ≡ filter q xs
+  pub keeps_alike : (q : S → Bool) (xs : List S) → All (λ x. p x ≡ q x) xs → filter p xs ≡ filter q xs
   keeps_alike q [] all = refl
   keeps_alike q (x ∷ xs) all = rw (All-head (λ x. p x ≡ q x) x xs all, keeps_alike q xs (All-tail (λ x. p x ≡ q x) x xs all)) refl
 
@@ -112,7 +112,7 @@ module _ {S : Type 0} (p : S → Bool) (xs : List S) (parted : IsPartitionedBy p
     ],
   )
 
-some_there : (n : ℕ) → (n == 0) ≡ false → 0 < n
+pub some_there : (n : ℕ) → (n == 0) ≡ false → 0 < n
 some_there n e = grind (arith, nat_tests)
 
 itself : (k : ℕ) → (k == k) ≡ true
@@ -154,9 +154,23 @@ other_number hash s e = grind (arith, nat_tests)
 between : (a b hash : ℕ) → a ≤ b → nat_lt a hash ≡ false → (b == hash) ≡ true → (a == hash) ≡ true
 between a b hash le from e = grind (arith, nat_tests)
 
+is_lower : (a b : ℕ) → a < b → nat_lt a b ≡ true
+is_lower a b lt = grind (arith, nat_tests)
+
+is_not_lower : (a b : ℕ) → b ≤ a → nat_lt a b ≡ false
+is_not_lower a b le = grind (arith, nat_tests)
+
 module _ (hashes : List ℕ) (hash : ℕ) (up : IsNonDecreasing hashes) where
   pub lower_first : IsPartitionedBy (λ k. nat_lt k hash) hashes
   lower_first i j d le lt e = less_too (get_or hashes i d) (get_or hashes j d) hash (up i j d le lt) e
+
+  -- a place with a lower one right before it and none at it
+  pub place_is : (place : ℕ) → place ≤ length hashes → (0 < place → get_or hashes (place - 1) 0 < hash) → (place < length hashes → hash ≤ get_or hashes place 0)
+      → IsPartitionPoint (λ k. nat_lt k hash ≡ true) (λ k. nat_lt k hash ≡ false) hashes place
+  place_is place within before at =
+      point_at (λ k. nat_lt k hash) hashes lower_first place
+      (λ some d. rw (get_or_default hashes (place - 1) d 0 (omega (arith, some, within))) (is_lower (get_or hashes (place - 1) 0) hash (before some)))
+      (λ lt d. rw (get_or_default hashes place d 0 lt) (is_not_lower (get_or hashes place 0) hash (at lt))) within
 
   pub hash_first : (start : ℕ) → IsPartitionPoint (λ k. nat_lt k hash ≡ true) (λ k. nat_lt k hash ≡ false) hashes start → IsPartitionedBy (λ k. k == hash) (drop start hashes)
   hash_first start point = first_alike (λ k. nat_lt k hash) (λ k. k == hash) hashes start point (other_number hash) (λ i j d le lt from e. between (get_or hashes i d) (get_or hashes j d) hash (up i j d le lt) from e)
@@ -213,6 +227,15 @@ module _ {S : Type 0} (name : S → List ℕ) (xs : List S) (q : List ℕ) (sort
   pub of_one_text : (start count : ℕ) → IsPartitionPoint (λ s. comes_before s ≡ true) (λ s. comes_before s ≡ false) xs start
       → IsPartitionPoint (λ s. bytes_eq (name s) q ≡ true) (λ s. bytes_eq (name s) q ≡ false) (drop start xs) count → take count (drop start xs) ≡ filter (λ s. bytes_eq (name s) q) xs
   of_one_text start count point end = run comes_before (λ s. bytes_eq (name s) q) xs start point other_name name_between count end
+
+  -- where the first and the last one have the name, all have it
+  pub all_of_text : (d : S) → bytes_eq (name (get_or xs 0 d)) q ≡ true → bytes_eq (name (get_or xs (length xs - 1) d)) q ≡ true → 0 < length xs → xs ≡ filter (λ s. bytes_eq (name s) q) xs
+  all_of_text d first last some = sym (keeps_all (λ s. bytes_eq (name s) q) xs (λ k e lt.
+      let is : name (get_or xs 0 e) ≡ q = rw (get_or_default xs 0 e d some) ((bytes_eq-Decides (name (get_or xs 0 d)) q).0 first) in
+      let far : is_lt (slice_cmp nat_cmp (name (get_or xs k e)) (name (get_or xs 0 e))) ≡ false =
+      sorted_far (λ x y. is_lt (slice_cmp nat_cmp (name x) (name y))) (ranks_by nat_list_cmp_total name) xs sorted 0 k e (omega arith) lt in
+      let there : length xs - 1 < length xs = omega (arith, some) in
+      name_between k (length xs - 1) e (omega (arith, lt)) there (rw is at far) (rw (get_or_default xs (length xs - 1) e d there) last)))
 
 -- ---- by number, then by name
 
@@ -342,15 +365,24 @@ module _ (name : DeclRef → List ℕ) where
   decls_back [] = refl
   decls_back (r ∷ rs) = ap (λ (ss : List DeclRef). r ∷ ss) (decls_back rs)
 
+  -- entries that fit, in order
+  pub put_fitting : (gs : List HashedDecl) → All (Fits (λ (k : HashedDecl). k.hash) (λ k. k.decl) name) gs → IsSortedBy (is_before name) gs
+      → AreByHash name (map (λ (k : HashedDecl). k.hash) gs) (map (λ (k : HashedDecl). k.decl) gs)
+  put_fitting gs fits sorted = record {
+    hashed = numbers_are (λ (k : HashedDecl). k.hash) (λ k. k.decl) name gs fits;
+    ordered = into_ranks (λ (k : HashedDecl). k.hash) (λ k. k.decl) name gs fits sorted;
+  }
+
   pub put_by_hash : (decls : List DeclRef) (gs : List HashedDecl) → IsPermutation (map (hashed name) decls) gs → IsSortedBy (is_before name) gs
       → AreByHash name (map (λ (k : HashedDecl). k.hash) gs) (map (λ (k : HashedDecl). k.decl) gs)
   put_by_hash decls gs moved sorted =
       let hs : List HashedDecl = map (hashed name) decls in
-      let fits = All-permutation (Fits (λ (k : HashedDecl). k.hash) (λ k. k.decl) name) hs gs moved (all_fit decls) in
-      record {
-        hashed = numbers_are (λ (k : HashedDecl). k.hash) (λ k. k.decl) name gs fits;
-        ordered = into_ranks (λ (k : HashedDecl). k.hash) (λ k. k.decl) name gs fits sorted;
-      }
+      put_fitting gs (All-permutation (Fits (λ (k : HashedDecl). k.hash) (λ k. k.decl) name) hs gs moved (all_fit decls)) sorted
+
+  -- those of one text stay where entries that fit are put in order
+  pub kept_fitting : (hs gs : List HashedDecl) → All (Fits (λ (k : HashedDecl). k.hash) (λ k. k.decl) name) hs → IsPermutation hs gs → IsStableBy (is_before name) hs gs
+      → (q : List ℕ) → filter (λ r. bytes_eq (name r) q) (map (λ (k : HashedDecl). k.decl) gs) ≡ filter (λ r. bytes_eq (name r) q) (map (λ (k : HashedDecl). k.decl) hs)
+  kept_fitting hs gs fits moved stable q = kept_decls (λ (k : HashedDecl). k.hash) (λ k. k.decl) name hs gs fits moved stable q
 
   pub kept_each : (decls : List DeclRef) (gs : List HashedDecl) → IsPermutation (map (hashed name) decls) gs → IsStableBy (is_before name) (map (hashed name) decls) gs
       → (q : List ℕ) → filter (λ r. bytes_eq (name r) q) (map (λ (k : HashedDecl). k.decl) gs) ≡ filter (λ r. bytes_eq (name r) q) decls

@@ -17,6 +17,7 @@ pub mod Ahead
 pub mod Fronts
 pub mod ByLast
 pub mod Hashes
+pub mod Entries
 pub mod PackageFronts
 pub mod Packaged
 pub mod UsesByName

@@ -6,7 +6,7 @@ use Rattle.std.specs.List.Sorted.{IsPermutation}
 use Rattle.std.proofs.Math.ListN as math
 use Rattle.std.proofs.Math.Path.{fun_ext}
 use Rattle.std.proofs.Math.Seq.{map-set_same}
-use Rattle.std.proofs.lemmas.List.{length-map, length-set, get_or-map}
+use Rattle.std.proofs.lemmas.List.{length-map, length-set, get_or_default, get_or-map}
 use Rattle.std.proofs.lemmas.Simd.{map-map}
 use Rattle.file_facts.specs.declared.fact.Decl.{Decl}
 use Rattle.file_facts.specs.declared.fact.DeclKind.{DeclKind}
@@ -171,7 +171,7 @@ same_path (x ∷ files) zero facts (suc i) other there = refl
 same_path (x ∷ files) (suc f) facts zero other there = refl
 same_path (x ∷ files) (suc f) facts (suc i) other there = same_path files f facts i other (omega (arith, there))
 
-stays_in_order : (files : List NamedFacts) (f : ℕ) (facts : FileFacts) → IsInPathOrder files → IsInPathOrder (with_facts files f facts)
+pub stays_in_order : (files : List NamedFacts) (f : ℕ) (facts : FileFacts) → IsInPathOrder files → IsInPathOrder (with_facts files f facts)
 stays_in_order files f facts ordered i j other before there =
     let there' : j < length files = omega (arith, there, length-set files f (record { path = get_or (map (λ x. x.path) files) f []; facts = facts })) in
     rw (same_path files f facts i other (omega (arith, before, there')), same_path files f facts j other there') (ordered i j other before there')
@@ -182,3 +182,21 @@ pub still_in_order : (files : List NamedFacts) (f : ℕ) (file : NamedFacts) (fa
 still_in_order files f file facts there is ordered =
     let path : get_or (map (λ x. x.path) files) f [] ≡ file.path = get_or-map (λ x. x.path) files f file [] there ∙ sym (ap (λ x. x.path) is) in
     subst (λ fs. IsInPathOrder fs) (ap (λ p. set files f (record { path = p; facts = facts })) path) (stays_in_order files f facts ordered)
+
+-- ---- the same for the files with other facts of one
+
+module _ (files : List NamedFacts) (f : ℕ) (facts : FileFacts) (there : f < length files) where
+  nothing : NamedFacts
+  nothing = record { path = []; facts = no_facts }
+
+  named_so : get_or (map (λ (x : NamedFacts). x.path) files) f [] ≡ (let file = get_or files f nothing in file.path)
+  named_so = get_or-map (λ (x : NamedFacts). x.path) files f nothing [] there
+
+  itself : get_or files f nothing ≡ get_or files f (get_or files f nothing)
+  itself = get_or_default files f nothing (get_or files f nothing) there
+
+  pub asks_alike : import_outline facts ≡ import_outline (facts_at files f) → map asking files ≡ map asking (with_facts files f facts)
+  asks_alike same = sym (ap (λ p. map asking (set files f (record { path = p; facts = facts }))) named_so ∙ keeps_asking files f (get_or files f nothing) facts there itself same)
+
+  pub tells_alike : exports facts ≡ exports (facts_at files f) → map telling files ≡ map telling (with_facts files f facts)
+  tells_alike same = sym (ap (λ p. map telling (set files f (record { path = p; facts = facts }))) named_so ∙ keeps_telling files f (get_or files f nothing) facts there itself same)

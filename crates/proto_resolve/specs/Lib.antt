@@ -11,6 +11,7 @@ pub mod Holders
 pub mod Packages
 pub mod Tables
 pub mod Hashed
+pub mod Entries
 pub mod Finding
 pub mod FindingLaws
 pub mod Seen

@@ -8,9 +8,10 @@ use Rattle.std.specs.declared.cmp.Ordering.{Ordering}
 use Rattle.import_graph.specs.declared.paths.NamedFacts.{NamedFacts}
 use Rattle.file_facts.specs.Text.{joined}
 use Rattle.proto_resolve.specs.declared.hashed.HashedDecl.{HashedDecl}
+use Rattle.proto_resolve.specs.declared.hashed.HashedDecls.{HashedDecls}
 use Rattle.proto_resolve.specs.declared.target.DeclRef.{DeclRef}
-use Rattle.proto_resolve.specs.Files.{decl_at, dot}
-use Rattle.proto_resolve.specs.Holders.{has_dot}
+use Rattle.proto_resolve.specs.Files.{all_named, decl_at, dot}
+use Rattle.proto_resolve.specs.Holders.{has_dot, is_held}
 use Rattle.proto_resolve.specs.Hashed.{AreByHash}
 
 -- the full name of a declaration
@@ -63,3 +64,9 @@ pub record AreByLast (name : DeclRef → List ℕ) (test : List ℕ → Bool) (h
 pub record AreParts (scope last full_name : List ℕ) : Type 0 where
   pub only : (s q : List ℕ) → has_dot q ≡ false → (bytes_eq last q && bytes_eq scope s) ≡ bytes_eq full_name (joined s q)
   pub before : scope ≡ scope_before (length last) full_name
+
+-- all declarations of the files by their full names, and what may settle a scope by the last components
+pub record AreByName (files : List NamedFacts) (names holders : HashedDecls) : Type 0 where
+  pub hashed : AreByHash (name_at files) names.hashes.items names.decls.items
+  pub each : (q : List ℕ) → filter (λ r. bytes_eq (name_at files r) q) names.decls.items ≡ all_named files q
+  pub last : AreByLast (name_at files) (is_held files) holders.hashes.items holders.decls.items

@@ -1,6 +1,7 @@
 // What stands at a full name.
-ghost use Rattle.std.specs.Prelude.{◌≡◌, ◌==◌, find, IfOk, IfSome};
+ghost use Rattle.std.specs.Prelude.{◌≡◌, ◌==◌, ◌<◌, find, length, IfOk, IfSome};
 ghost use Rattle.std.specs.List.Sorted.{IsNonDecreasingBy};
+ghost use Rattle.proto_resolve.specs.Files.{all_named};
 ghost use Rattle.proto_resolve.specs.Views.{IsView};
 ghost use Rattle.proto_resolve.specs.Names.{found, first_declared, is_seen, package_found, IsThere};
 
@@ -47,6 +48,15 @@ fn first_of_files(decls: &[DeclRef], view: &View) -> Option<DeclRef>
     None
 }
 
+// The declaration that a file finds at a full name, where it sees the files of the view.
+pub fn declared<I: Index>(index: &I, view: &View, name: &str) -> Option<DeclRef>
+    requires { IsView (I.files index.now) view.now }
+    ensures value { result ≡ first_declared view.now.file view.now.files (all_named (I.files index.now) name.now) }
+    ensures within { IfSome result (λ r. r.file < length (I.files index.now)) }
+{
+    first_declared(index.named(name), view)
+}
+
 // What a file finds at a full name, where it sees the files of the view.
 pub fn found<I: Index>(
     alloc: Global,
@@ -58,7 +68,7 @@ pub fn found<I: Index>(
     ensures value { IfOk result (λ r. r ≡ found (I.files index.now) view.now.file view.now.files name.now) }
     ensures within { IfOk result (λ r. IfSome r (IsThere (I.files index.now))) }
 {
-    match first_declared(index.named(name), view) {
+    match declared(index, view, name) {
         Some(decl) => Ok(Some(Target::Declared(decl))),
         None => package_found(alloc, index, view, name),
     }

@@ -23,11 +23,23 @@ pub fn copied(alloc: Global, text: &str) -> Result<Name, AllocError>
     Ok(Name::of(String::from_str(alloc, text)?))
 }
 
+// How many bytes the full name of several components in a scope has, or a little more.
+pub fn joined_len(scope: &str, components: &[Component]) -> usize {
+    let mut len = scope.len();
+    for component in components {
+        len = len
+            .saturating_add(component.text.as_str().len())
+            .saturating_add(1);
+    }
+    len
+}
+
 // The full name of several components in a scope.
 pub fn joined_all(alloc: Global, scope: &str, components: &[Component]) -> Result<Name, AllocError>
     ensures { IfOk result (λ n. n ≡ joined_all scope.now (map (λ c. c.text) components.now)) }
 {
-    let mut name = String::from_str(alloc, scope)?;
+    let mut name = String::with_capacity(alloc, joined_len(scope, components))?;
+    name.push_str(scope)?;
     for component in components {
         push_component(&mut name, component.text.as_str())?;
     }

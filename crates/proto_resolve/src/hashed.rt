@@ -1,10 +1,11 @@
 // Declarations in the order of hashes made of their full names, or of a part of these; where hashes are equal, in the order of the text
 // itself. A look-up compares hashes, and texts only among equal ones. Names chosen to have equal hashes are still found by binary search.
-ghost use Rattle.std.specs.Prelude.{◌≡◌, ◌≤◌, ◌∷◌, ◌==◌, ℕ, List, true, false, IfOk, OnOk, map, filter, length, bytes_eq};
+ghost use Rattle.std.specs.Prelude.{◌≡◌, ◌≤◌, ◌∷◌, ◌==◌, ℕ, List, true, false, IfOk, OnOk, map, filter, length, bytes_eq, nat_lt};
 ghost use Rattle.std.specs.Cmp.Lexicographic.{slice_cmp};
 ghost use Rattle.std.specs.List.Sorted.{IsNonDecreasing, IsPartitionPoint, IsPartitionedBy, IsPermutation, IsSorted, IsSortedBy, IsStableBy};
 ghost use Rattle.std.specs.Ordering.{is_lt, nat_cmp};
 ghost use Rattle.proto_resolve.specs.Hashed as spec;
+ghost use Rattle.proto_resolve.specs.Entries.{AreEntries};
 ghost use Rattle.proto_resolve.specs.Hashed.{AreByHash, hashed, is_before};
 
 use crate::naming::Naming;
@@ -30,14 +31,18 @@ pub struct HashedDecls {
     pub hashes: Vec<u64>,
     /// The declarations.
     pub decls: Vec<DeclRef>,
+    /// Where the hashes with the same first bits begin, for each value of these. Only the time of a look-up depends on it.
+    pub starts: Vec<usize>,
+    /// How many bits of a hash are not among those.
+    pub shift: u32,
 }
 
 // The hash of a text. Equal texts have equal hashes.
-fn hash_of(text: &str) -> u64
+fn hash_of(text: &[u8]) -> u64
     ensures { result ≡ spec.hash_of text.now }
 {
     let mut state = FoldHasher::default();
-    state.write(text.as_bytes());
+    state.write(text);
     state.finish()
 }
 
@@ -67,7 +72,7 @@ pub fn compare<N: Naming>(files: &[NamedFacts], a: HashedDecl, b: HashedDecl) ->
     }
 }
 
-// Puts them into the order of their hashes, then of their texts; those of one text stay in their order.
+// Sorts them by hash, then by text; ties keep their order.
 fn sort_by_hash<N: Naming>(
     files: &[NamedFacts],
     hashed: &mut Vec<HashedDecl>,
@@ -79,7 +84,29 @@ fn sort_by_hash<N: Naming>(
     hashed.sort_by(|a, b| compare::<N>(files, *a, *b))
 }
 
-// The hashes and the declarations, as two lists.
+// A hash without its last `shift` bits.
+fn first_bits(hash: u64, shift: u32) -> usize {
+    hash.wrapping_shr(shift) as usize
+}
+
+// Gives each value up to `bits` that has no start this one.
+fn fill_up(bits: usize, place: usize, starts: &mut Vec<usize>) -> Result<(), AllocError> {
+    while starts.len() <= bits {
+        starts.push(place)?;
+    }
+    Ok(())
+}
+
+// For each value of the first bits where the hashes with it begin.
+fn starts_of(alloc: Global, hashes: &[u64], shift: u32) -> Result<Vec<usize>, AllocError> {
+    let mut starts = Vec::new(alloc);
+    for (place, hash) in hashes.iter().enumerate() {
+        fill_up(first_bits(*hash, shift), place, &mut starts)?;
+    }
+    Ok(starts)
+}
+
+// The hashes and the declarations, as two lists. There is one value of the first bits for each one or two hashes.
 pub fn apart(alloc: Global, hashed: &[HashedDecl]) -> Result<HashedDecls, AllocError>
     ensures { IfOk result (λ n. (n.hashes.items ≡ map (λ k. k.hash) hashed.now) × (n.decls.items ≡ map (λ k. k.decl) hashed.now)) }
 {
@@ -89,22 +116,44 @@ pub fn apart(alloc: Global, hashed: &[HashedDecl]) -> Result<HashedDecls, AllocE
         hashes.push(one.hash)?;
         decls.push(one.decl)?;
     }
-    Ok(HashedDecls { hashes, decls })
+    let shift = hashes.len().leading_zeros().saturating_add(1).min(63);
+    let starts = starts_of(alloc, hashes.as_slice(), shift)?;
+    Ok(HashedDecls {
+        hashes,
+        decls,
+        starts,
+        shift,
+    })
 }
 
-/// The declarations by full name, or by a part of it; those of one text stay in their order. An `Err` comes only where memory was
-/// refused.
-pub fn by_text<N: Naming>(
+// An entry for each of the declarations, by hash, then by text; those of one text stay in their order. An `Err` comes only where memory was
+// refused.
+pub fn entries_by_text<N: Naming>(
     alloc: Global,
     files: &[NamedFacts],
     decls: &[DeclRef],
-) -> Result<HashedDecls, AllocError>
-    ensures hashed { IfOk result (λ n. AreByHash (N.part files.now) n.hashes.items n.decls.items) }
-    ensures each { IfOk result (λ n. (q : List ℕ) → filter (λ r. bytes_eq (N.part files.now r) q) n.decls.items ≡ filter (λ r. bytes_eq (N.part files.now r) q) decls.now) }
+) -> Result<Vec<HashedDecl>, AllocError>
+    ensures same { IfOk result (λ v. IsPermutation (map (hashed (N.part files.now)) decls.now) v.items) }
+    ensures entries { IfOk result (λ v. AreEntries (N.part files.now) decls.now v.items) }
 {
     let mut hashed = hashed_decls::<N>(alloc, files, decls)?;
     sort_by_hash::<N>(files, &mut hashed)?;
-    apart(alloc, hashed.as_slice())
+    Ok(hashed)
+}
+
+// The declarations of some entries by full name, or by a part of it; those of one text stay in their order. Sorted runs are merged. An `Err`
+// comes only where memory was refused.
+pub fn sorted_by_text<N: Naming>(
+    alloc: Global,
+    files: &[NamedFacts],
+    entries: Vec<HashedDecl>,
+) -> Result<HashedDecls, AllocError>
+    ensures hashed { (decls : List DeclRef) → AreEntries (N.part files.now) decls entries.items → IfOk result (λ n. AreByHash (N.part files.now) n.hashes.items n.decls.items) }
+    ensures each { (decls : List DeclRef) → AreEntries (N.part files.now) decls entries.items → IfOk result (λ n. (q : List ℕ) → filter (λ r. bytes_eq (N.part files.now r) q) n.decls.items ≡ filter (λ r. bytes_eq (N.part files.now r) q) decls) }
+{
+    let mut entries = entries;
+    sort_by_hash::<N>(files, &mut entries)?;
+    apart(alloc, entries.as_slice())
 }
 
 // How many hashes at the front are this one, which no other comes between. Mostly there is at most one.
@@ -122,35 +171,82 @@ fn count_of(hashes: &[u64], hash: u64) -> usize
     hashes.partition_point(|other| *other == hash)
 }
 
-// Of declarations in the order of their hashes, those of one hash.
-fn of_hash<'a>(hashes: &[u64], decls: &'a [DeclRef], hash: u64) -> &'a [DeclRef]
-    requires ascending { IsNonDecreasing hashes.now }
-    requires len { length hashes.now ≡ length decls.now }
-    ensures { (hash_at : DeclRef → ℕ) → hashes.now ≡ map hash_at decls.now → result.now ≡ filter (λ r. hash_at r == hash) decls.now }
+// Hashes that are compared one by one before a binary search.
+const MOST_STEPS: usize = 8;
+
+// The first place from which on no hash is lower. It is found soonest if it stands a little behind `near`.
+fn first_place(hashes: &[u64], near: usize, hash: u64) -> usize
+    requires { IsNonDecreasing hashes.now }
+    ensures within { result ≤ length hashes.now }
+    ensures point { IsPartitionPoint (λ k. nat_lt k hash ≡ true) (λ k. nat_lt k hash ≡ false) hashes.now result }
 {
-    let start = hashes.partition_point(|other| *other < hash);
+    let mut place = near.min(hashes.len());
+    if place > 0 && hashes[place - 1] >= hash {
+        return hashes.partition_point(|other| *other < hash);
+    }
+    let end = hashes.len().min(place.saturating_add(MOST_STEPS));
+    while place < end {
+        if hashes[place] >= hash {
+            return place;
+        }
+        place += 1;
+    }
+    hashes.partition_point(|other| *other < hash)
+}
+
+// The first place from which on no hash is lower, by where the hashes with its first bits begin.
+fn start_of(hashed: &HashedDecls, hash: u64) -> usize
+    requires { IsNonDecreasing hashed.now.hashes.items }
+    ensures within { result ≤ length hashed.now.hashes.items }
+    ensures point { IsPartitionPoint (λ k. nat_lt k hash ≡ true) (λ k. nat_lt k hash ≡ false) hashed.now.hashes.items result }
+{
+    let near = match hashed.starts.get(first_bits(hash, hashed.shift)) {
+        Some(start) => *start,
+        None => hashed.hashes.len(),
+    };
+    first_place(hashed.hashes.as_slice(), near, hash)
+}
+
+// Of declarations in the order of their hashes, those of one hash.
+fn of_hash<'a>(hashed: &'a HashedDecls, hash: u64) -> &'a [DeclRef]
+    requires ascending { IsNonDecreasing hashed.now.hashes.items }
+    requires len { length hashed.now.hashes.items ≡ length hashed.now.decls.items }
+    ensures { (hash_at : DeclRef → ℕ) → hashed.now.hashes.items ≡ map hash_at hashed.now.decls.items → result.now ≡ filter (λ r. hash_at r == hash) hashed.now.decls.items }
+{
+    let start = start_of(hashed, hash);
+    let hashes = hashed.hashes.as_slice();
+    let decls = hashed.decls.as_slice();
     let count = count_of(&hashes[start..], hash);
     let rest = &decls[start..];
     &rest[..count]
 }
 
-fn is_before_text<N: Naming>(files: &[NamedFacts], decl: DeclRef, text: &str) -> bool
+fn is_before_text<N: Naming>(files: &[NamedFacts], decl: DeclRef, text: &[u8]) -> bool
     ensures { result ≡ is_lt (slice_cmp nat_cmp (N.part files.now decl) text.now) }
 {
     N::part(files, decl).cmp(text).is_lt()
 }
 
-fn has_text<N: Naming>(files: &[NamedFacts], decl: DeclRef, text: &str) -> bool
+fn has_text<N: Naming>(files: &[NamedFacts], decl: DeclRef, text: &[u8]) -> bool
     ensures { result ≡ bytes_eq (N.part files.now decl) text.now }
 {
     N::part(files, decl) == text
 }
 
-// Of declarations in the order of their texts, those of one text.
-fn of_text<'a, N: Naming>(files: &[NamedFacts], decls: &'a [DeclRef], text: &str) -> &'a [DeclRef]
+// Of declarations in the order of their texts, those of one text. Mostly all have it.
+fn of_text<'a, N: Naming>(files: &[NamedFacts], decls: &'a [DeclRef], text: &[u8]) -> &'a [DeclRef]
     requires { IsSorted (λ r s. slice_cmp nat_cmp (N.part files.now r) (N.part files.now s)) decls.now }
     ensures { result.now ≡ filter (λ r. bytes_eq (N.part files.now r) text.now) decls.now }
 {
+    if decls.is_empty() {
+        return decls;
+    }
+    let last = decls.len() - 1;
+    if has_text::<N>(files, decls[0], text)
+        && (last == 0 || has_text::<N>(files, decls[last], text))
+    {
+        return decls;
+    }
     let start = decls.partition_point(|decl| is_before_text::<N>(files, *decl, text));
     let rest = &decls[start..];
     let count = rest.partition_point(|decl| has_text::<N>(files, *decl, text));
@@ -161,12 +257,12 @@ fn of_text<'a, N: Naming>(files: &[NamedFacts], decls: &'a [DeclRef], text: &str
 pub fn with_text<'a, N: Naming>(
     files: &[NamedFacts],
     hashed: &'a HashedDecls,
-    text: &str,
+    text: &[u8],
 ) -> &'a [DeclRef]
     requires { AreByHash (N.part files.now) hashed.now.hashes.items hashed.now.decls.items }
     ensures { result.now ≡ filter (λ r. bytes_eq (N.part files.now r) text.now) hashed.now.decls.items }
 {
     let hash = hash_of(text);
-    let tied = of_hash(hashed.hashes.as_slice(), hashed.decls.as_slice(), hash);
+    let tied = of_hash(hashed, hash);
     of_text::<N>(files, tied, text)
 }

@@ -1,16 +1,17 @@
 // Messages, enums and services by the last components of their full names: what may settle the scope of a name.
-ghost use Rattle.std.specs.Prelude.{◌≡◌, ◌<◌, ◌≤◌, ◌&&◌, ℕ, List, All, IfOk, IfSome, None, take, map, filter, length, false, true, nat_eq, bytes_eq};
+ghost use Rattle.std.specs.Prelude.{◌≡◌, ◌<◌, ◌≤◌, ◌&&◌, ℕ, List, Bool, All, IfOk, OnOk, IfSome, None, take, map, filter, length, false, true, nat_eq, bytes_eq};
 ghost use Rattle.std.specs.List.{list_any, starts_with};
 ghost use Rattle.std.specs.List.Sorted.{IsNonDecreasing, IsPermutation, IsSorted};
 ghost use Rattle.std.specs.Cmp.Lexicographic.{slice_cmp};
-ghost use Rattle.std.specs.Ordering.{is_lt, nat_cmp};
+ghost use Rattle.std.specs.Ordering.{is_lt, nat_cmp, ordering_then};
 ghost use Rattle.proto_resolve.specs.Files.{decl_at};
 ghost use Rattle.proto_resolve.specs.Holders.{IsLast};
+ghost use Rattle.proto_resolve.specs.Hashed.{hashed};
 ghost use Rattle.proto_resolve.specs.Names.{is_holder};
-ghost use Rattle.proto_resolve.specs.Tables.{by_scope, name_at, scope_before, scope_of, stands_in, AreByLast, IsByScope};
+ghost use Rattle.proto_resolve.specs.Tables.{by_scope, last_of, name_at, scope_before, stands_in, AreByLast, IsByScope};
 
-use crate::hashed::{HashedDecl, HashedDecls, apart, compare, hashed_decls};
-use crate::naming::{LastComponents, name_of, parts_of};
+use crate::hashed::{HashedDecl, HashedDecls, apart, hashed_decls};
+use crate::naming::{LastComponents, Parts, name_of, parts_of};
 use crate::scopes::is_holder;
 use crate::target::DeclRef;
 use file_facts::DeclKind;
@@ -30,12 +31,6 @@ fn kind_of(files: &[NamedFacts], decl: DeclRef) -> DeclKind
     }
 }
 
-fn scope_of(files: &[NamedFacts], decl: DeclRef) -> &str
-    ensures { result.now ≡ scope_of (name_at files.now decl) }
-{
-    parts_of(name_of(files, decl)).scope
-}
-
 // Those of the declarations that may settle a scope.
 fn holders_of(
     alloc: Global,
@@ -53,43 +48,70 @@ fn holders_of(
     Ok(found)
 }
 
-// By the hashes and the texts of their last components, then by their scopes.
-fn compare_scopes(files: &[NamedFacts], a: HashedDecl, b: HashedDecl) -> Ordering
-    ensures { result ≡ by_scope (name_at files.now) a b }
+// By last component, then by scope.
+fn compare_parts(a: Parts<'_>, b: Parts<'_>) -> Ordering
+    ensures { result ≡ ordering_then (slice_cmp nat_cmp a.entry.last.now b.entry.last.now) (slice_cmp nat_cmp a.entry.scope.now b.entry.scope.now) }
 {
-    match compare::<LastComponents>(files, a, b) {
-        Ordering::Equal => scope_of(files, a.decl).cmp(scope_of(files, b.decl)),
+    match a.last.cmp(b.last) {
+        Ordering::Equal => a.scope.cmp(b.scope),
         other => other,
     }
 }
 
-// Puts them into that order.
-fn sort_by_scope(files: &[NamedFacts], hashed: &mut Vec<HashedDecl>)
-    ensures sorted { IsSorted (by_scope (name_at files.now)) hashed.new.items }
-    ensures same { IsPermutation hashed.old.items hashed.new.items }
+// By the hashes and the texts of their last components, then by their scopes.
+fn compare_scopes(files: &[NamedFacts], a: HashedDecl, b: HashedDecl) -> Ordering
+    ensures { result ≡ by_scope (name_at files.now) a b }
 {
-    hashed.sort_unstable_by(|a, b| compare_scopes(files, *a, *b));
+    match a.hash.cmp(&b.hash) {
+        Ordering::Equal => compare_parts(
+            parts_of(name_of(files, a.decl)),
+            parts_of(name_of(files, b.decl)),
+        ),
+        other => other,
+    }
 }
 
-// Those of the declarations that may settle a scope, by the last components of their full names.
-pub fn by_last(
+// Puts them into that order. The first sort brings equal hashes together, so the second compares texts only among them.
+fn sort_by_scope(files: &[NamedFacts], hashed: &mut Vec<HashedDecl>) -> Result<(), AllocError>
+    ensures sorted { OnOk result (IsSorted (by_scope (name_at files.now)) hashed.new.items) }
+    ensures same { IsPermutation hashed.old.items hashed.new.items }
+{
+    hashed.sort_by_key(|one| one.hash)?;
+    hashed.sort_by(|a, b| compare_scopes(files, *a, *b))
+}
+
+// Those of the declarations that may settle a scope, in that order, with the hashes of their last components.
+pub fn entries_by_scope(
     alloc: Global,
     files: &[NamedFacts],
     decls: &[DeclRef],
-) -> Result<HashedDecls, AllocError>
-    ensures { IfOk result (λ n. AreByLast (name_at files.now) (λ full. list_any (λ r. bytes_eq (name_at files.now r) full && is_holder (let d = decl_at files.now r in d.kind)) decls.now) n.hashes.items n.decls.items) }
+) -> Result<Vec<HashedDecl>, AllocError>
+    ensures { IfOk result (λ v. IsPermutation (map (hashed (λ r. last_of (name_at files.now r))) (filter (λ r. is_holder (let d = decl_at files.now r in d.kind)) decls.now)) v.items) }
 {
     let holders = holders_of(alloc, files, decls)?;
     let mut hashed = hashed_decls::<LastComponents>(alloc, files, holders.as_slice())?;
-    sort_by_scope(files, &mut hashed);
-    apart(alloc, hashed.as_slice())
+    sort_by_scope(files, &mut hashed)?;
+    Ok(hashed)
+}
+
+// The declarations of some entries by the last components of their full names, then by their scopes.
+pub fn sorted_by_scope(
+    alloc: Global,
+    files: &[NamedFacts],
+    entries: Vec<HashedDecl>,
+) -> Result<HashedDecls, AllocError>
+    ensures { (holder : DeclRef → Bool) (decls : List DeclRef) → IsPermutation (map (hashed (λ r. last_of (name_at files.now r))) (filter holder decls)) entries.items → IfOk result (λ n. AreByLast (name_at files.now) (λ full. list_any (λ r. bytes_eq (name_at files.now r) full && holder r) decls) n.hashes.items n.decls.items) }
+{
+    let mut entries = entries;
+    sort_by_scope(files, &mut entries)?;
+    apart(alloc, entries.as_slice())
 }
 
 // What stands before the last component of a full name, where that has so many bytes.
 fn scope_before(files: &[NamedFacts], last: usize, decl: DeclRef) -> &[u8]
     ensures { result.now ≡ scope_before last (name_at files.now decl) }
 {
-    let name = name_of(files, decl).as_bytes();
+    let name = name_of(files, decl);
     &name[..name.len().saturating_sub(last).saturating_sub(1)]
 }
 

@@ -10,6 +10,7 @@
 //! diagnostics 401 to 406 is there, and that there is no other.
 #![tactic(auto)]
 
+mod decls;
 mod diagnostic_laws;
 mod diagnostics;
 mod finding;
@@ -19,6 +20,8 @@ mod hashed;
 mod holders;
 mod index;
 mod laws;
+mod name_entries;
+mod name_table;
 mod naming;
 mod outline;
 mod packages;
@@ -38,6 +41,8 @@ pub use diagnostic_laws::diagnostic_law;
 pub use finding_laws::finding_law;
 pub use index::Index;
 pub use laws::{scope_law, seen_law, uses_law};
+pub use name_entries::NameEntries;
+pub use name_table::NameTable;
 pub use outline::{same_exports, same_imports};
 pub use packages::PackagedFile;
 pub use resolve::{Links, resolve_file};

@@ -1,5 +1,7 @@
 // By which part of its full name a declaration is looked up.
-ghost use Rattle.std.specs.Prelude.{◌≡◌};
+ghost use Rattle.std.specs.Prelude.{◌≡◌, ◌≢◌, ◌<◌, ℕ, false, length, slice_index_or, MatchOption};
+ghost use Rattle.proto_resolve.specs.Files.{dot};
+ghost use Rattle.proto_resolve.specs.Holders.{has_dot};
 ghost use Rattle.proto_resolve.specs.Tables.{last_of, name_at, AreParts};
 
 use crate::target::DeclRef;
@@ -13,8 +15,8 @@ pub trait Naming {
 
     ghost part: { List NamedFacts → DeclRef → List ℕ };
 
-    /// That part of a declaration's full name.
-    fn part(files: &[NamedFacts], decl: DeclRef) -> &str
+    /// That part of a declaration's full name, in UTF-8.
+    fn part(files: &[NamedFacts], decl: DeclRef) -> &[u8]
         ensures { result.now ≡ part files.now decl };
 }
 
@@ -26,7 +28,7 @@ impl Naming for FullNames {
 
     ghost part = { λ files r. name_at files r };
 
-    fn part(files: &[NamedFacts], decl: DeclRef) -> &str {
+    fn part(files: &[NamedFacts], decl: DeclRef) -> &[u8] {
         name_of(files, decl)
     }
 }
@@ -39,19 +41,20 @@ impl Naming for LastComponents {
 
     ghost part = { λ files r. last_of (name_at files r) };
 
-    fn part(files: &[NamedFacts], decl: DeclRef) -> &str {
+    fn part(files: &[NamedFacts], decl: DeclRef) -> &[u8] {
         parts_of(name_of(files, decl)).last
     }
 }
 
-pub fn name_of(files: &[NamedFacts], decl: DeclRef) -> &str
+// A declaration's full name, in UTF-8.
+pub fn name_of(files: &[NamedFacts], decl: DeclRef) -> &[u8]
     ensures { result.now ≡ name_at files.now decl }
 {
     match files.get(decl.file) {
-        None => "",
+        None => &[],
         Some(file) => match file.facts.get().decls.as_slice().get(decl.number) {
-            None => "",
-            Some(decl) => decl.full_name.as_str(),
+            None => &[],
+            Some(decl) => decl.full_name.as_str().as_bytes(),
         },
     }
 }
@@ -59,24 +62,38 @@ pub fn name_of(files: &[NamedFacts], decl: DeclRef) -> &str
 // The two parts of a full name.
 #[derive(Clone, Copy)]
 pub struct Parts<'a> {
-    pub scope: &'a str,
-    pub last: &'a str,
+    pub scope: &'a [u8],
+    pub last: &'a [u8],
+}
+
+// Where the last dot of a full name stands.
+fn last_dot(name: &[u8]) -> Option<usize>
+    ensures { MatchOption result (has_dot name.now ≡ false) (λ at. (at < length name.now) × (slice_index_or name.now at 0 ≡ dot) × ((k : ℕ) → at < k → k < length name.now → slice_index_or name.now k 0 ≢ dot)) }
+{
+    let mut at = name.len();
+    while at > 0 {
+        at -= 1;
+        if name[at] == b'.' {
+            return Some(at);
+        }
+    }
+    None
 }
 
 // A full name, apart at its last dot.
-pub fn parts_of(name: &str) -> Parts<'_>
+pub fn parts_of(name: &[u8]) -> Parts<'_>
     ensures parts { AreParts result.scope.now result.last.now name.now }
     ensures last { result.last.now ≡ last_of name.now }
 {
-    match name.rfind('.') {
+    match last_dot(name) {
         None => Parts {
-            scope: "",
+            scope: &[],
             last: name,
         },
         Some(at) => {
             if at == 0 {
                 return Parts {
-                    scope: "",
+                    scope: &[],
                     last: name,
                 };
             }

@@ -1,15 +1,17 @@
 // The scope in which a name is looked for, and what it means.
-ghost use Rattle.std.specs.Prelude.{◌≡◌, ◌==◌, ◌<◌, length, false, find, All, IfOk, IfSome, option_copied, option_and_then};
+ghost use Rattle.std.specs.Prelude.{◌≡◌, ◌==◌, ◌<◌, length, false, find, All, IfOk, IfSome, Some, option_copied, option_and_then};
 ghost use Rattle.proto_resolve.specs.Files.{decl_at};
 ghost use Rattle.proto_resolve.specs.Holders.{earlier, has_dot, IsNext};
+ghost use Rattle.proto_resolve.specs.declared.target.Target.TheVariants.{Declared};
 ghost use Rattle.proto_resolve.specs.Names.{found, is_type, is_holder, settles, settles_at, first_text, joined_all, texts_of, scope_of, IsThere};
 
-use crate::finding::found;
+use crate::finding::{declared, found};
 use crate::full_names::{joined_all, push_component};
 use crate::index::Index;
 use crate::resolver::Resolver;
 use crate::site::{NameSite, Needs};
 use crate::target::{DeclRef, Target};
+use crate::views::sees_package;
 use file_facts::DeclKind;
 use std::alloc::{AllocError, Global};
 
@@ -42,22 +44,16 @@ pub fn kind_at<I: Index>(index: &I, decl: DeclRef) -> DeclKind
     }
 }
 
-// Whether a first component that is found like this settles the scope.
-fn settles<I: Index>(index: &I, is_alone: bool, target: &Option<Target>) -> bool
-    requires { IfSome target.now (IsThere (I.files index.now)) }
-    ensures { result ≡ settles (I.files index.now) is_alone target.now }
+// Whether a first component that means this declaration settles the scope.
+fn settles<I: Index>(index: &I, is_alone: bool, decl: DeclRef) -> bool
+    requires { decl.file < length (I.files index.now) }
+    ensures { result ≡ settles (I.files index.now) is_alone (Some (Declared decl)) }
 {
-    match target {
-        None => false,
-        Some(Target::Package(_)) => !is_alone,
-        Some(Target::Declared(decl)) => {
-            let kind = kind_at(index, *decl);
-            if is_alone {
-                is_type(Needs::MessageOrEnum, kind)
-            } else {
-                is_holder(kind)
-            }
-        }
+    let kind = kind_at(index, decl);
+    if is_alone {
+        is_type(Needs::MessageOrEnum, kind)
+    } else {
+        is_holder(kind)
     }
 }
 
@@ -76,6 +72,18 @@ fn first_text(site: &NameSite) -> &str
     }
 }
 
+// How many bytes the full name of the first component has in any of the scopes, at most.
+fn most_in_scopes(site: &NameSite) -> usize {
+    let scopes = site.scopes.place();
+    if scopes.len() == 0 {
+        return 0;
+    }
+    let innermost = scopes.get(0).len();
+    innermost
+        .saturating_add(first_text(site).len())
+        .saturating_add(1)
+}
+
 fn earlier(a: Option<usize>, b: Option<usize>) -> Option<usize>
     ensures { result ≡ earlier a b }
 {
@@ -86,8 +94,14 @@ fn earlier(a: Option<usize>, b: Option<usize>) -> Option<usize>
     }
 }
 
-// Up to so many scopes are tried one by one: a look-up in each costs less than a walk over the view.
-const FEW: usize = 64;
+// So many scopes are tried first, one by one, if they are short: a name mostly means something near.
+const INNERMOST: usize = 2;
+// How many bytes a short scope has, at most.
+const SHORT: usize = 256;
+// Up to so many scopes may be tried one by one.
+const MOST_SCOPES: usize = 64;
+// To look a name up takes about as long as to look at the packages of so many files.
+const FILES_PER_LOOKUP: usize = 4;
 
 impl<I: Index> Resolver<'_, I> {
     // Whether a scope settles a name. The full name of the first component is written over `name`.
@@ -102,8 +116,11 @@ impl<I: Index> Resolver<'_, I> {
         name.clear();
         name.push_str(scope)?;
         push_component(name, first_text(site))?;
-        let target = found(self.alloc, self.index, self.view, name.as_str())?;
-        Ok(settles(self.index, site.components.len() == 1, &target))
+        let is_alone = site.components.len() == 1;
+        Ok(match declared(self.index, self.view, name.as_str()) {
+            Some(decl) => settles(self.index, is_alone, decl),
+            None => !is_alone && sees_package(self.index, self.view, name.as_str()),
+        })
     }
 
     // The innermost scope that settles a name: where its first component is found as what ends the search.
@@ -114,7 +131,7 @@ impl<I: Index> Resolver<'_, I> {
             return Ok(Some(""));
         }
         let scopes = site.scopes.place();
-        let mut name = String::new(self.alloc);
+        let mut name = String::with_capacity(self.alloc, most_in_scopes(site))?;
         let mut number = 0;
         while number < scopes.len() {
             match self.next_scope(site, number) {
@@ -132,20 +149,22 @@ impl<I: Index> Resolver<'_, I> {
     }
 
     // A scope, counted from the innermost, or none, that no scope which settles the name comes before, from the one of a
-    // number on. Few scopes are tried one by one where packages count.
+    // number on. Short innermost scopes are tried one by one, and so are few scopes where packages count and there are many
+    // files whose packages may.
     fn next_scope(&self, site: &NameSite, number: usize) -> Option<usize>
         requires { number < length site.now.scopes }
         ensures { IsNext (settles_at (I.files self.now.index.now) self.now.view.now.file self.now.view.now.files site.now) site.now.scopes number result }
     {
         let first = first_text(site);
         let scopes = site.scopes.place();
-        if has_dot(first) {
+        let is_near = number < INNERMOST && scopes.get(number).len() <= SHORT;
+        if is_near || has_dot(first) {
             return Some(number);
         }
         if site.components.len() == 1 {
             return scopes.next_held(self.index, number, first);
         }
-        if scopes.len() <= FEW {
+        if scopes.len() <= MOST_SCOPES.min(self.view.files.len() / FILES_PER_LOOKUP) {
             return Some(number);
         }
         earlier(

@@ -1,18 +1,18 @@
 // An index that holds its files.
-ghost use Rattle.std.specs.Prelude.{◌≡◌, ◌<◌, ◌++◌, length, IfOk, OnOk};
+ghost use Rattle.std.specs.Prelude.{◌≡◌, ◌<◌, length, IfOk};
 ghost use Rattle.import_graph.specs.Imports.{graph_of};
 ghost use Rattle.import_graph.specs.Paths.{IsInPathOrder};
-ghost use Rattle.proto_resolve.specs.Files.{all_decls, facts_at, refs_of};
+ghost use Rattle.proto_resolve.specs.Files.{all_decls, facts_at};
 ghost use Rattle.proto_resolve.specs.Outlines.{import_outline, with_facts};
 ghost use Rattle.proto_resolve.specs.Seen.{exports};
 
-use crate::hashed::{HashedDecls, by_text, with_text};
-use crate::holders::{by_last, last_place};
+use crate::decls::all_decls;
 use crate::index::Index;
-use crate::naming::{FullNames, LastComponents};
+use crate::name_entries::NameEntries;
+use crate::name_table::NameTable;
 use crate::packages::{PackagedFile, longest_of, of_package, packaged_files};
 use crate::target::DeclRef;
-use file_facts::{Decl, FileFacts};
+use file_facts::FileFacts;
 use import_graph::{Graph, NamedFacts, SharedFacts};
 use sqlite_items::Items;
 use std::alloc::{AllocError, Global};
@@ -21,13 +21,9 @@ use std::marker::Model;
 /// Files with their graph, all their declarations, those of each name, and the files of each package. Contracts see it as the list of the files.
 #[derive(Drop)]
 pub struct Table {
-    files: Vec<NamedFacts>,
+    names: NameTable,
     graph: Graph,
     decls: Items<DeclRef>,
-    // All of them by their full names.
-    names: HashedDecls,
-    // Messages, enums and services by the last components of their full names, then by what stands before those.
-    holders: HashedDecls,
     // The files that have packages, by these.
     packaged: Vec<PackagedFile>,
     // How long the longest name among those is.
@@ -35,40 +31,18 @@ pub struct Table {
 }
 
 impl Model for Table {
-    ghost use Rattle.std.specs.Prelude.{◌≡◌, ℕ, List, bytes_eq, filter};
+    ghost use Rattle.std.specs.Prelude.{◌≡◌, List};
     ghost use Rattle.import_graph.specs.declared.paths.NamedFacts.{NamedFacts};
     ghost use Rattle.import_graph.specs.Imports.{graph_of};
     ghost use Rattle.import_graph.specs.Paths.{IsInPathOrder};
-    ghost use Rattle.proto_resolve.specs.Files.{all_decls, all_named};
-    ghost use Rattle.proto_resolve.specs.Holders.{is_held};
+    ghost use Rattle.proto_resolve.specs.Files.{all_decls};
     ghost use Rattle.proto_resolve.specs.Packages.{AreNoLonger, ArePackaged};
-    ghost use Rattle.proto_resolve.specs.Hashed.{AreByHash};
-    ghost use Rattle.proto_resolve.specs.Tables.{name_at, AreByLast};
 
     ghost Value = { List NamedFacts };
 
-    ghost view = { λ t. t.files.items };
+    ghost view = { λ t. t.names };
 
-    ghost invariant = { λ t. (t.graph ≡ graph_of t.files.items) × (t.decls ≡ all_decls t.files.items) × AreByHash (name_at t.files.items) t.names.hashes.items t.names.decls.items × ((q : List ℕ) → filter (λ r. bytes_eq (name_at t.files.items r) q) t.names.decls.items ≡ all_named t.files.items q) × AreByLast (name_at t.files.items) (is_held t.files.items) t.holders.hashes.items t.holders.decls.items × IsInPathOrder t.files.items × ArePackaged t.files.items t.packaged.items × AreNoLonger t.longest t.packaged.items };
-}
-
-fn push_decls(file: usize, decls: &[Decl], found: &mut Items<DeclRef>) -> Result<(), AllocError>
-    ensures { OnOk result (found.new ≡ found.old ++ refs_of file decls.now) }
-{
-    for (number, _) in decls.iter().enumerate() {
-        found.push(DeclRef { file, number })?;
-    }
-    Ok(())
-}
-
-fn all_decls(alloc: Global, files: &[NamedFacts]) -> Result<Items<DeclRef>, AllocError>
-    ensures { IfOk result (λ d. d ≡ all_decls files.now) }
-{
-    let mut found = Items::new(alloc);
-    for (number, file) in files.iter().enumerate() {
-        push_decls(number, file.facts.get().decls.as_slice(), &mut found)?;
-    }
-    Ok(found)
+    ghost invariant = { λ t. (t.graph ≡ graph_of t.names) × (t.decls ≡ all_decls t.names) × IsInPathOrder t.names × ArePackaged t.names t.packaged.items × AreNoLonger t.longest t.packaged.items };
 }
 
 impl Table {
@@ -77,18 +51,25 @@ impl Table {
         requires { IsInPathOrder files.items }
         ensures { IfOk result (λ t. t ≡ files.items) }
     {
-        let graph = Graph::of(alloc, files.as_slice())?;
-        let decls = all_decls(alloc, files.as_slice())?;
-        let names = by_text::<FullNames>(alloc, files.as_slice(), decls.as_slice())?;
-        let holders = by_last(alloc, files.as_slice(), decls.as_slice())?;
-        let packaged = packaged_files(alloc, files.as_slice())?;
+        let entries = NameEntries::of(alloc, files)?;
+        let names = NameTable::of(alloc, entries)?;
+        Table::of_names(alloc, names)
+    }
+
+    /// The table of the files whose declarations these are, in the order of their paths. An `Err` comes only where memory was
+    /// refused.
+    pub fn of_names(alloc: Global, names: NameTable) -> Result<Table, AllocError>
+        requires { IsInPathOrder names }
+        ensures { IfOk result (λ t. t ≡ names) }
+    {
+        let graph = Graph::of(alloc, names.files())?;
+        let decls = all_decls(alloc, names.files())?;
+        let packaged = packaged_files(alloc, names.files())?;
         let longest = longest_of(packaged.as_slice());
         Ok(Table {
-            files,
+            names,
             graph,
             decls,
-            names,
-            holders,
             packaged,
             longest,
         })
@@ -102,7 +83,7 @@ impl Table {
         requires exports { exports facts ≡ exports (facts_at self.old file) }
         ensures { self.new ≡ with_facts self.old file facts }
     {
-        self.files[file].facts = facts;
+        self.names.set_facts(file, facts);
     }
 
     /// The table with other facts of a file, given by its number from 0, and the graph of the files before. The other files'
@@ -117,11 +98,8 @@ impl Table {
         ensures table { IfOk result (λ r. r.0 ≡ with_facts self file facts) }
         ensures graph { IfOk result (λ r. r.1 ≡ graph_of self) }
     {
-        let Table {
-            mut files,
-            graph,
-            ..
-        } = self;
+        let Table { names, graph, .. } = self;
+        let mut files = names.into_files();
         files[file].facts = facts;
         Ok((Table::of(alloc, files)?, graph))
     }
@@ -137,7 +115,7 @@ impl Table {
     pub fn len(&self) -> usize
         ensures { result ≡ length self.now }
     {
-        self.files.len()
+        self.names.files().len()
     }
 }
 
@@ -149,11 +127,11 @@ impl Index for Table {
     }
 
     fn facts(&self, file: usize) -> &FileFacts {
-        self.files[file].facts.get()
+        self.names.files()[file].facts.get()
     }
 
     fn named(&self, full_name: &str) -> &[DeclRef] {
-        with_text::<FullNames>(self.files.as_slice(), &self.names, full_name)
+        self.names.decls_named(full_name)
     }
 
     fn packaged(&self, full_name: &str) -> &[PackagedFile] {
@@ -161,13 +139,6 @@ impl Index for Table {
     }
 
     fn last_held(&self, scope: &str, lengths: &[usize], name: &str) -> Option<usize> {
-        let decls = with_text::<LastComponents>(self.files.as_slice(), &self.holders, name);
-        last_place(
-            self.files.as_slice(),
-            decls,
-            name.len(),
-            scope.as_bytes(),
-            lengths,
-        )
+        self.names.last_held(scope, lengths, name)
     }
 }

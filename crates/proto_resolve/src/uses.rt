@@ -9,7 +9,7 @@ ghost use Rattle.std.specs.Option.{option_map_or};
 
 use crate::diagnostics::push_name_diagnostic;
 use crate::finding::found;
-use crate::full_names::push_component;
+use crate::full_names::{joined_len, push_component};
 use crate::index::Index;
 use crate::resolver::Resolver;
 use crate::site::{Component, NameSite};
@@ -133,7 +133,9 @@ impl<I: Index> Resolver<'_, I> {
     ) -> Result<(), AllocError>
         ensures { OnOk result (uses.new ≡ uses.old ++ uses_in (I.files self.now.index.now) self.now.view.now.file self.now.view.now.files name.entry.number name.entry.scope.now name.entry.components.now) }
     {
-        let mut full_name = String::from_str(self.alloc, name.scope)?;
+        let len = joined_len(name.scope, name.components);
+        let mut full_name = String::with_capacity(self.alloc, len)?;
+        full_name.push_str(name.scope)?;
         for component in name.components {
             push_component(&mut full_name, component.text.as_str())?;
             if let Some(target) = found(self.alloc, self.index, self.view, full_name.as_str())? {

@@ -28,6 +28,8 @@ use Rattle.work_index.specs.contracts.file_work.FileOut as FileOut
 use Rattle.std.specs.contracts.alloc.Global as Global
 use Rattle.work_index.specs.contracts.shares.Share as Share
 use Rattle.work_index.specs.contracts.linked.LinkedShare as LinkedShare
+use Rattle.work_index.specs.contracts.indexed.IndexedShare as IndexedShare
+use Rattle.work_index.proofs.part_table.PartTable.TheSendSync as PartTable
 use Rattle.work_index.specs.contracts.analysis.Resolutions as Resolutions
 
 node_send : IsSend Node.the_row
@@ -54,6 +56,12 @@ table_sync = Table.the_sync
 pub share_send : IsSend Share.the_row
 share_send = search (sendable, share_field_send) depth 20
 
+indexed_field_send : IsSend (IndexedShare.the_field).row
+indexed_field_send = struct_send (shape IndexedShare.the_type) (share_field_send, (search (sendable, PartTable.the_send) depth 20, tt))
+
+pub indexed_send : IsSend IndexedShare.the_row
+indexed_send = search (sendable, indexed_field_send) depth 20
+
 resolutions_field_send : IsSend (Resolutions.the_field).row
 resolutions_field_send = struct_send (shape Resolutions.the_type) (search (sendable, Items.the_send, Links.the_send) depth 40, (search (sendable, Items.the_send, Diag.the_send) depth 40, tt))
 
@@ -63,6 +71,9 @@ linked_field_send = struct_send (shape LinkedShare.the_type) (search (sendable, 
 pub linked_send : IsSend LinkedShare.the_row
 linked_send = search (sendable, linked_field_send) depth 20
 
--- what a closure takes with it crosses where each of four does
+-- what a closure takes with it crosses where each of two does, and where each of four does
+pub two_send : (name : Sym) (A B : RattleType) → IsSend A → IsSend B → IsSend (TupleAt name (A ∷ B ∷ []))
+two_send name A B a b = let T = type_at name (A ∷ B ∷ []) in recorded_send _ T.D T.to T.to_one (struct_send (shape T) (a, (b, tt)))
+
 pub four_send : (name : Sym) (A B C D : RattleType) → IsSend A → IsSend B → IsSend C → IsSend D → IsSend (TupleAt name (A ∷ B ∷ C ∷ D ∷ []))
 four_send name A B C D a b c d = let T = type_at name (A ∷ B ∷ C ∷ D ∷ []) in recorded_send _ T.D T.to T.to_one (struct_send (shape T) (a, (b, (c, (d, tt)))))

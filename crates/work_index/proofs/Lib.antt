@@ -3,6 +3,8 @@ pub mod Steps
 pub mod Changed
 pub mod Balance
 pub mod Crossing
+pub mod Merged
+pub mod Taken
 pub mod Joined
 pub mod Kept
 pub mod Promised

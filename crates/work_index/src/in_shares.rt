@@ -1,19 +1,23 @@
 // The analysis of a workspace by several threads.
-ghost use Rattle.std.specs.Prelude.{◌≡◌, ℕ, List, length, IfOk};
+ghost use Rattle.std.specs.Prelude.{◌≡◌, ℕ, List, length, map, IfOk};
 ghost use Rattle.std.specs.Thread.{IsSync};
 ghost use Rattle.import_graph.specs.declared.paths.NamedFacts.{NamedFacts};
+ghost use Rattle.import_graph.specs.Paths.{IsInPathOrder};
+ghost use Rattle.work_index.specs.Parts.{part_of, IsIndexed, AreIndexed};
 ghost use Rattle.work_index.specs.Pieces.{workspace_of};
-ghost use Rattle.work_index.specs.Shares.{AreNumbersIn, ArePlacedIn, IsLinkedBy, AreLinkedBy};
-ghost use Rattle.work_index.specs.Workspace.{analysis};
+ghost use Rattle.work_index.specs.Shares.{pieces_in, AreNumbersIn, ArePlacedIn, IsLinkedBy, AreLinkedBy};
+ghost use Rattle.work_index.specs.Stretches.{Cover};
+ghost use Rattle.work_index.specs.Workspace.{all_facts, analysis};
 
 use crate::analyse::paths_of;
 use crate::analysis::Analysis;
 use crate::fault::AnalyseFault;
 use crate::file_work::FileWork;
 use crate::gate::Gate;
+use crate::indexed::{IndexedShare, IndexedShares, index_share, take_apart};
 use crate::linked::{LinkedShare, gather, link_share};
+use crate::part_table::merge_tables;
 use crate::shares::{Share, cut};
-use crate::table_of::table_of;
 use piece_collector::Lent;
 use proto_resolve::Table;
 use std::alloc::{AllocError, Global};
@@ -31,6 +35,69 @@ struct ShareLinked {
 
 impl Promise<Result<LinkedShare, AllocError>> for ShareLinked {
     ghost kept_by = { λ p answer. IfOk answer (IsLinkedBy p.table.value p.share.value) };
+}
+
+// The share comes back with the table of its files.
+#[derive(Drop)]
+struct ShareIndexed {
+    share: Snapshot<Share>,
+}
+
+impl Promise<Result<IndexedShare, AllocError>> for ShareIndexed {
+    ghost kept_by = { λ p answer. IfOk answer (IsIndexed p.share.value) };
+}
+
+// Makes the table of each share in a thread of its own, and waits for all of them.
+fn index_all<R: Threads + Wait>(
+    rt: &R,
+    alloc: Global,
+    shares: Vec<Share>,
+) -> Result<Vec<Result<IndexedShare, AllocError>>, AnalyseFault>
+    ensures { IfOk result (λ answers. AreIndexed shares.items answers.items) }
+{
+    thread::scope(
+        thread::scope_env(),
+        rt,
+        |scope| -> Result<Vec<Result<IndexedShare, AllocError>>, AnalyseFault>
+            ensures { IfOk result (λ answers. AreIndexed shares.items answers.items) }
+        {
+            let mut handles = Vec::new(alloc);
+            for share in shares {
+                let promise = ShareIndexed {
+                    share: Snapshot::of(&share),
+                };
+                let Ok(handle) = scope.spawn_with(
+                    promise,
+                    move || -> Result<IndexedShare, AllocError>
+                        ensures { IfOk result (IsIndexed share) }
+                    { index_share(alloc, share) },
+                ) else {
+                    return Err(AnalyseFault::ThreadRefused);
+                };
+                handles.push(handle)?;
+            }
+            let answers = thread::join_promised(rt, handles)?;
+            Ok(answers)
+        },
+    )
+}
+
+// The shares as they were, and the table of all their files, which threads make part by part.
+fn table_in_shares<R: Threads + Wait>(
+    rt: &R,
+    alloc: Global,
+    shares: Vec<Share>,
+) -> Result<(Vec<Share>, Table), AnalyseFault>
+    requires cover { Cover (all_facts (workspace_of (pieces_in shares.items))) (map part_of shares.items) }
+    requires ordered { IsInPathOrder (all_facts (workspace_of (pieces_in shares.items))) }
+    ensures shares { IfOk result (λ r. r.0.items ≡ shares.items) }
+    ensures table { IfOk result (λ r. r.1 ≡ all_facts (workspace_of (pieces_in shares.items))) }
+{
+    let answers = index_all(rt, alloc, shares)?;
+    let IndexedShares { shares, parts } = take_apart(alloc, answers)?;
+    let names = merge_tables(alloc, parts)?;
+    let table = Table::of_names(alloc, names)?;
+    Ok((shares, table))
 }
 
 // Links each share in a thread of its own, and waits for all of them.
@@ -76,7 +143,8 @@ fn link_all<R: Threads + Wait, G: Gate>(
 }
 
 /// The analysis of the workspace of lent pieces, which come back as they were. It is the one that [`analyse_here`](crate::analyse_here)
-/// makes of them. As many threads as there are `workers` link the files: 0 counts as 1, and over 64 as 64, and there are never
+/// makes of them. As many threads as there are `workers` gather the declarations of the files by name, and after that
+/// as many link the files: 0 counts as 1, and over 64 as 64, and there are never
 /// more than there are files. Each takes a run of consecutive files; the runs differ in length by at most one, the longer ones
 /// first. A thread enters the gate with the path and the stamp of each of its files before it links it. The number of threads
 /// takes no part in what is made. It waits until each of them has ended.
@@ -94,10 +162,10 @@ pub fn analyse_in_shares<R: Threads + Wait, G: Gate>(
     ensures analysis { IfOk result (λ r. r.1 ≡ analysis (workspace_of lent)) }
 {
     let pieces = lent.into_pieces();
-    let table = table_of(alloc, pieces.as_slice())?;
     let paths = paths_of(alloc, pieces.as_slice())?;
     let count = workers.clamp(1, 64).min(pieces.len());
     let shares = cut(alloc, pieces, count)?;
+    let (shares, table) = table_in_shares(rt, alloc, shares)?;
     let answers = link_all(rt, alloc, shares, &table, gate)?;
     let LinkedShare {
         pieces,

@@ -13,7 +13,9 @@ mod fault;
 mod file_work;
 mod gate;
 mod in_shares;
+mod indexed;
 mod linked;
+mod part_table;
 mod shares;
 mod table_of;
 
@@ -25,3 +27,4 @@ pub use fault::AnalyseFault;
 pub use file_work::{FileOut, FileWork};
 pub use gate::{Gate, OpenGate};
 pub use in_shares::analyse_in_shares;
+pub use part_table::{PartTable, merge_tables};

@@ -21,7 +21,8 @@ fn named_facts(alloc: Global, piece: &Piece<FileWork>) -> Result<NamedFacts, All
     })
 }
 
-fn all_facts(alloc: Global, pieces: &[Piece<FileWork>]) -> Result<Vec<NamedFacts>, AllocError>
+// The files of some pieces, with their facts, which aren't copied.
+pub fn all_facts(alloc: Global, pieces: &[Piece<FileWork>]) -> Result<Vec<NamedFacts>, AllocError>
     ensures { IfOk result (λ files. files.items ≡ all_facts (workspace_of pieces.now)) }
 {
     let mut files = Vec::new(alloc);

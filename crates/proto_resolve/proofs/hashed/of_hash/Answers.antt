@@ -1,20 +1,20 @@
-use Rattle.std.proofs.Common.{rules}
+use Rattle.std.proofs.Common.{◌≡◌, ◌==◌, true, false, drop}
 use Rattle.std.specs.Prelude.{nat_lt}
-use Rattle.std.proofs.lemmas.List.Sorted.{IsPartitionPoint-from_clause}
-use Rattle.proto_resolve.proofs.Hashes.{hash_first, lower_first, of_one_hash}
+use Rattle.std.specs.List.Sorted.{IsNonDecreasing, IsPartitionPoint}
+use Rattle.proto_resolve.proofs.Hashes.{hash_first, of_one_hash}
 use Rattle.proto_resolve.proofs.PackageFronts.{to_end}
 use Rattle.proto_resolve.proofs.hashed.of_hash.Goals as goal
 
 pub count_of-count-requires : goal.count_of-count-requires
 count_of-count-requires c =
-    let start = IsPartitionPoint-from_clause (λ k. nat_lt k c.args.hash) c.args.hashes.now c.partition_point-start.result
-    c.partition_point-start.ensures.partitioned (lower_first c.args.hashes.now c.args.hash c.requires.ascending) (λ a r q k. search rules) in
-    rw (to_end c.partition_point-start.result c.args.hashes.now) (hash_first c.args.hashes.now c.args.hash c.requires.ascending c.partition_point-start.result start)
+    let start : IsPartitionPoint (λ k. nat_lt k c.args.hash ≡ true) (λ k. nat_lt k c.args.hash ≡ false) c.as_slice-hashes.result.now c.start_of-start.result = rw c.as_slice-hashes.ensures.value c.start_of-start.ensures.point in
+    let up : IsNonDecreasing c.as_slice-hashes.result.now = rw c.as_slice-hashes.ensures.value c.requires.ascending in
+    rw (to_end c.start_of-start.result c.as_slice-hashes.result.now) (hash_first c.as_slice-hashes.result.now c.args.hash up c.start_of-start.result start)
 
 pub returns : goal.returns
 returns c = λ number are.
-    let whole = to_end c.partition_point-start.result c.args.hashes.now in
-    let rest = to_end c.partition_point-start.result c.args.decls.now in
-    let start = IsPartitionPoint-from_clause (λ k. nat_lt k c.args.hash) c.args.hashes.now c.partition_point-start.result
-    c.partition_point-start.ensures.partitioned (lower_first c.args.hashes.now c.args.hash c.requires.ascending) (λ a r q k. search rules) in
-    rw rest (of_one_hash c.args.hashes.now c.args.hash c.requires.ascending number c.args.decls.now c.partition_point-start.result c.count_of-count.result are start (rw whole at c.count_of-count.ensures.point))
+    let start : IsPartitionPoint (λ k. nat_lt k c.args.hash ≡ true) (λ k. nat_lt k c.args.hash ≡ false) c.args.hashed.now.hashes.items c.start_of-start.result = c.start_of-start.ensures.point in
+    let end : IsPartitionPoint (λ k. (k == c.args.hash) ≡ true) (λ k. (k == c.args.hash) ≡ false) (drop c.start_of-start.result c.args.hashed.now.hashes.items) c.count_of-count.result =
+    rw (to_end c.start_of-start.result c.as_slice-hashes.result.now, c.as_slice-hashes.ensures.value) at c.count_of-count.ensures.point in
+    rw (to_end c.start_of-start.result c.as_slice-decls.result.now, c.as_slice-decls.ensures.value)
+    (of_one_hash c.args.hashed.now.hashes.items c.args.hash c.requires.ascending number c.args.hashed.now.decls.items c.start_of-start.result c.count_of-count.result are start end)

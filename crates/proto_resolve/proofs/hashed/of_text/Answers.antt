@@ -1,11 +1,26 @@
-use Rattle.std.proofs.Common.{drop, bytes_eq, rules}
+use Rattle.std.proofs.Common.{◌≡◌, ◌<◌, ◌∙◌, sym, subst, true, drop, get_or, length, bytes_eq, rules}
 use Rattle.std.specs.Cmp.Lexicographic.{slice_cmp}
 use Rattle.std.specs.Ordering.{nat_cmp, is_lt}
 use Rattle.std.proofs.lemmas.List.Sorted.{IsPartitionPoint-from_clause}
-use Rattle.proto_resolve.proofs.Hashes.{text_first, of_one_text}
+use Rattle.proto_resolve.specs.declared.target.DeclRef.{DeclRef}
+use Rattle.proto_resolve.proofs.Hashes.{all_of_text, some_there, text_first, of_one_text}
 use Rattle.proto_resolve.proofs.PackageFronts.{to_end}
 use Rattle.proto_resolve.proofs.Prefixes.{parted}
 use Rattle.proto_resolve.proofs.hashed.of_text.Goals as goal
+use Rattle.proto_resolve.proofs.hashed.of_text.Goals.{then-last-eq0, else-last-eq0}
+
+pub returns-then-has_text-2 : goal.returns-then-has_text-2
+returns-then-has_text-2 g c =
+    let nothing : DeclRef = record { file = 0; number = 0 } in
+    let some : 0 < length c.args.decls.now = some_there (length c.args.decls.now) (sym c.if-is_empty.ensures) in
+    elim c.if-last-eq0.branch [
+      | then-last-eq0 w ↦
+          all_of_text (g.N.Naming.part c.args.files.now) c.args.decls.now c.args.text.now c.requires nothing (sym c.if-has_text.ensures)
+          (subst (λ k. bytes_eq (g.N.Naming.part c.args.files.now (get_or c.args.decls.now k nothing)) c.args.text.now ≡ true) (sym w.if-last-eq0.true) (sym c.if-has_text.ensures)) some
+      | else-last-eq0 w ↦
+          all_of_text (g.N.Naming.part c.args.files.now) c.args.decls.now c.args.text.now c.requires nothing (sym c.if-has_text.ensures)
+          (sym w.has_text-else-last-eq0.ensures ∙ sym w.value-is ∙ c.if-has_text-2.true) some
+    ]
 
 pub returns : goal.returns
 returns g c =

@@ -1,10 +1,17 @@
 use Rattle.std.proofs.Common.{rules}
 use Rattle.std.specs.Ordering.{is_lt}
 use Rattle.std.proofs.lemmas.Fn.{always_returns_same}
-use Rattle.std.proofs.lemmas.List.Sorted.{ranks_by}
+use Rattle.std.proofs.lemmas.List.Sorted.{ranks_by, IsPermutation-trans}
+use Rattle.std.proofs.lemmas.Result.{on_ok_weaker}
 use Rattle.proto_resolve.specs.Tables.{by_scope, name_at}
 use Rattle.proto_resolve.proofs.ByLast.{scopes_total}
 use Rattle.proto_resolve.proofs.holders.sort_by_scope.Goals as goal
 
 pub returns-clause-sorted : goal.returns-clause-sorted
-returns-clause-sorted c = c.sort_unstable_by.ensures.sorted (λ a b. is_lt (by_scope (name_at c.args.files.now) a b)) (ranks_by (scopes_total (name_at c.args.files.now)) (λ h. h)) (always_returns_same _ _ _ (λ a r f k. search rules))
+returns-clause-sorted c =
+    on_ok_weaker c.sort_by.result
+    (λ sorts. sorts (λ a b. is_lt (by_scope (name_at c.args.files.now) a b)) (ranks_by (scopes_total (name_at c.args.files.now)) (λ h. h)) (always_returns_same _ _ _ (λ a r f k. search rules)))
+    c.sort_by.ensures.sorted
+
+pub returns-clause-same : goal.returns-clause-same
+returns-clause-same c = IsPermutation-trans _ _ _ c.sort_by_key.ensures.permutation c.sort_by.ensures.permutation

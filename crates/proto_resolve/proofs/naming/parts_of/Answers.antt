@@ -1,13 +1,13 @@
-use Rattle.std.proofs.Common.{◌≡◌, ◌∙◌, sym, ap, Some, None, ◌∷◌, ◌++◌, take, drop, ◌+◌, arith, false}
-use Rattle.std.proofs.lemmas.Str.Pattern.{rfind_char}
+use Rattle.std.proofs.Common.{◌≡◌, ◌∙◌, sym, ap, ◌∷◌, ◌++◌, take, drop, ◌+◌, arith, false}
 use Rattle.proto_resolve.specs.Holders.{has_dot}
 use Rattle.proto_resolve.specs.Tables.{last_of}
-use Rattle.proto_resolve.proofs.LastParts.{alone, leading, apart, no_dot, last_plain, last_alone, last_apart, last_leading, at_dot, some_front, front_is}
+use Rattle.proto_resolve.proofs.LastParts.{alone, leading, apart, last_plain, last_alone, last_apart, last_leading, at_dot, some_front}
+use Rattle.proto_resolve.proofs.PackageFronts.{to_end}
 use Rattle.proto_resolve.proofs.naming.parts_of.Goals as goal
 
 pub returns-then-at-eq0-clause-parts : goal.returns-then-at-eq0-clause-parts
 returns-then-at-eq0-clause-parts c =
-    let found = rfind_char 46 c.args.name.now (Some c.in-Some.at) c.in-Some.ensures.cases (omega arith) in
+    let found = c.in-Some.ensures in
     let first : c.in-Some.at ≡ 0 = c.if-at-eq0.true in
     let plain : has_dot (drop (c.in-Some.at + 1) c.args.name.now) ≡ false = last_plain c.args.name.now c.in-Some.at found.2 in
     let whole : c.args.name.now ≡ take c.in-Some.at c.args.name.now ++ 46 ∷ drop (c.in-Some.at + 1) c.args.name.now = at_dot c.args.name.now c.in-Some.at found.0 found.1 in
@@ -16,7 +16,7 @@ returns-then-at-eq0-clause-parts c =
 
 pub returns-then-at-eq0-clause-last : goal.returns-then-at-eq0-clause-last
 returns-then-at-eq0-clause-last c =
-    let found = rfind_char 46 c.args.name.now (Some c.in-Some.at) c.in-Some.ensures.cases (omega arith) in
+    let found = c.in-Some.ensures in
     let first : c.in-Some.at ≡ 0 = c.if-at-eq0.true in
     let plain : has_dot (drop (c.in-Some.at + 1) c.args.name.now) ≡ false = last_plain c.args.name.now c.in-Some.at found.2 in
     let whole : c.args.name.now ≡ take c.in-Some.at c.args.name.now ++ 46 ∷ drop (c.in-Some.at + 1) c.args.name.now = at_dot c.args.name.now c.in-Some.at found.0 found.1 in
@@ -24,30 +24,23 @@ returns-then-at-eq0-clause-last c =
     rw short (last_leading (drop (c.in-Some.at + 1) c.args.name.now) plain)
 
 pub returns-in-None-clause-parts : goal.returns-in-None-clause-parts
-returns-in-None-clause-parts c =
-    let none = rfind_char 46 c.args.name.now None c.in-None.ensures.cases (omega arith) in
-    alone c.args.name.now (no_dot c.args.name.now none)
+returns-in-None-clause-parts c = alone c.args.name.now c.in-None.ensures
 
 pub returns-in-None-clause-last : goal.returns-in-None-clause-last
-returns-in-None-clause-last c =
-    let none = rfind_char 46 c.args.name.now None c.in-None.ensures.cases (omega arith) in
-    last_alone c.args.name.now (no_dot c.args.name.now none)
+returns-in-None-clause-last c = last_alone c.args.name.now c.in-None.ensures
 
 pub returns-else-at-eq0-clause-parts : goal.returns-else-at-eq0-clause-parts
 returns-else-at-eq0-clause-parts c =
-    let found = rfind_char 46 c.args.name.now (Some c.in-Some.at) c.in-Some.ensures.cases (omega arith) in
+    let found = c.in-Some.ensures in
     let plain : has_dot (drop (c.in-Some.at + 1) c.args.name.now) ≡ false = last_plain c.args.name.now c.in-Some.at found.2 in
     let whole : c.args.name.now ≡ take c.in-Some.at c.args.name.now ++ 46 ∷ drop (c.in-Some.at + 1) c.args.name.now = at_dot c.args.name.now c.in-Some.at found.0 found.1 in
     let is = apart (take c.in-Some.at c.args.name.now) (drop (c.in-Some.at + 1) c.args.name.now) (some_front c.args.name.now c.in-Some.at (omega (arith, c.if-at-eq0.false)) found.0) plain in
-    let front : c.range.result.now ≡ take c.in-Some.at c.args.name.now = c.range.ensures.value ∙ front_is c.args.name.now c.in-Some.at in
-    let back : c.range_from.result.now ≡ drop (c.in-Some.at + 1) c.args.name.now = c.range_from.ensures.value in
-    rw (front, back) (rw (← whole) at is)
+    rw (to_end (c.in-Some.at + 1) c.args.name.now) (rw (← whole) at is)
 
 pub returns-else-at-eq0-clause-last : goal.returns-else-at-eq0-clause-last
 returns-else-at-eq0-clause-last c =
-    let found = rfind_char 46 c.args.name.now (Some c.in-Some.at) c.in-Some.ensures.cases (omega arith) in
+    let found = c.in-Some.ensures in
     let plain : has_dot (drop (c.in-Some.at + 1) c.args.name.now) ≡ false = last_plain c.args.name.now c.in-Some.at found.2 in
     let whole : c.args.name.now ≡ take c.in-Some.at c.args.name.now ++ 46 ∷ drop (c.in-Some.at + 1) c.args.name.now = at_dot c.args.name.now c.in-Some.at found.0 found.1 in
     let is = last_apart (take c.in-Some.at c.args.name.now) (drop (c.in-Some.at + 1) c.args.name.now) (some_front c.args.name.now c.in-Some.at (omega (arith, c.if-at-eq0.false)) found.0) plain in
-    let back : c.range_from.result.now ≡ drop (c.in-Some.at + 1) c.args.name.now = c.range_from.ensures.value in
-    back ∙ is ∙ ap last_of (sym whole)
+    to_end (c.in-Some.at + 1) c.args.name.now ∙ is ∙ ap last_of (sym whole)

@@ -1,0 +1,67 @@
+// The declarations of stretches of a workspace by name, and those of all its files.
+ghost use Rattle.std.specs.Prelude.{◌≡◌, List, IfOk, OnOk};
+ghost use Rattle.std.specs.List.Sorted.{IsNonDecreasingBy, IsPermutation};
+ghost use Rattle.import_graph.specs.declared.paths.NamedFacts.{NamedFacts};
+ghost use Rattle.work_index.specs.Pieces.{workspace_of};
+ghost use Rattle.work_index.specs.Stretches.{Cover};
+ghost use Rattle.work_index.specs.Workspace.{all_facts};
+
+use crate::file_work::FileWork;
+use crate::table_of::all_facts;
+use piece_collector::Piece;
+use proto_resolve::{NameEntries, NameTable};
+use std::alloc::{AllocError, Global};
+use std::marker::Model;
+
+/// The declarations of consecutive files of a workspace by name: what one thread makes of its share. Contracts see the number of
+/// its first file among all, counted from 0, and the files with their facts.
+#[derive(Drop)]
+pub struct PartTable {
+    first: usize,
+    entries: NameEntries,
+}
+
+impl Model for PartTable {
+    ghost use Rattle.work_index.specs.Stretches.{PartData};
+
+    ghost Value = { PartData };
+
+    ghost view = { λ p. record { first = p.first; files = p.entries } };
+}
+
+impl PartTable {
+    /// The table of the files of some pieces, the first of which has this number, from 0, among all. Their facts aren't copied. An
+    /// `Err` comes only where memory was refused.
+    pub fn of(
+        alloc: Global,
+        first: usize,
+        pieces: &[Piece<FileWork>],
+    ) -> Result<PartTable, AllocError>
+        ensures { IfOk result (λ p. p ≡ record { first = first; files = all_facts (workspace_of pieces.now) }) }
+    {
+        let files = all_facts(alloc, pieces)?;
+        let entries = NameEntries::of(alloc, files)?;
+        Ok(PartTable { first, entries })
+    }
+}
+
+fn sort_by_first(parts: &mut Vec<PartTable>) -> Result<(), AllocError>
+    ensures sorted { OnOk result (IsNonDecreasingBy (λ p. p.first) parts.new.items) }
+    ensures same { IsPermutation parts.old.items parts.new.items }
+{
+    parts.sort_by_key(|part| part.first)
+}
+
+/// Merges the tables of parts that cover the files of a workspace from 0 without overlap or gap, in any order. The declarations of
+/// a name are then by file, then offset. An `Err` comes only where memory was refused.
+pub fn merge_tables(alloc: Global, parts: Vec<PartTable>) -> Result<NameTable, AllocError>
+    ensures { (files : List NamedFacts) → Cover files parts.items → IfOk result (λ t. t ≡ files) }
+{
+    let mut parts = parts;
+    sort_by_first(&mut parts)?;
+    let mut entries = NameEntries::new(alloc);
+    for part in parts {
+        entries = entries.followed_by(part.entries)?;
+    }
+    NameTable::of(alloc, entries)
+}
