@@ -45,7 +45,7 @@ PRIVATE = {
     "proto_facts": {"Seen", "Reach"},
     "file_facts": {"Seen", "Reach"},
     "import_graph": {"Condensed", "Fronts", "Components", "Ties", "Tours", "Shared"},
-    "proto_resolve": {"Places", "Views", "Tables"},
+    "proto_resolve": {"Places", "Views", "Tables", "Replaced"},
     "doc_text": {"Bytes", "Walks"},
     "lsp_queries": {"Searching"},
     "lsp_rpc": {"Writing"},

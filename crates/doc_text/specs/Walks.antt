@@ -18,3 +18,8 @@ pub record IsCursor (e : Encoding) (text : List ℕ) (c : Cursor) : Type 0 where
   pub counted : c.position.line + c.position.character ≤ c.at
   pub onward : (offset : ℕ) → c.at ≤ offset →
       position_of e text offset ≡ moved c.position.line c.position.character (position_in e (lines (chars (drop c.at text))) (offset - c.at))
+
+-- what a walk goes over
+pub record Walked : Type 0 where
+  pub encoding : Encoding
+  pub text : List ℕ

@@ -11,13 +11,13 @@ use std::alloc::{AllocError, Global};
 
 // An offset between two characters, and its position.
 #[derive(Clone, Copy, Debug, PartialEq, Eq)]
-struct Cursor {
-    at: usize,
-    position: Position,
+pub(crate) struct Cursor {
+    pub(crate) at: usize,
+    pub(crate) position: Position,
 }
 
 // A cursor at the front of a text.
-fn front() -> Cursor
+pub(crate) fn front() -> Cursor
     ensures at { result.at ≡ 0 }
     ensures line { result.position.line ≡ 0 }
     ensures character { result.position.character ≡ 0 }
@@ -70,7 +70,7 @@ fn step(text: &[u8], cursor: Cursor, encoding: Encoding) -> Cursor
 }
 
 // The cursor behind the last character that ends at or before an offset.
-fn advance(text: &[u8], from: Cursor, offset: usize, encoding: Encoding) -> Cursor
+pub(crate) fn advance(text: &[u8], from: Cursor, offset: usize, encoding: Encoding) -> Cursor
     requires before { from.at ≤ offset }
     requires cursor { IsCursor encoding text.now from }
     ensures before { result.at ≤ offset }

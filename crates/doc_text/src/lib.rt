@@ -15,6 +15,7 @@ mod laws;
 mod position;
 mod scan;
 mod text;
+mod walk;
 
 pub use change::Change;
 pub use cursor::positions_of;
@@ -26,3 +27,4 @@ pub use laws::{
 };
 pub use position::{Position, Range};
 pub use text::Text;
+pub use walk::Walk;

@@ -16,22 +16,24 @@ range_more : (a n j : ℕ) → a + n ≡ j → range_with_len a (suc n) ≡ rang
 range_more a zero j e = let same : a ≡ j = omega (arith, e) in ap (λ (x : ℕ). x ∷ []) same
 range_more a (suc n) j e = ap (λ (l : List ℕ). a ∷ l) (range_more (a + 1) n j (omega (arith, e)))
 
+-- what passes among one more number
+module _ (p : ℕ → Bool) where
+  more : (k : ℕ) → filter p (range_with_len 0 (k + 1)) ≡ filter p (range_with_len 0 k) ++ filter p (k ∷ [])
+  more k = ap (λ (n : ℕ). filter p (range_with_len 0 n)) (add-one k) ∙ (ap (filter p) (range_more 0 k k (omega arith)) ∙ filter-append p (range_with_len 0 k) (k ∷ []))
+
+  pub passes_too : (k : ℕ) → p k ≡ true → filter p (range_with_len 0 (k + 1)) ≡ filter p (range_with_len 0 k) ++ k ∷ []
+  passes_too k is =
+      let one : filter p (k ∷ []) ≡ k ∷ [] = rw is refl in
+      more k ∙ ap (λ (xs : List ℕ). filter p (range_with_len 0 k) ++ xs) one
+
+  pub does_not_pass : (k : ℕ) → p k ≡ false → filter p (range_with_len 0 (k + 1)) ≡ filter p (range_with_len 0 k)
+  does_not_pass k is =
+      let none : filter p (k ∷ []) ≡ [] = rw is refl in
+      more k ∙ (ap (λ (xs : List ℕ). filter p (range_with_len 0 k) ++ xs) none ∙ append-nil (filter p (range_with_len 0 k)))
+
 module _ (flags : List Bool) where
   abbrev is_flagged : ℕ → Bool
   is_flagged g = get_or flags g false
-
-  more : (k : ℕ) → filter is_flagged (range_with_len 0 (k + 1)) ≡ filter is_flagged (range_with_len 0 k) ++ filter is_flagged (k ∷ [])
-  more k = ap (λ (n : ℕ). filter is_flagged (range_with_len 0 n)) (add-one k) ∙ (ap (filter is_flagged) (range_more 0 k k (omega arith)) ∙ filter-append is_flagged (range_with_len 0 k) (k ∷ []))
-
-  pub flagged_too : (k : ℕ) → get_or flags k false ≡ true → filter is_flagged (range_with_len 0 (k + 1)) ≡ filter is_flagged (range_with_len 0 k) ++ k ∷ []
-  flagged_too k is =
-      let one : filter is_flagged (k ∷ []) ≡ k ∷ [] = rw is refl in
-      more k ∙ ap (λ (xs : List ℕ). filter is_flagged (range_with_len 0 k) ++ xs) one
-
-  pub not_flagged : (k : ℕ) → get_or flags k false ≡ false → filter is_flagged (range_with_len 0 (k + 1)) ≡ filter is_flagged (range_with_len 0 k)
-  not_flagged k is =
-      let none : filter is_flagged (k ∷ []) ≡ [] = rw is refl in
-      more k ∙ (ap (λ (xs : List ℕ). filter is_flagged (range_with_len 0 k) ++ xs) none ∙ append-nil (filter is_flagged (range_with_len 0 k)))
 
   pub flagged_rises : IsStrictlyIncreasing (flagged flags)
   flagged_rises = IsStrictlyIncreasing-filter is_flagged (range_with_len 0 (length flags)) (rising (length flags))

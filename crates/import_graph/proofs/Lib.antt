@@ -17,3 +17,4 @@ pub mod Outlooks
 pub mod Representatives
 pub mod Sharing
 pub mod Flagged
+pub mod Seers

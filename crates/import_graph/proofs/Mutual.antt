@@ -7,9 +7,10 @@ use Rattle.std.proofs.lemmas.List.{get_or_default, get_or_past, get_or_push, get
 use Rattle.std.proofs.lemmas.List.Elements.{All-contains, All-weaker, All-contains_itself}
 use Rattle.import_graph.specs.Walks.{AllWithin, Lists, Walk, stay, go, ReachedFrom}
 use Rattle.import_graph.specs.Ties.{IsInner, IsFirst, IsTied}
+use Rattle.import_graph.specs.Tours.{IsTurned}
 use Rattle.import_graph.proofs.ImportEdges.{filter_from, walk_map}
 use Rattle.import_graph.proofs.Placing.{listed_within}
-use Rattle.import_graph.proofs.Search.{walk_snoc}
+use Rattle.import_graph.proofs.Search.{walk_back}
 
 -- what the last row lists, or an earlier one
 pub lists_push : (rows : List (List ℕ)) (row : List ℕ) (a b : ℕ) → Lists (rows ++ row ∷ []) a b → ((a < length rows) × Lists rows a b) ⊎ ((a ≡ length rows) × Contains row b)
@@ -56,11 +57,7 @@ module _ (imports : List (List ℕ)) (numbers : List ℕ) (inner : List (List �
   kept stay = refl
   kept (go {a = a} {b = b} first rest) = kept rest ∙ (is_inner a b first).1
 
-  module _ (turned : List (List ℕ)) (is_turned : (a b : ℕ) → Lists turned a b → Lists inner b a) where
-    back : {a b : ℕ} → Walk (λ x y. Lists turned x y) a b → Walk (λ x y. Lists inner x y) b a
-    back stay = stay
-    back (go {a = a} {b = b} first rest) = walk_snoc (back rest) (is_turned a b first)
-
+  module _ (turned : List (List ℕ)) (is_turned : IsTurned inner turned) where
     append : {a b c : ℕ} → Walk (λ x y. Lists imports x y) a b → Walk (λ x y. Lists imports x y) b c → Walk (λ x y. Lists imports x y) a c
     append stay later = later
     append (go first rest) later = go first (append rest later)
@@ -75,7 +72,7 @@ module _ (imports : List (List ℕ)) (numbers : List ℕ) (inner : List (List �
         let ahead = (both b of_b).0 in
         let r = behind.0 in
         let s = ahead.0 in
-        let from = back behind.2 in
+        let from = walk_back (λ a b. (is_turned a b).0) behind.2 in
         let of_r : number r ≡ number a = kept from in
         let of_s : number b ≡ number s = kept ahead.2 in
         let at_r : get_or firsts (number r) 0 ≡ r = All-contains (IsFirst firsts numbers) starts r first behind.1 in

@@ -13,6 +13,11 @@ pub walk_snoc : {Step : ℕ → ℕ → Type 0} {a b c : ℕ} → Walk Step a b 
 walk_snoc stay last = go last stay
 walk_snoc (go first rest) last = go first (walk_snoc rest last)
 
+-- the same walk from its end, by steps the other way round
+pub walk_back : {Step Back : ℕ → ℕ → Type 0} → ((a b : ℕ) → Step a b → Back b a) → {a b : ℕ} → Walk Step a b → Walk Back b a
+walk_back each stay = stay
+walk_back each (go {a = a} {b = b} first rest) = walk_snoc (walk_back each rest) (each a b first)
+
 -- what was seen is reached, and of the files that were followed all steps were seen
 pub record Searches (next : List (List ℕ)) (start : List ℕ) (s : FileSearch) (followed : ℕ) : Type 0 where
   pub as_long : length s.seen.items ≡ length next

@@ -1,6 +1,7 @@
 -- What a step of a search does.
 use Rattle.std.specs.Prelude.{◌≡◌, ◌⊎◌, ◌↔◌, ℕ, ◌+◌, ◌<◌, ◌≤◌, List, [], ◌∷◌, ◌++◌, Bool, true, false, length, slice_index_or, slice_set, sum_by, filter, Contains}
 use Rattle.std.specs.List.{range_with_len}
+use Rattle.import_graph.specs.Walks.{Lists}
 use Rattle.import_graph.specs.declared.file_search.FileSearch.{FileSearch}
 
 -- the file was seen
@@ -10,6 +11,10 @@ IsSeen s g = slice_index_or s.seen.items g false ≡ true
 -- the files that were seen are those that were found
 abbrev pub IsListed : FileSearch → Type 0
 IsListed s = (g : ℕ) → IsSeen s g ↔ Contains s.found.items g
+
+-- the file imports one that was seen
+abbrev pub ImportsSeen : List (List ℕ) → FileSearch → ℕ → Type 0
+ImportsSeen imports s g = (h : ℕ) × Lists imports g h × IsSeen s h
 
 -- the files that are flagged, ascending
 abbrev pub flagged : List Bool → List ℕ

@@ -1,5 +1,5 @@
 -- A tour of all files.
-use Rattle.std.specs.Prelude.{◌≡◌, ◌⊎◌, Contains, ℕ, ◌+◌, ◌<◌, List, [], ◌∷◌, Bool, true, false, length, vec_len, All}
+use Rattle.std.specs.Prelude.{◌≡◌, ◌⊎◌, ◌↔◌, Contains, ℕ, ◌+◌, ◌<◌, List, [], ◌∷◌, Bool, true, false, length, vec_len, All}
 use Rattle.import_graph.specs.Walks.{AllWithin, Lists}
 use Rattle.import_graph.specs.declared.tour.Step.{Step}
 use Rattle.import_graph.specs.declared.tour.Step.TheVariants.{Enter, Leave}
@@ -26,10 +26,10 @@ to_come (false ∷ rest) (row ∷ next) = length row + 1 + to_come rest next
 abbrev pub work : List (List ℕ) → Tour → ℕ
 work next tour = to_come tour.entered.items next + vec_len tour.steps
 
--- what is listed anew is the file, in the targets' rows
-abbrev pub AddsOnly : List (List ℕ) → List (List ℕ) → List ℕ → ℕ → Type 0
-AddsOnly old new targets file = (a b : ℕ) → Lists new a b → Lists old a b ⊎ (Contains targets a × (b ≡ file))
+-- what is listed is what was listed before, and the file in the targets' rows
+abbrev pub Adds : List (List ℕ) → List (List ℕ) → List ℕ → ℕ → Type 0
+Adds old new targets file = (a b : ℕ) → Lists new a b ↔ Lists old a b ⊎ (Contains targets a × (b ≡ file))
 
--- what is listed for a file lists it
+-- turned rows list a file for another one exactly if the rows list that one for it
 abbrev pub IsTurned : List (List ℕ) → List (List ℕ) → Type 0
-IsTurned rows turned = (a b : ℕ) → Lists turned a b → Lists rows b a
+IsTurned rows turned = (a b : ℕ) → Lists turned a b ↔ Lists rows b a

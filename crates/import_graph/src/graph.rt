@@ -9,6 +9,7 @@ use crate::condensed::condensed_steps;
 use crate::file_search::reached;
 use crate::imports::{FileImports, completeness, imports_of};
 use crate::paths::{FileNo, NamedFacts};
+use crate::seen_by::{importing, leading_to};
 use crate::shared::{SharedLists, shared_lists};
 use sqlite_items::Items;
 use std::alloc::{AllocError, Global};
@@ -48,7 +49,7 @@ impl Model for Graph {
 impl Graph {
     ghost use Rattle.import_graph.specs.Imports.{graph_of, edges_at, target_at};
     ghost use Rattle.std.specs.List.{list_all};
-    ghost use Rattle.import_graph.specs.Closures.{view_of, reaches, closes_cycle, is_complete, is_closed};
+    ghost use Rattle.import_graph.specs.Closures.{view_of, seers_of, reaches, closes_cycle, is_complete, is_closed};
     ghost use Rattle.import_graph.specs.Views.{Imports, Sees, Reaches, ClosesCycle, IsClosed};
 
     /// The graph of files, which are given in the order of their paths' bytes, no path twice. Each file's number is its
@@ -140,6 +141,21 @@ impl Graph {
         )?;
         search.visit(file)?;
         search.into_ascending()
+    }
+
+    /// The numbers of the files that see a file, ascending, each once: itself, those that import it, and those of which an
+    /// import leads to it by public imports. `Err` where memory was refused.
+    pub fn seen_by(&self, file: FileNo) -> Result<Vec<FileNo>, AllocError>
+        requires { file < length self.now }
+        ensures seers { IfOk result (λ v. v.items ≡ seers_of self.now file) }
+        ensures ascending { IfOk result (λ v. IsStrictlyIncreasing v.items) }
+        ensures within { IfOk result (λ v. All (λ g. g < length self.now) v.items) }
+        ensures exact { IfOk result (λ v. (g : ℕ) → Contains v.items g ↔ Sees self.now g file) }
+    {
+        let steps = self.steps.as_slice();
+        let leading = leading_to(self.alloc, steps, file)?;
+        let seers = importing(self.alloc, self.imports.as_slice(), &leading, file)?;
+        Ok(seers)
     }
 
     /// Whether an import closes a cycle: imports lead from the file that it names back to the importing one, or it names

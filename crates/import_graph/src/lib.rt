@@ -10,6 +10,7 @@
 //! Which files lead to one another is found once, when the graph is made; that tells whether an import closes a cycle, and
 //! where it could not, a search would. What a file sees is searched when it is asked for, in time that grows with what the search meets:
 //! the file's imports, the files that it sees, and their steps, which are kept once for files that public imports lead to one another.
+//! Which files see a file is searched back over the same steps, in time that grows with all files and imports.
 #![tactic(auto)]
 
 mod components;
@@ -20,6 +21,7 @@ mod imports;
 mod laws;
 mod outlook;
 mod paths;
+mod seen_by;
 mod shared;
 mod shared_facts;
 mod ties;

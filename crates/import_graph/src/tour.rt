@@ -2,7 +2,7 @@
 
 ghost use Rattle.std.specs.Prelude.{◌≡◌, ◌<◌, ◌≤◌, ◌+◌, [], ◌∷◌, ◌++◌, List, slice_index_or, slice_set, length, vec_len, IfOk, OnOk, All};
 ghost use Rattle.import_graph.specs.Walks.{AllWithin};
-ghost use Rattle.import_graph.specs.Tours.{IsTour, IsWithin, work, AddsOnly, IsTurned};
+ghost use Rattle.import_graph.specs.Tours.{IsTour, IsWithin, work, Adds, IsTurned};
 
 use crate::paths::FileNo;
 use sqlite_items::Items;
@@ -42,7 +42,7 @@ fn add_to_all(
     requires within { All (AllWithin (vec_len rows.old)) rows.old.items }
     ensures length { OnOk result (vec_len rows.new ≡ vec_len rows.old) }
     ensures within { OnOk result (All (AllWithin (vec_len rows.old)) rows.new.items) }
-    ensures adds { OnOk result (AddsOnly rows.old.items rows.new.items targets.now file) }
+    ensures adds { OnOk result (Adds rows.old.items rows.new.items targets.now file) }
 {
     for &target in targets {
         add_to(rows, target, file)?;

@@ -16,6 +16,7 @@ pub fn answer(alloc: Global, line: &mut String, call: &str, fields: &[&str]) -> 
             write_ring(alloc, line, count)?;
         }
         "alike" => write_alike(alloc, line, fields)?,
+        "seers" => write_seers(alloc, line, files_of(alloc, fields)?.as_slice())?,
         _ => write_graph(alloc, line, files_of(alloc, fields)?.as_slice())?,
     }
     Ok(())
@@ -129,6 +130,30 @@ fn write_graph(alloc: Global, line: &mut String, files: &[NamedFacts]) -> Result
     let graph = Graph::of(alloc, files)?;
     for number in 0..files.len() {
         show_file(line, &graph, files, number)?;
+    }
+    Ok(())
+}
+
+// Adds the files that see a file.
+fn show_seers(line: &mut String, graph: &Graph, file: FileNo) -> Result<(), AllocError>
+    requires { file < length graph.now }
+{
+    let seers = graph.seen_by(file)?;
+    write!(line, "{file}:")?;
+    for seer in seers.as_slice() {
+        write!(line, " {seer}")?;
+    }
+    line.push_str("; ")
+}
+
+// For each of the files those that see it.
+fn write_seers(alloc: Global, line: &mut String, files: &[NamedFacts]) -> Result<(), AllocError> {
+    if !are_in_path_order(files) {
+        return line.push_str("not in order");
+    }
+    let graph = Graph::of(alloc, files)?;
+    for file in 0..files.len() {
+        show_seers(line, &graph, file)?;
     }
     Ok(())
 }

@@ -43,7 +43,7 @@ fn answer<R: Threads + Wait>(
         "problems" | "facts" | "copied facts" | "in order" | "joined" | "part" | "copied name" => {
             fact_lists::answer(alloc, line, call, fields)
         }
-        "graph" | "alike" | "ring" => graphs::answer(alloc, line, call, fields),
+        "graph" | "alike" | "ring" | "seers" => graphs::answer(alloc, line, call, fields),
         "links" | "outlines" | "replaced" | "set" => links::answer(alloc, line, call, fields),
         "board" | "piece" | "refused piece" => boards::answer(alloc, line, call, fields),
         "analysis" => analyses::answer(rt, alloc, line, fields),

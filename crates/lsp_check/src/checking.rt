@@ -1,6 +1,7 @@
 // The check of a workspace, without an editor.
 ghost use Rattle.std.specs.Prelude.{◌≡◌, ◌+◌, ◌≤◌, IfOk, IfErr, OnOk, OnErr};
 ghost use Rattle.std.specs.Io.KnownBytes.{Appends};
+ghost use Rattle.doc_text.specs.declared.encoding.Encoding.TheVariants.{Utf16};
 ghost use Rattle.lsp_frame.specs.Counts.{NoneFell, NoError};
 ghost use Rattle.lsp_workspace.specs.Files.{workspace};
 ghost use Rattle.lsp_check.specs.Listing.{lines_of, listing, has_errors};
@@ -9,7 +10,8 @@ ghost use Rattle.lsp_config.specs.Fault.{ComesWhileChecking};
 ghost use Rattle.lsp_config.specs.Sending.{SendsPrefix};
 
 use crate::analysing::analyse_files;
-use crate::lines::{has_errors, lines_of};
+use crate::lines::{has_errors, push_lines};
+use doc_text::{Encoding, Walk};
 use file_facts::Diag;
 use lsp_config::{Config, ServeFault};
 use lsp_frame::{ByteSink, write_bytes};
@@ -21,7 +23,38 @@ use std::sync::{Arc, Wait};
 use std::thread::Threads;
 use work_index::Gate;
 
-// Writes the lines of a file.
+// How many lines are in memory at a time.
+const LINES: usize = 4096;
+
+// Writes the lines of some diagnostics of a file, whose text the walk goes along. The lines take the place of what the room
+// held.
+fn send_part<K: ByteSink>(
+    writer: &mut K,
+    room: &mut Vec<u8>,
+    path: &str,
+    walk: &mut Walk<'_>,
+    diags: &[Diag],
+) -> Result<(), ServeFault>
+    requires { walk.old.encoding ≡ Utf16 }
+    ensures same { walk.new ≡ walk.old }
+    ensures ok { OnOk result (Appends (K.written writer.old) (K.written writer.new) (lines_of path.now walk.old.text diags.now)) }
+    ensures err { OnErr result (SendsPrefix (K.written writer.old) (K.written writer.new) (lines_of path.now walk.old.text diags.now)) }
+    ensures fault { IfErr result (ComesWhileChecking (K.counts writer.old) (K.counts writer.new)) }
+    ensures counts { NoneFell (K.counts writer.old) (K.counts writer.new) }
+    ensures calm { OnOk result (NoError (K.counts writer.old) (K.counts writer.new)) }
+    ensures once { (K.counts writer.new).errors ≤ (K.counts writer.old).errors + 1 }
+{
+    room.clear();
+    let Ok(()) = push_lines(room, path, walk, diags) else {
+        return Err(ServeFault::Memory);
+    };
+    match write_bytes(writer, room.as_slice()) {
+        Ok(()) => Ok(()),
+        Err(_) => Err(ServeFault::Write),
+    }
+}
+
+// Writes the lines of a file, so many at a time.
 fn send_lines<K: ByteSink>(
     alloc: Global,
     writer: &mut K,
@@ -36,13 +69,15 @@ fn send_lines<K: ByteSink>(
     ensures calm { OnOk result (NoError (K.counts writer.old) (K.counts writer.new)) }
     ensures once { (K.counts writer.new).errors ≤ (K.counts writer.old).errors + 1 }
 {
-    let Ok(lines) = lines_of(alloc, path, text, diags) else {
-        return Err(ServeFault::Memory);
-    };
-    match write_bytes(writer, lines.as_slice()) {
-        Ok(()) => Ok(()),
-        Err(_) => Err(ServeFault::Write),
+    let mut walk = Walk::new(text, Encoding::Utf16);
+    let mut room = Vec::new(alloc);
+    let mut left = diags;
+    'parts: while !left.is_empty() {
+        let (part, more) = left.split_at(left.len().min(LINES));
+        send_part(writer, &mut room, path, &mut walk, part)?;
+        left = more;
     }
+    Ok(())
 }
 
 // Writes the lines of the files of a workspace, one file after the other.
@@ -89,7 +124,7 @@ fn send_and_judge<K: ByteSink>(
 /// Checks the files of a configuration: writes a line for each diagnostic, and answers whether one is an error.
 ///
 /// A line is `path:line:column: number message`, with line and column from 1 and columns in UTF-16 units, and ends with a
-/// line feed. The lines come by path, and those of a file by start, end, number and words. Those of one file are in memory
+/// line feed. The lines come by path, and those of a file by start, end, number and words. At most 4,096 of them are in memory
 /// at a time.
 ///
 /// As many threads as there are `workers` do the work on the texts, and then as many link the files, but never more than there

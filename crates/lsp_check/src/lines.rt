@@ -1,16 +1,15 @@
 // What is wrong in a file, as a command line shows it.
-ghost use Rattle.std.specs.Prelude.{◌≡◌, ◌++◌, map, decimal, IfOk, OnOk};
+ghost use Rattle.std.specs.Prelude.{◌≡◌, ◌++◌, decimal, IfOk, OnOk};
 ghost use Rattle.std.specs.List.{list_any};
-ghost use Rattle.doc_text.specs.Positions.{position_of};
 ghost use Rattle.doc_text.specs.declared.encoding.Encoding.TheVariants.{Utf16};
 ghost use Rattle.lsp_check.specs.Listing.{place_of, words_of, line_at, lines_of, is_error, has_errors};
 
-use doc_text::{Encoding, Position, positions_of};
+use doc_text::{Position, Walk};
 use file_facts::{Diag, Problem};
 use itoa::Buffer;
 use lsp_workspace::Snapshot;
 use sqlite_items::Items;
-use std::alloc::{AllocError, Global};
+use std::alloc::AllocError;
 
 fn push_number(out: &mut Vec<u8>, number: u128) -> Result<(), AllocError>
     ensures { OnOk result (out.new.items ≡ out.old.items ++ decimal number) }
@@ -58,44 +57,21 @@ fn push_line(
     Ok(())
 }
 
-// Adds the lines of some diagnostics of a file, which start at these positions.
-fn push_lines(
+// Adds the lines of some diagnostics of a file, whose text the walk goes along.
+pub fn push_lines(
     out: &mut Vec<u8>,
     path: &str,
-    text: &str,
+    walk: &mut Walk<'_>,
     diags: &[Diag],
-    places: &[Position],
 ) -> Result<(), AllocError>
-    requires { places.now ≡ map (position_of Encoding.Utf16 text.now) (map (λ d. d.start) diags.now) }
-    ensures { OnOk result (out.new.items ≡ out.old.items ++ lines_of path.now text.now diags.now) }
+    requires { walk.old.encoding ≡ Utf16 }
+    ensures lines { OnOk result (out.new.items ≡ out.old.items ++ lines_of path.now walk.old.text diags.now) }
+    ensures same { walk.new ≡ walk.old }
 {
-    for number in 0..diags.len() {
-        push_line(out, path, places[number], diags[number].message)?;
+    for diag in diags {
+        push_line(out, path, walk.position_of(diag.start), diag.message)?;
     }
     Ok(())
-}
-
-// The positions at which some diagnostics of a text start.
-fn start_positions(alloc: Global, text: &str, diags: &[Diag]) -> Result<Vec<Position>, AllocError>
-    ensures { IfOk result (λ places. places.items ≡ map (position_of Encoding.Utf16 text.now) (map (λ d. d.start) diags.now)) }
-{
-    let offsets: Vec<usize> = diags.iter().map(|d| d.start).collect(alloc)?;
-    positions_of(alloc, text, offsets.as_slice(), Encoding::Utf16)
-}
-
-// A line for each diagnostic of a file.
-pub fn lines_of(
-    alloc: Global,
-    path: &str,
-    text: &str,
-    diags: &[Diag],
-) -> Result<Vec<u8>, AllocError>
-    ensures { IfOk result (λ lines. lines.items ≡ lines_of path.now text.now diags.now) }
-{
-    let places = start_positions(alloc, text, diags)?;
-    let mut out = Vec::new(alloc);
-    push_lines(&mut out, path, text, diags, places.as_slice())?;
-    Ok(out)
 }
 
 fn is_error(diag: &Diag) -> bool

@@ -1,8 +1,8 @@
 -- Declarations by the last components of their names.
-use Rattle.std.proofs.Common.{◌≡◌, ◌∙◌, sym, ap, ap₂, subst, refl, inl, inr, ◌&&◌, ◌<◌, ◌+◌, ℕ, List, [], ◌∷◌, Bool, true, false, map, filter, get_or, length, bytes_eq, arith}
+use Rattle.std.proofs.Common.{◌≡◌, ◌∙◌, sym, ap, ap₂, subst, refl, inl, inr, ◌&&◌, ◌==◌, ◌<◌, ◌+◌, ℕ, List, [], ◌∷◌, Bool, true, false, not, map, filter, get_or, length, bytes_eq, arith}
 use Rattle.std.specs.Prelude.{All}
 use Rattle.std.specs.List.{list_any}
-use Rattle.std.specs.List.Sorted.{IsPermutation, IsSorted, IsSortedBy}
+use Rattle.std.specs.List.Sorted.{IsSorted, IsSortedBy}
 use Rattle.std.specs.Cmp.{IsTotalOrder}
 use Rattle.std.specs.Cmp.Lexicographic.{slice_cmp}
 use Rattle.std.specs.Ordering.{is_lt, nat_cmp, ordering_then}
@@ -14,16 +14,32 @@ use Rattle.std.proofs.lemmas.Cmp.{nat_list_cmp_total, on_total, then_total, tied
 use Rattle.std.proofs.lemmas.List.{get_or-map, length-map}
 use Rattle.std.proofs.lemmas.List.Elements.{All-cons, All-head, All-tail, filter_passes}
 use Rattle.std.proofs.lemmas.List.Kept.{IsSortedBy-filter}
-use Rattle.std.proofs.lemmas.List.Sorted.{All-permutation, IsPermutation-map, list_any-IsPermutation, ranks_by}
+use Rattle.std.proofs.lemmas.List.Sorted.{ranks_by}
 use Rattle.std.proofs.lemmas.Slice.Eq.{bytes_eq-Decides}
 use Rattle.file_facts.specs.Text.{joined}
+use Rattle.import_graph.specs.declared.paths.NamedFacts.{NamedFacts}
 use Rattle.proto_resolve.specs.declared.hashed.HashedDecl.{HashedDecl}
+use Rattle.proto_resolve.specs.declared.hashed.HashedDecls.{HashedDecls}
 use Rattle.proto_resolve.specs.declared.target.DeclRef.{DeclRef}
-use Rattle.proto_resolve.specs.Hashed.{hash_of, hashed, is_before}
-use Rattle.proto_resolve.specs.Holders.{has_dot}
-use Rattle.proto_resolve.specs.Tables.{by_scope, last_of, of_last, scope_before, scope_of, stands_in, AreByLast, IsByScope}
-use Rattle.proto_resolve.proofs.Hashes.{all_fit, decls_back, keeps_mapped, put_by_hash, Fits}
+use Rattle.proto_resolve.specs.Files.{all_decls, decl_at}
+use Rattle.proto_resolve.specs.Hashed.{hash_of, hashed, AreByHash}
+use Rattle.proto_resolve.specs.Holders.{has_dot, is_held}
+use Rattle.proto_resolve.specs.Names.{is_holder}
+use Rattle.proto_resolve.specs.Tables.{by_scope, holder_entries, last_of, name_at, scope_before, scope_of, stands_in, AreInOrder, IsByScope}
+use Rattle.proto_resolve.proofs.Hashes.{all_fit, decls_back, is_before, keeps_mapped, put_fitting, Fits}
 use Rattle.proto_resolve.proofs.LastParts.{parts_of_any}
+use Rattle.proto_resolve.proofs.Same.{fits_so, fitting, same_all, same_any, same_mapped}
+
+-- the declarations of one last component
+abbrev pub of_last : (DeclRef → List ℕ) → List DeclRef → List ℕ → List DeclRef
+of_last name decls last = filter (λ r. bytes_eq (last_of (name r)) last) decls
+
+-- declarations by their last components, those of one last component by their scopes; one of a full name is among them exactly if that
+-- name passes the test
+pub record AreByLast (name : DeclRef → List ℕ) (test : List ℕ → Bool) (hashes : List ℕ) (decls : List DeclRef) : Type 0 where
+  pub hashed : AreByHash (λ r. last_of (name r)) hashes decls
+  pub all : (scope last : List ℕ) → has_dot last ≡ false → stands_in name (length last) (of_last name decls last) scope ≡ test (joined scope last)
+  pub ordered : (last : List ℕ) → IsByScope name (length last) (of_last name decls last)
 
 pub any_kept : {X : Type 0} (p g : X → Bool) (xs : List X) → list_any g (filter p xs) ≡ list_any (λ x. p x && g x) xs
 any_kept p g [] = refl
@@ -32,7 +48,7 @@ any_kept p g (x ∷ xs) = elim (cases_Bool (p x)) [
   | inr fails ↦ rw (fails, any_kept p g xs) refl
 ]
 
-keeps_fits : {X : Type 0} (P : X → Type 0) (p : X → Bool) (xs : List X) → All P xs → All P (filter p xs)
+pub keeps_fits : {X : Type 0} (P : X → Type 0) (p : X → Bool) (xs : List X) → All P xs → All P (filter p xs)
 keeps_fits P p [] all = all
 keeps_fits P p (x ∷ xs) all = elim (cases_Bool (p x)) [
   | inl passes ↦ rw passes (All-cons P x (filter p xs) (All-head P x xs all) (keeps_fits P p xs (All-tail P x xs all)))
@@ -41,12 +57,12 @@ keeps_fits P p (x ∷ xs) all = elim (cases_Bool (p x)) [
 
 -- ---- in the order of two tests
 
-first_of_two : (o p : Ordering) → is_lt (ordering_then o p) ≡ false → is_lt o ≡ false
+pub first_of_two : (o p : Ordering) → is_lt (ordering_then o p) ≡ false → is_lt o ≡ false
 first_of_two Less p e = absurd (cc (e))
 first_of_two Equal p e = refl
 first_of_two Greater p e = refl
 
-second_of_two : (o p : Ordering) → o ≡ Equal → is_lt (ordering_then o p) ≡ false → is_lt p ≡ false
+pub second_of_two : (o p : Ordering) → o ≡ Equal → is_lt (ordering_then o p) ≡ false → is_lt p ≡ false
 second_of_two Less p tied e = absurd (cc (tied))
 second_of_two Equal p tied e = e
 second_of_two Greater p tied e = absurd (cc (tied))
@@ -132,30 +148,35 @@ module _ (name : DeclRef → List ℕ) where
   other_way false b true e = refl
   other_way false b false e = refl
 
-  pub stands_alike : (holder : DeclRef → Bool) (decls ds : List DeclRef) → IsPermutation (filter holder decls) ds → (s q : List ℕ) → has_dot q ≡ false
+  stands_alike : (holder : DeclRef → Bool) (decls ds : List DeclRef) → ((p : DeclRef → Bool) → length (filter p (filter holder decls)) ≡ length (filter p ds)) → (s q : List ℕ) → has_dot q ≡ false
       → stands_in name (length q) (of_last name ds q) s ≡ list_any (λ r. bytes_eq (name r) (joined s q) && holder r) decls
-  stands_alike holder decls ds moved s q plain =
-      let both : DeclRef → Bool = λ r. bytes_eq (last_of (name r)) q && bytes_eq (scope_before (length q) (name r)) s in
+  stands_alike holder decls ds same s q plain =
       any_kept (λ r. bytes_eq (last_of (name r)) q) (λ r. bytes_eq (scope_before (length q) (name r)) s) ds
-      ∙ sym (list_any-IsPermutation (λ r. bytes_eq (last_of (name r)) q && bytes_eq (scope_before (length q) (name r)) s) (filter holder decls) ds moved)
+      ∙ sym (same_any (filter holder decls) ds same (λ r. bytes_eq (last_of (name r)) q && bytes_eq (scope_before (length q) (name r)) s))
       ∙ any_kept holder (λ r. bytes_eq (last_of (name r)) q && bytes_eq (scope_before (length q) (name r)) s) decls
       ∙ ap (λ (test : DeclRef → Bool). list_any test decls) (fun_ext (λ r. other_way (holder r) (bytes_eq (last_of (name r)) q && bytes_eq (scope_before (length q) (name r)) s) (bytes_eq (name r) (joined s q)) (both_parts s q plain (name r))))
 
-  pub put_by_last : (holder : DeclRef → Bool) (decls : List DeclRef) (gs : List HashedDecl) → IsPermutation (map (hashed last_at) (filter holder decls)) gs → IsSorted (by_scope name) gs
-      → AreByLast name (λ n. list_any (λ r. bytes_eq (name r) n && holder r) decls) (map (λ (k : HashedDecl). k.hash) gs) (map (λ (k : HashedDecl). k.decl) gs)
-  put_by_last holder decls gs moved sorted =
+  -- what may settle a scope, by the last components
+  pub holders_by_last : (holder : DeclRef → Bool) (decls : List DeclRef) (found : HashedDecls) → AreInOrder (by_scope name) (map (hashed last_at) (filter holder decls)) found
+      → AreByLast name (λ n. list_any (λ r. bytes_eq (name r) n && holder r) decls) found.hashes.items found.decls.items
+  holders_by_last holder decls found are =
       let ds : List DeclRef = filter holder decls in
-      let fits = All-permutation (Fits (λ (k : HashedDecl). k.hash) (λ k. k.decl) last_at) (map (hashed last_at) ds) gs moved (all_fit last_at ds) in
-      let moved' : IsPermutation (filter holder decls) (map (λ (k : HashedDecl). k.decl) gs) =
-      subst (λ xs. IsPermutation xs (map (λ (k : HashedDecl). k.decl) gs)) (decls_back last_at ds) (IsPermutation-map (λ (k : HashedDecl). k.decl) (map (hashed last_at) ds) gs moved) in
-      record {
-        hashed = put_by_hash last_at ds gs moved (by_last_first gs sorted);
-        all = λ s q plain. stands_alike holder decls (map (λ (k : HashedDecl). k.decl) gs) moved' s q plain;
-        ordered = λ q. of_one_last gs sorted fits q;
-      }
+      let gs : List HashedDecl = are.sorted in
+      let fits = same_all (Fits (λ (k : HashedDecl). k.hash) (λ k. k.decl) last_at) (λ k. not (k.hash == hash_of (last_at k.decl)))
+      (λ k e. fitting k.hash (hash_of (last_at k.decl)) e) (λ k e. fits_so k.hash (hash_of (last_at k.decl)) e)
+      (map (hashed last_at) ds) gs are.same (all_fit last_at ds) in
+      let counts : (p : DeclRef → Bool) → length (filter p ds) ≡ length (filter p (map (λ (k : HashedDecl). k.decl) gs)) =
+      λ p. sym (ap (λ es. length (filter p es)) (decls_back last_at ds)) ∙ same_mapped (λ (k : HashedDecl). k.decl) (map (hashed last_at) ds) gs are.same p in
+      rw (are.hashes_are, are.decls_are) (record {
+        hashed = put_fitting last_at gs fits (by_last_first gs are.ordered);
+        all = λ s q plain. stands_alike holder decls (map (λ (k : HashedDecl). k.decl) gs) counts s q plain;
+        ordered = λ q. of_one_last gs are.ordered fits q;
+      })
 
-module _ (name name' : DeclRef → List ℕ) (test test' : List ℕ → Bool) (hashes : List ℕ) (decls : List DeclRef) where
-  -- the same declarations for the same names
-  pub still_by_last : ((r : DeclRef) → name r ≡ name' r) → ((n : List ℕ) → test n ≡ test' n) → AreByLast name test hashes decls → AreByLast name' test' hashes decls
-  still_by_last names tests are =
-      subst (λ n. AreByLast n test' hashes decls) (fun_ext names) (subst (λ t. AreByLast name t hashes decls) (fun_ext tests) are)
+-- of files
+pub files_by_last : (files : List NamedFacts) (found : HashedDecls) → AreInOrder (by_scope (name_at files)) (holder_entries files) found
+    → AreByLast (name_at files) (is_held files) found.hashes.items found.decls.items
+files_by_last files found are =
+    subst (λ (test : List ℕ → Bool). AreByLast (name_at files) test found.hashes.items found.decls.items)
+    (fun_ext (λ n. sym (any_kept (λ r. bytes_eq (name_at files r) n) (λ r. is_holder (let d = decl_at files r in d.kind)) (all_decls files))))
+    (holders_by_last (name_at files) (λ r. is_holder (let d = decl_at files r in d.kind)) (all_decls files) found are)

@@ -1,26 +1,32 @@
 -- Entries for the names of files, of some files and of others that follow.
-use Rattle.std.proofs.Common.{◌≡◌, ◌∙◌, sym, ap, ap₂, subst, refl, inl, inr, ◌<◌, ◌+◌, ℕ, List, [], ◌∷◌, ◌++◌, Bool, map, filter, get_or, length, bytes_eq, arith}
-use Rattle.std.specs.Prelude.{All}
+use Rattle.std.proofs.Common.{◌≡◌, ◌∙◌, sym, ap, ap₂, subst, refl, inl, inr, ◌<◌, ◌≤◌, ◌+◌, ℕ, List, [], ◌∷◌, ◌++◌, append-nil, Bool, true, false, not, map, filter, get_or, length, arith}
+use Rattle.std.specs.Prelude.{All, nat_lt}
 use Rattle.std.specs.List.{enumerate_from, flat_map}
-use Rattle.std.specs.List.Sorted.{IsPermutation, IsStableBy}
+use Rattle.std.specs.List.Sorted.{IsPermutation, IsSorted}
+use Rattle.std.specs.Ordering.{is_lt, nat_cmp}
+use Rattle.std.specs.declared.cmp.Ordering.{Ordering}
 use Rattle.std.proofs.Math.Path.{fun_ext}
-use Rattle.std.proofs.lemmas.Bool.{cases_Bool}
+use Rattle.std.proofs.lemmas.Bool.{cases_Bool, cases_lt}
+use Rattle.std.proofs.lemmas.Bool.Decides.{nat_tests}
 use Rattle.std.proofs.lemmas.Grind.{flat_map-append}
-use Rattle.std.proofs.lemmas.List.{get_or-append-add, get_or_append_left, length-append, length-map, map-append}
+use Rattle.std.proofs.lemmas.List.{get_or-append-add, get_or-map, get_or_append_left, length-map, map-append}
 use Rattle.std.proofs.lemmas.List.Elements.{All-append, All-cons, All-head, All-map, All-nil, All-tail, All-weaker, filter-append}
-use Rattle.std.proofs.lemmas.List.Sorted.{All-permutation, IsPermutation-append, IsPermutation-map}
 use Rattle.std.proofs.lemmas.Simd.{map-map}
 use Rattle.file_facts.specs.declared.fact.Decl.{Decl}
 use Rattle.import_graph.specs.declared.paths.NamedFacts.{NamedFacts}
 use Rattle.proto_resolve.specs.declared.hashed.HashedDecl.{HashedDecl}
+use Rattle.proto_resolve.specs.declared.hashed.HashedDecls.{HashedDecls}
 use Rattle.proto_resolve.specs.declared.target.DeclRef.{DeclRef}
-use Rattle.proto_resolve.specs.Entries.{renumbered, with_renumbered, all_holders, AreEntries, AreEntriesOf}
+use Rattle.proto_resolve.specs.Entries.{renumbered, with_renumbered, AreEntriesOf, AreRunsOf}
 use Rattle.proto_resolve.specs.Files.{all_decls, decl_at, facts_at, no_decl, no_facts}
-use Rattle.proto_resolve.specs.Hashed.{hash_of, hashed, is_before}
+use Rattle.proto_resolve.specs.Hashed.{hash_of, hashed}
 use Rattle.proto_resolve.specs.Names.{is_holder}
-use Rattle.proto_resolve.specs.Tables.{last_of, name_at}
-use Rattle.proto_resolve.proofs.Hashes.{all_fit, keeps_alike, keeps_mapped, kept_each}
+use Rattle.proto_resolve.specs.Tables.{by_name, by_scope, holder_entries, last_of, name_at, name_entries, AreInOrder, AreRearranged}
+use Rattle.proto_resolve.proofs.ByLast.{keeps_fits}
+use Rattle.proto_resolve.proofs.Hashes.{keeps_mapped}
 use Rattle.proto_resolve.proofs.Order.{numbered, refs, refs_from, IsFrom}
+use Rattle.proto_resolve.proofs.Same.{same_all, same_both, same_mapped, same_moved}
+use Rattle.proto_resolve.proofs.Search.{above, below, same}
 
 -- ---- all declarations
 
@@ -46,14 +52,14 @@ decls_joined xs ys =
     ∙ flat_map-append refs (enumerate_from 0 xs) (enumerate_from (0 + length xs) ys)
     ∙ ap (λ (ds : List DeclRef). all_decls xs ++ ds) (ap (λ k. flat_map refs (enumerate_from k ys)) place ∙ decls_behind (length xs) 0 ys)
 
-below : (n : ℕ) (files : List NamedFacts) → All (λ r. r.file < n + length files) (flat_map refs (enumerate_from n files))
-below n [] = All-nil (λ r. r.file < n + 0)
-below n (f ∷ fs) = All-append (λ r. r.file < n + length (f ∷ fs)) (refs (n, f)) (flat_map refs (enumerate_from (n + 1) fs))
+within_from : (n : ℕ) (files : List NamedFacts) → All (λ r. r.file < n + length files) (flat_map refs (enumerate_from n files))
+within_from n [] = All-nil (λ r. r.file < n + 0)
+within_from n (f ∷ fs) = All-append (λ r. r.file < n + length (f ∷ fs)) (refs (n, f)) (flat_map refs (enumerate_from (n + 1) fs))
     (All-weaker (IsFrom n 0) (λ r. r.file < n + length (f ∷ fs)) (λ r there. omega (arith, there.0)) (refs (n, f)) (refs_from n 0 (let facts = f.facts in facts.decls)))
-    (All-weaker (λ r. r.file < n + 1 + length fs) (λ r. r.file < n + length (f ∷ fs)) (λ r lt. omega (arith, lt)) (flat_map refs (enumerate_from (n + 1) fs)) (below (n + 1) fs))
+    (All-weaker (λ r. r.file < n + 1 + length fs) (λ r. r.file < n + length (f ∷ fs)) (λ r lt. omega (arith, lt)) (flat_map refs (enumerate_from (n + 1) fs)) (within_from (n + 1) fs))
 
 pub all_within : (files : List NamedFacts) → All (λ r. r.file < length files) (all_decls files)
-all_within files = All-weaker (λ r. r.file < 0 + length files) (λ r. r.file < length files) (λ r lt. omega (arith, lt)) (all_decls files) (below 0 files)
+all_within files = All-weaker (λ r. r.file < 0 + length files) (λ r. r.file < length files) (λ r lt. omega (arith, lt)) (all_decls files) (within_from 0 files)
 
 -- ---- what they are
 
@@ -76,53 +82,95 @@ module _ (xs ys : List NamedFacts) where
   pub decl_behind : (r : DeclRef) → decl_at (xs ++ ys) (renumbered (length xs) r) ≡ decl_at ys r
   decl_behind r = ap (λ facts. get_or facts.decls r.number no_decl) (facts_behind r.file)
 
--- ---- entries by text
+-- ---- runs of entries
 
 abbrev decl_of : HashedDecl → DeclRef
 decl_of k = k.decl
 
-module _ (text text' : DeclRef → List ℕ) where
-  entries_alike : (ds : List DeclRef) (es : List HashedDecl) → All (λ r. text r ≡ text' r) ds → All (λ k. text (decl_of k) ≡ text' (decl_of k)) es → AreEntries text ds es → AreEntries text' ds es
-  entries_alike ds es same same' are = record {
-    hashed = λ k d lt. are.hashed k d lt ∙ ap hash_of (same' k d lt);
-    each = λ q.
-        sym (keeps_alike (λ r. bytes_eq (text r) q) (λ r. bytes_eq (text' r) q) (map decl_of es)
-        (All-map (λ r. bytes_eq (text r) q ≡ bytes_eq (text' r) q) decl_of es (λ k d lt. ap (λ t. bytes_eq t q) (same' k d lt))))
-        ∙ are.each q
-        ∙ keeps_alike (λ r. bytes_eq (text r) q) (λ r. bytes_eq (text' r) q) ds (λ k d lt. ap (λ t. bytes_eq t q) (same k d lt));
+-- in another order that says the same of each pair of them
+pub sorted_alike : (order order' : HashedDecl → HashedDecl → Ordering) (P : HashedDecl → Type 0) → ((a b : HashedDecl) → P a → P b → order a b ≡ order' a b)
+    → (es : List HashedDecl) → All P es → IsSorted order es → IsSorted order' es
+sorted_alike order order' P alike es all sorted k d from lt =
+    ap is_lt (sym (alike (get_or es (k + 1) d) (get_or es k d) (all (k + 1) d lt) (all k d (omega (arith, lt))))) ∙ sorted k d from lt
+
+sorted_moved : (order order' : HashedDecl → HashedDecl → Ordering) (n : ℕ) → ((a b : HashedDecl) → order' (with_renumbered n a) (with_renumbered n b) ≡ order a b)
+    → (es : List HashedDecl) → IsSorted order es → IsSorted order' (map (with_renumbered n) es)
+sorted_moved order order' n alike [] sorted k d from lt = absurd (omega (arith, lt))
+sorted_moved order order' n alike (e ∷ es) sorted k d from lt =
+    let long : k + 1 < length (e ∷ es) = rw (length-map (e ∷ es) (with_renumbered n)) at lt in
+    rw (get_or-map (with_renumbered n) (e ∷ es) k e d (omega (arith, long)), get_or-map (with_renumbered n) (e ∷ es) (k + 1) e d long)
+    (ap is_lt (alike (get_or (e ∷ es) (k + 1) e) (get_or (e ∷ es) k e)) ∙ sorted k e from long)
+
+all_front : (P : HashedDecl → Type 0) (xs ys : List HashedDecl) → All P (xs ++ ys) → All P xs
+all_front P [] ys all = All-nil P
+all_front P (x ∷ xs) ys all = All-cons P x xs (All-head P x (xs ++ ys) all) (all_front P xs ys (All-tail P x (xs ++ ys) all))
+
+all_back : (P : HashedDecl → Type 0) (xs ys : List HashedDecl) → All P (xs ++ ys) → All P ys
+all_back P [] ys all = all
+all_back P (x ∷ xs) ys all = all_back P xs ys (All-tail P x (xs ++ ys) all)
+
+-- what holds of each run's elements
+in_runs : (P : HashedDecl → Type 0) (runs : List (List HashedDecl)) → All P (flat_map (λ run. run) runs) → All (λ run. All P run) runs
+in_runs P [] all = All-nil (λ run. All P run)
+in_runs P (run ∷ runs) all =
+    All-cons (λ run. All P run) run runs (all_front P run (flat_map (λ run. run) runs) all) (in_runs P runs (all_back P run (flat_map (λ run. run) runs) all))
+
+runs_moved : (n : ℕ) (runs : List (List HashedDecl)) → flat_map (λ run. run) (map (λ run. map (with_renumbered n) run) runs) ≡ map (with_renumbered n) (flat_map (λ run. run) runs)
+runs_moved n [] = refl
+runs_moved n (run ∷ runs) = ap (λ (es : List HashedDecl). map (with_renumbered n) run ++ es) (runs_moved n runs) ∙ sym (map-append (with_renumbered n) run (flat_map (λ run. run) runs))
+
+all_moved : (P Q : List HashedDecl → Type 0) (f : List HashedDecl → List HashedDecl) → ((run : List HashedDecl) → P run → Q (f run)) → (runs : List (List HashedDecl)) → All P runs → All Q (map f runs)
+all_moved P Q f step runs all = All-map Q f runs (All-weaker P (λ run. Q (f run)) step runs all)
+
+all_of_two : (P Q R : List HashedDecl → Type 0) → ((run : List HashedDecl) → P run → Q run → R run) → (runs : List (List HashedDecl)) → All P runs → All Q runs → All R runs
+all_of_two P Q R step runs ps qs k d lt = step (get_or runs k d) (ps k d lt) (qs k d lt)
+
+-- runs of the ones and of the others, which stand behind so many files
+module _ (front back both : HashedDecl → HashedDecl → Ordering) (n : ℕ) (P : HashedDecl → Type 0)
+    (alike : (a b : HashedDecl) → P a → P b → front a b ≡ both a b)
+    (moved : (a b : HashedDecl) → both (with_renumbered n a) (with_renumbered n b) ≡ back a b) where
+  runs_both : (es fs : List HashedDecl) (rs ss : List (List HashedDecl)) → All P (flat_map (λ run. run) rs) → AreRunsOf front es rs → AreRunsOf back fs ss
+      → AreRunsOf both (es ++ map (with_renumbered n) fs) (rs ++ map (λ run. map (with_renumbered n) run) ss)
+  runs_both es fs rs ss within ones others = record {
+    same = λ p.
+        same_both es (map (with_renumbered n) fs) (flat_map (λ run. run) rs) (map (with_renumbered n) (flat_map (λ run. run) ss)) ones.same
+        (λ q. same_mapped (with_renumbered n) fs (flat_map (λ run. run) ss) others.same q) p
+        ∙ ap (λ es. length (filter p (flat_map (λ run. run) rs ++ es))) (sym (runs_moved n ss))
+        ∙ ap (λ es. length (filter p es)) (sym (flat_map-append (λ run. run) rs (map (λ run. map (with_renumbered n) run) ss)));
+    sorted = All-append (λ run. IsSorted both run) rs (map (λ run. map (with_renumbered n) run) ss)
+        (all_of_two (λ run. All P run) (λ run. IsSorted front run) (λ run. IsSorted both run) (λ run all sorted. sorted_alike front both P alike run all sorted) rs (in_runs P rs within) ones.sorted)
+        (all_moved (λ run. IsSorted back run) (λ run. IsSorted both run) (λ run. map (with_renumbered n) run) (λ run sorted. sorted_moved back both n moved run sorted) ss others.sorted);
   }
 
-  module _ (n : ℕ) (same : (r : DeclRef) → text' (renumbered n r) ≡ text r) where
-    kept_behind : (q : List ℕ) (ds : List DeclRef) → filter (λ r. bytes_eq (text' r) q) (map (renumbered n) ds) ≡ map (renumbered n) (filter (λ r. bytes_eq (text r) q) ds)
-    kept_behind q ds =
-        keeps_mapped (λ r. bytes_eq (text' r) q) (renumbered n) ds
-        ∙ ap (λ (p : DeclRef → Bool). map (renumbered n) (filter p ds)) (fun_ext (λ r. ap (λ t. bytes_eq t q) (same r)))
+-- ---- the orders
 
-    decls_moved : (es : List HashedDecl) → map decl_of (map (with_renumbered n) es) ≡ map (renumbered n) (map decl_of es)
-    decls_moved es = map-map decl_of (with_renumbered n) es ∙ sym (map-map (renumbered n) decl_of es)
+shifted : (n a b : ℕ) → nat_cmp (n + a) (n + b) ≡ nat_cmp a b
+shifted n a b = elim (cases_lt a b) [
+  | inl less ↦ below (n + a) (n + b) (omega (arith, less)) ∙ sym (below a b less)
+  | inr from ↦ elim (cases_lt b a) [
+    | inl more ↦ above (n + a) (n + b) (omega (arith, more)) ∙ sym (above a b more)
+    | inr up_to ↦ let e : a ≡ b = omega (arith, from, up_to) in rw e (same (n + b) ∙ sym (same b))
+  ]
+]
 
-    entries_moved : (ds : List DeclRef) (es : List HashedDecl) → AreEntries text ds es → AreEntries text' (map (renumbered n) ds) (map (with_renumbered n) es)
-    entries_moved ds es are = record {
-      hashed = All-map (λ k. k.hash ≡ hash_of (text' (decl_of k))) (with_renumbered n) es (λ k d lt. are.hashed k d lt ∙ ap hash_of (sym (same (decl_of (get_or es k d)))));
-      each = λ q.
-          ap (filter (λ r. bytes_eq (text' r) q)) (decls_moved es) ∙ kept_behind q (map decl_of es)
-          ∙ ap (map (renumbered n)) (are.each q) ∙ sym (kept_behind q ds);
-    }
+module _ (name name' : DeclRef → List ℕ) where
+  pub names_alike : (a b : HashedDecl) → name (decl_of a) ≡ name' (decl_of a) → name (decl_of b) ≡ name' (decl_of b) → by_name name a b ≡ by_name name' a b
+  names_alike a b e f = rw (e, f) refl
 
-entries_both : (text : DeclRef → List ℕ) (ds ds' : List DeclRef) (es es' : List HashedDecl) → AreEntries text ds es → AreEntries text ds' es' → AreEntries text (ds ++ ds') (es ++ es')
-entries_both text ds ds' es es' are are' = record {
-  hashed = All-append (λ k. k.hash ≡ hash_of (text (decl_of k))) es es' are.hashed are'.hashed;
-  each = λ q.
-      ap (filter (λ r. bytes_eq (text r) q)) (map-append decl_of es es')
-      ∙ filter-append (λ r. bytes_eq (text r) q) (map decl_of es) (map decl_of es')
-      ∙ ap₂ (λ (a b : List DeclRef). a ++ b) (are.each q) (are'.each q)
-      ∙ sym (filter-append (λ r. bytes_eq (text r) q) ds ds');
-}
+  pub scopes_alike : (a b : HashedDecl) → name (decl_of a) ≡ name' (decl_of a) → name (decl_of b) ≡ name' (decl_of b) → by_scope name a b ≡ by_scope name' a b
+  scopes_alike a b e f = rw (e, f) refl
 
--- ---- what may settle a scope
+  module _ (n : ℕ) (moved : (r : DeclRef) → name' (renumbered n r) ≡ name r) where
+    names_moved : (a b : HashedDecl) → by_name name' (with_renumbered n a) (with_renumbered n b) ≡ by_name name a b
+    names_moved a b = rw (moved (decl_of a), moved (decl_of b), shifted n (let r = decl_of a in r.file) (let r = decl_of b in r.file)) refl
+
+    scopes_moved : (a b : HashedDecl) → by_scope name' (with_renumbered n a) (with_renumbered n b) ≡ by_scope name a b
+    scopes_moved a b = rw (moved (decl_of a), moved (decl_of b)) refl
+
+-- ---- the entries
 
 module _ (text text' : DeclRef → List ℕ) (holder holder' : DeclRef → Bool) where
-  holders_alike : (ds : List DeclRef) → All (λ r. (text r ≡ text' r) × (holder r ≡ holder' r)) ds → map (hashed text) (filter holder ds) ≡ map (hashed text') (filter holder' ds)
+  pub holders_alike : (ds : List DeclRef) → All (λ r. (text r ≡ text' r) × (holder r ≡ holder' r)) ds → map (hashed text) (filter holder ds) ≡ map (hashed text') (filter holder' ds)
   holders_alike [] same = refl
   holders_alike (r ∷ rs) same =
       let first = All-head (λ r. (text r ≡ text' r) × (holder r ≡ holder' r)) r rs same in
@@ -140,28 +188,37 @@ module _ (text text' : DeclRef → List ℕ) (holder holder' : DeclRef → Bool)
       ∙ sym (map-map (hashed text') (renumbered n) (filter (λ r. holder' (renumbered n r)) ds))
       ∙ ap (map (hashed text')) (sym (keeps_mapped holder' (renumbered n) ds))
 
--- ---- some files, and others that follow
-
 abbrev lasts : List NamedFacts → DeclRef → List ℕ
 lasts files r = last_of (name_at files r)
 
 abbrev holds : List NamedFacts → DeclRef → Bool
 holds files r = is_holder (let d = decl_at files r in d.kind)
 
+map_alike : (name name' : DeclRef → List ℕ) (ds : List DeclRef) → All (λ r. name r ≡ name' r) ds → map (hashed name) ds ≡ map (hashed name') ds
+map_alike name name' [] same_are = refl
+map_alike name name' (r ∷ rs) same_are =
+    ap₂ (λ (t : List ℕ) (es : List HashedDecl). record { hash = hash_of t; decl = r } ∷ es) (All-head (λ r. name r ≡ name' r) r rs same_are)
+    (map_alike name name' rs (All-tail (λ r. name r ≡ name' r) r rs same_are))
+
+-- of some files and of others behind them
 module _ (xs ys : List NamedFacts) where
-  abbrev all : List NamedFacts
-  all = xs ++ ys
-
-  abbrev count : ℕ
-  count = length xs
-
   name_front : (r : DeclRef) → r.file < length xs → name_at xs r ≡ name_at (xs ++ ys) r
   name_front r lt = ap (λ d. d.full_name) (decl_front xs ys r lt)
 
   name_behind : (r : DeclRef) → name_at (xs ++ ys) (renumbered (length xs) r) ≡ name_at ys r
   name_behind r = ap (λ d. d.full_name) (decl_behind xs ys r)
 
-  holders_both : map (hashed (lasts xs)) (all_holders xs) ++ map (with_renumbered (length xs)) (map (hashed (lasts ys)) (all_holders ys)) ≡ map (hashed (lasts (xs ++ ys))) (all_holders (xs ++ ys))
+  names_both : name_entries xs ++ map (with_renumbered (length xs)) (name_entries ys) ≡ name_entries (xs ++ ys)
+  names_both =
+      ap₂ (λ (a b : List HashedDecl). a ++ b)
+      (map_alike (name_at xs) (name_at (xs ++ ys)) (all_decls xs) (λ k d lt. name_front (get_or (all_decls xs) k d) (all_within xs k d lt)))
+      (map-map (with_renumbered (length xs)) (hashed (name_at ys)) (all_decls ys)
+      ∙ ap (λ (f : DeclRef → HashedDecl). map f (all_decls ys)) (fun_ext (λ r. ap (λ t. with_renumbered (length xs) (record { hash = hash_of t; decl = r })) (sym (name_behind r))))
+      ∙ sym (map-map (hashed (name_at (xs ++ ys))) (renumbered (length xs)) (all_decls ys)))
+      ∙ sym (map-append (hashed (name_at (xs ++ ys))) (all_decls xs) (map (renumbered (length xs)) (all_decls ys)))
+      ∙ ap (map (hashed (name_at (xs ++ ys)))) (sym (decls_joined xs ys))
+
+  holders_both : holder_entries xs ++ map (with_renumbered (length xs)) (holder_entries ys) ≡ holder_entries (xs ++ ys)
   holders_both =
       ap₂ (λ (a b : List HashedDecl). a ++ b)
       (holders_alike (lasts xs) (lasts (xs ++ ys)) (holds xs) (holds (xs ++ ys)) (all_decls xs)
@@ -171,61 +228,102 @@ module _ (xs ys : List NamedFacts) where
       ∙ ap (map (hashed (lasts (xs ++ ys)))) (sym (filter-append (holds (xs ++ ys)) (all_decls xs) (map (renumbered (length xs)) (all_decls ys))))
       ∙ ap (λ ds. map (hashed (lasts (xs ++ ys))) (filter (holds (xs ++ ys)) ds)) (sym (decls_joined xs ys))
 
-  pub joined_entries : (ns hs ms gs : List HashedDecl) → AreEntriesOf xs ns hs → AreEntriesOf ys ms gs
-      → AreEntriesOf (xs ++ ys) (ns ++ map (with_renumbered (length xs)) ms) (hs ++ map (with_renumbered (length xs)) gs)
-  joined_entries ns hs ms gs front back = record {
-    by_name = subst (λ ds. AreEntries (name_at (xs ++ ys)) ds (ns ++ map (with_renumbered (length xs)) ms)) (sym (decls_joined xs ys))
-        (entries_both (name_at (xs ++ ys)) (all_decls xs) (map (renumbered (length xs)) (all_decls ys)) ns (map (with_renumbered (length xs)) ms)
-        (entries_alike (name_at xs) (name_at (xs ++ ys)) (all_decls xs) ns
-        (λ k d lt. name_front (get_or (all_decls xs) k d) (all_within xs k d lt))
-        (λ k d lt. name_front (decl_of (get_or ns k d)) (front.within k d lt))
-        front.by_name)
-        (entries_moved (name_at ys) (name_at (xs ++ ys)) (length xs) name_behind (all_decls ys) ms back.by_name));
-    within = All-append (λ k. (let r = decl_of k in r.file) < length (xs ++ ys)) ns (map (with_renumbered (length xs)) ms)
-        (λ k d lt. omega (arith, front.within k d lt, length-append xs ys))
-        (All-map (λ k. (let r = decl_of k in r.file) < length (xs ++ ys)) (with_renumbered (length xs)) ms (λ k d lt. omega (arith, back.within k d lt, length-append xs ys)));
-    by_last = subst (λ es. IsPermutation es (hs ++ map (with_renumbered (length xs)) gs)) holders_both
-        (IsPermutation-append (map (hashed (lasts xs)) (all_holders xs)) hs (map (with_renumbered (length xs)) (map (hashed (lasts ys)) (all_holders ys))) (map (with_renumbered (length xs)) gs) front.by_last
-        (IsPermutation-map (with_renumbered (length xs)) (map (hashed (lasts ys)) (all_holders ys)) gs back.by_last));
-  }
+lower_so : (a b : ℕ) → not (nat_lt a b) ≡ false → a < b
+lower_so a b e = grind (arith, nat_tests)
 
--- ---- of one list of files
+lower_is : (a b : ℕ) → a < b → not (nat_lt a b) ≡ false
+lower_is a b lt = grind (arith, nat_tests)
+
+pub keeps_any : {X : Type 0} (xs : List X) → filter (λ x. true) xs ≡ xs
+keeps_any [] = refl
+keeps_any {X} (x ∷ xs) = ap (λ (ys : List X). x ∷ ys) (keeps_any xs)
+
+abbrev pub IsWithin : List NamedFacts → HashedDecl → Type 0
+IsWithin files k = (let r = decl_of k in r.file) < length files
+
+-- each entry's file is one of the files
+entries_within : (files : List NamedFacts) (text : DeclRef → List ℕ) (p : DeclRef → Bool) (es : List HashedDecl) → AreRearranged (map (hashed text) (filter p (all_decls files))) es → All (IsWithin files) es
+entries_within files text p es same_are =
+    same_all (IsWithin files) (λ k. not (nat_lt (let r = decl_of k in r.file) (length files)))
+    (λ k e. lower_so (let r = decl_of k in r.file) (length files) e) (λ k lt. lower_is (let r = decl_of k in r.file) (length files) lt)
+    (map (hashed text) (filter p (all_decls files))) es same_are
+    (All-map (IsWithin files) (hashed text) (filter p (all_decls files)) (keeps_fits (λ r. r.file < length files) p (all_decls files) (all_within files)))
+
+pub names_within : (files : List NamedFacts) (runs : List (List HashedDecl)) → AreRunsOf (by_name (name_at files)) (name_entries files) runs → All (IsWithin files) (flat_map (λ run. run) runs)
+names_within files runs are =
+    entries_within files (name_at files) (λ r. true) (flat_map (λ run. run) runs)
+    (λ p. ap (λ ds. length (filter p (map (hashed (name_at files)) ds))) (keeps_any (all_decls files)) ∙ are.same p)
+
+pub holders_within : (files : List NamedFacts) (runs : List (List HashedDecl)) → AreRunsOf (by_scope (name_at files)) (holder_entries files) runs → All (IsWithin files) (flat_map (λ run. run) runs)
+holders_within files runs are = entries_within files (lasts files) (holds files) (flat_map (λ run. run) runs) are.same
+
+-- so a renumbered file's number is small
+pub small_runs : (files : List NamedFacts) (n : ℕ) (runs : List (List HashedDecl)) → All (IsWithin files) (flat_map (λ run. run) runs) → n + length files ≤ 18446744073709551615
+    → All (λ run. All (λ k. n + (let r = decl_of k in r.file) ≤ 18446744073709551615) run) runs
+small_runs files n runs within small =
+    all_of_two (λ run. All (IsWithin files) run) (λ run. All (IsWithin files) run) (λ run. All (λ k. n + (let r = decl_of k in r.file) ≤ 18446744073709551615) run)
+    (λ run all other k d lt. let there = all k d lt in omega (arith, there, small)) runs (in_runs (IsWithin files) runs within) (in_runs (IsWithin files) runs within)
 
 pub no_entries : AreEntriesOf [] [] []
 no_entries = record {
-  by_name = record { hashed = All-nil (λ k. k.hash ≡ hash_of (name_at [] (decl_of k))); each = λ q. refl };
-  within = All-nil (λ k. (let r = decl_of k in r.file) < 0);
-  by_last = record { moves = []; below = tt; is = refl };
+  names_are = record { same = λ p. refl; sorted = All-nil (λ run. IsSorted (by_name (name_at [])) run) };
+  holders_are = record { same = λ p. refl; sorted = All-nil (λ run. IsSorted (by_scope (name_at [])) run) };
 }
 
-keeps_within : {X : Type 0} (P : X → Type 0) (p : X → Bool) (xs : List X) → All P xs → All P (filter p xs)
-keeps_within P p [] all = all
-keeps_within P p (x ∷ xs) all = elim (cases_Bool (p x)) [
-  | inl passes ↦ rw passes (All-cons P x (filter p xs) (All-head P x xs all) (keeps_within P p xs (All-tail P x xs all)))
-  | inr fails ↦ rw fails (keeps_within P p xs (All-tail P x xs all))
-]
+-- one run
+pub one_run : (order : HashedDecl → HashedDecl → Ordering) (entries run : List HashedDecl) → AreRearranged entries run → IsSorted order run → AreRunsOf order entries (run ∷ [])
+one_run order entries run same_are sorted = record {
+  same = λ p. same_are p ∙ ap (λ es. length (filter p es)) (sym (append-nil run));
+  sorted = All-cons (λ r. IsSorted order r) run [] sorted (All-nil (λ r. IsSorted order r));
+}
 
--- each entry's file is one of the files
-pub names_within : (files : List NamedFacts) (text : DeclRef → List ℕ) (es : List HashedDecl) → IsPermutation (map (hashed text) (all_decls files)) es → All (λ k. (let r = decl_of k in r.file) < length files) es
-names_within files text es moved =
-    All-permutation (λ k. (let r = decl_of k in r.file) < length files) (map (hashed text) (all_decls files)) es moved
-    (All-map (λ k. (let r = decl_of k in r.file) < length files) (hashed text) (all_decls files) (all_within files))
-
-pub holders_within : (files : List NamedFacts) (es : List HashedDecl) → IsPermutation (map (hashed (lasts files)) (all_holders files)) es → All (λ k. (let r = decl_of k in r.file) < length files) es
-holders_within files es moved =
-    All-permutation (λ k. (let r = decl_of k in r.file) < length files) (map (hashed (lasts files)) (all_holders files)) es moved
-    (All-map (λ k. (let r = decl_of k in r.file) < length files) (hashed (lasts files)) (all_holders files)
-    (keeps_within (λ r. r.file < length files) (holds files) (all_decls files) (all_within files)))
-
--- entries that are put in order
-pub put_entries : (text : DeclRef → List ℕ) (decls : List DeclRef) (gs : List HashedDecl) → IsPermutation (map (hashed text) decls) gs → IsStableBy (is_before text) (map (hashed text) decls) gs
-    → AreEntries text decls gs
-put_entries text decls gs moved stable = record {
-  hashed = All-permutation (λ k. k.hash ≡ hash_of (text (decl_of k))) (map (hashed text) decls) gs moved (all_fit text decls);
-  each = kept_each text decls gs moved stable;
+-- those of some files, then of others
+pub joined_entries : (xs ys : List NamedFacts) (ns hs ms gs : List (List HashedDecl)) → AreEntriesOf xs ns hs → AreEntriesOf ys ms gs
+    → AreEntriesOf (xs ++ ys) (ns ++ map (λ run. map (with_renumbered (length xs)) run) ms) (hs ++ map (λ run. map (with_renumbered (length xs)) run) gs)
+joined_entries xs ys ns hs ms gs front back = record {
+  names_are = subst (λ es. AreRunsOf (by_name (name_at (xs ++ ys))) es (ns ++ map (λ run. map (with_renumbered (length xs)) run) ms)) (names_both xs ys)
+      (runs_both (by_name (name_at xs)) (by_name (name_at ys)) (by_name (name_at (xs ++ ys))) (length xs) (IsWithin xs)
+      (λ a b in_a in_b. names_alike (name_at xs) (name_at (xs ++ ys)) a b (name_front xs ys (decl_of a) in_a) (name_front xs ys (decl_of b) in_b))
+      (names_moved (name_at ys) (name_at (xs ++ ys)) (length xs) (name_behind xs ys))
+      (name_entries xs) (name_entries ys) ns ms (names_within xs ns front.names_are) front.names_are back.names_are);
+  holders_are = subst (λ es. AreRunsOf (by_scope (name_at (xs ++ ys))) es (hs ++ map (λ run. map (with_renumbered (length xs)) run) gs)) (holders_both xs ys)
+      (runs_both (by_scope (name_at xs)) (by_scope (name_at ys)) (by_scope (name_at (xs ++ ys))) (length xs) (IsWithin xs)
+      (λ a b in_a in_b. scopes_alike (name_at xs) (name_at (xs ++ ys)) a b (name_front xs ys (decl_of a) in_a) (name_front xs ys (decl_of b) in_b))
+      (scopes_moved (name_at ys) (name_at (xs ++ ys)) (length xs) (name_behind xs ys))
+      (holder_entries xs) (holder_entries ys) hs gs (holders_within xs hs front.holders_are) front.holders_are back.holders_are);
 }
 
 -- the same where the lists are known by what they are
-pub followed : (xs ys files : List NamedFacts) (ns hs ms gs names holders : List HashedDecl) (n : ℕ) → files ≡ xs ++ ys → n ≡ length xs
-    → names ≡ ns ++ map (with_renumbered n) ms → holders ≡ hs ++ map (with_renumbered n) gs → AreEntriesOf xs ns hs → AreEntriesOf ys ms gs → AreEntriesOf files names holders
+pub followed : (xs ys files : List NamedFacts) (ns hs ms gs names holders : List (List HashedDecl)) (n : ℕ) → files ≡ xs ++ ys → n ≡ length xs
+    → names ≡ ns ++ map (λ run. map (with_renumbered n) run) ms → holders ≡ hs ++ map (λ run. map (with_renumbered n) run) gs → AreEntriesOf xs ns hs → AreEntriesOf ys ms gs → AreEntriesOf files names holders
 followed xs ys files ns hs ms gs names holders n files_are long names_are holders_are front back = rw (files_are, names_are, holders_are, long) (joined_entries xs ys ns hs ms gs front back)
+
+-- ---- merged
+
+flat_items : {R : Type 0} (items : R → List HashedDecl) (runs : List R) → flat_map items runs ≡ flat_map (λ run. run) (map items runs)
+flat_items items [] = refl
+flat_items items (run ∷ runs) = ap (λ (es : List HashedDecl). items run ++ es) (flat_items items runs)
+
+pub each_sorted : {R : Type 0} (items : R → List HashedDecl) (order : HashedDecl → HashedDecl → Ordering) (runs : List R) → All (λ run. IsSorted order run) (map items runs) → All (λ run. IsSorted order (items run)) runs
+each_sorted items order [] all = All-nil (λ run. IsSorted order (items run))
+each_sorted items order (run ∷ runs) all =
+    All-cons (λ r. IsSorted order (items r)) run runs (All-head (λ r. IsSorted order r) (items run) (map items runs) all)
+    (each_sorted items order runs (All-tail (λ r. IsSorted order r) (items run) (map items runs) all))
+
+pub each_small : {R : Type 0} (items : R → List HashedDecl) (P : HashedDecl → Type 0) (runs : List R) → All (λ run. All P run) (map items runs) → All (λ run. All P (items run)) runs
+each_small items P [] all = All-nil (λ run. All P (items run))
+each_small items P (run ∷ runs) all =
+    All-cons (λ r. All P (items r)) run runs (All-head (λ r. All P r) (items run) (map items runs) all)
+    (each_small items P runs (All-tail (λ r. All P r) (items run) (map items runs) all))
+
+-- runs that are merged, and then stand as two lists
+pub merged_runs : {R : Type 0} (items : R → List HashedDecl) (order : HashedDecl → HashedDecl → Ordering) (entries : List HashedDecl) (runs : List R) (es : List HashedDecl) (found : HashedDecls)
+    → AreRunsOf order entries (map items runs) → IsPermutation (flat_map items runs) es → IsSorted order es
+    → found.hashes.items ≡ map (λ k. k.hash) es → found.decls.items ≡ map (λ k. k.decl) es → AreInOrder order entries found
+merged_runs items order entries runs es found are moved ordered hashes decls = record {
+  sorted = es;
+  same = λ p. are.same p ∙ ap (λ l. length (filter p l)) (sym (flat_items items runs)) ∙ same_moved (flat_map items runs) es moved p;
+  ordered = ordered;
+  hashes_are = hashes;
+  decls_are = decls;
+}

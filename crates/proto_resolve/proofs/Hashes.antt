@@ -1,36 +1,40 @@
 -- Declarations by the hashes of their texts.
-use Rattle.std.proofs.Common.{◌≡◌, ◌∙◌, sym, ap, ap₂, subst, refl, inl, inr, ◌&&◌, ◌==◌, ◌<◌, ◌≤◌, ◌+◌, ◌-◌, ℕ, zero, suc, List, [], ◌∷◌, ◌++◌, Bool, true, false, not, map, filter, take, drop, get_or, length, append-nil, bytes_eq, arith}
+use Rattle.std.proofs.Common.{◌≡◌, ◌∙◌, sym, ap, ap₂, refl, inl, inr, ◌==◌, ◌<◌, ◌≤◌, ◌+◌, ◌-◌, ℕ, zero, suc, List, [], ◌∷◌, ◌++◌, Bool, true, false, map, filter, take, drop, get_or, length, append-nil, bytes_eq, arith}
 use Rattle.std.specs.Prelude.{All, nat_lt}
 use Rattle.std.specs.List.{list_any}
-use Rattle.std.specs.List.Sorted.{IsNonDecreasing, IsPartitionedBy, IsPartitionPoint, IsPermutation, IsSorted, IsSortedBy, IsStableBy, ties}
+use Rattle.std.specs.List.Sorted.{IsNonDecreasing, IsPartitionedBy, IsPartitionPoint, IsSorted, IsSortedBy}
 use Rattle.std.specs.Cmp.Lexicographic.{slice_cmp}
 use Rattle.std.specs.Ordering.{is_eq, is_lt, nat_cmp, ordering_reverse}
 use Rattle.std.specs.declared.cmp.Ordering.{Ordering}
 use Rattle.std.specs.declared.cmp.Ordering.TheVariants.{Less, Equal, Greater}
-use Rattle.std.proofs.Math.Path.{fun_ext}
 use Rattle.std.proofs.lemmas.Bool.{cases_Bool, cases_lt}
 use Rattle.std.proofs.lemmas.Bool.Decides.{nat_tests}
 use Rattle.std.proofs.lemmas.Cmp.{nat_list_cmp_total}
 use Rattle.std.proofs.lemmas.List.{drop-map, get_or_default, get_or-drop, get_or-map, get_or-take, length-drop, length-map, length-take, take-append-drop}
 use Rattle.std.proofs.lemmas.List.Elements.{All-cons, All-head, All-nil, All-tail, filter-append, filter_passes}
-use Rattle.std.proofs.lemmas.List.Folds.{Any-from_list_any}
 use Rattle.std.proofs.lemmas.List.Kept.{IsSortedBy-filter}
-use Rattle.std.proofs.lemmas.List.Sorted.{All-permutation, list_any-IsPermutation, ranks_by, sorted_far}
+use Rattle.std.proofs.lemmas.List.Sorted.{ranks_by, sorted_far}
 use Rattle.std.proofs.lemmas.Map.Text.{is_eq-slice_cmp}
 use Rattle.std.proofs.lemmas.Slice.Eq.{bytes_eq-Decides}
 use Rattle.proto_resolve.specs.declared.hashed.HashedDecl.{HashedDecl}
 use Rattle.proto_resolve.specs.declared.target.DeclRef.{DeclRef}
-use Rattle.proto_resolve.specs.Hashed.{is_before, hash_of, hashed, with_hash, AreByHash}
+use Rattle.proto_resolve.specs.Hashed.{hash_of, hashed, with_hash, AreByHash}
 use Rattle.proto_resolve.proofs.Search.{below, same}
+
+-- ---- the order
+
+-- whether a declaration comes before another, by the hashes that stand with them, then by text
+abbrev pub is_before : (DeclRef → List ℕ) → HashedDecl → HashedDecl → Bool
+is_before text a b = is_lt (slice_cmp nat_cmp (a.hash ∷ text a.decl) (b.hash ∷ text b.decl))
 
 -- ---- what a test keeps
 
 module _ {S : Type 0} (p : S → Bool) where
-  keeps_none : (xs : List S) → All (λ x. p x ≡ false) xs → filter p xs ≡ []
+  pub keeps_none : (xs : List S) → All (λ x. p x ≡ false) xs → filter p xs ≡ []
   keeps_none [] none = refl
   keeps_none (x ∷ xs) none = rw (All-head (λ x. p x ≡ false) x xs none) (keeps_none xs (All-tail (λ x. p x ≡ false) x xs none))
 
-  keeps_all : (xs : List S) → All (λ x. p x ≡ true) xs → filter p xs ≡ xs
+  pub keeps_all : (xs : List S) → All (λ x. p x ≡ true) xs → filter p xs ≡ xs
   keeps_all [] all = refl
   keeps_all (x ∷ xs) all = rw (All-head (λ x. p x ≡ true) x xs all, keeps_all xs (All-tail (λ x. p x ≡ true) x xs all)) refl
 
@@ -284,32 +288,6 @@ module _ (name : DeclRef → List ℕ) (decls : List DeclRef) (sorted : IsSorted
 
 -- ---- how they are put in order
 
-by_orders : (o o' : Ordering) → o ≡ ordering_reverse o' → (not (is_lt o) && not (is_lt o')) ≡ is_eq o
-by_orders Less o' e = refl
-by_orders Equal Less e = absurd (cc (e))
-by_orders Equal Equal e = refl
-by_orders Equal Greater e = absurd (cc (e))
-by_orders Greater Less e = refl
-by_orders Greater Equal e = absurd (cc (e))
-by_orders Greater Greater e = absurd (cc (e))
-
-ties_are : (a b : List ℕ) → (not (is_lt (slice_cmp nat_cmp a b)) && not (is_lt (slice_cmp nat_cmp b a))) ≡ bytes_eq a b
-ties_are a b = by_orders (slice_cmp nat_cmp a b) (slice_cmp nat_cmp b a) (nat_list_cmp_total.antisymm a b) ∙ is_eq-slice_cmp a b
-
-ranks_alike : (a b : List ℕ) → bytes_eq (with_hash a) (with_hash b) ≡ bytes_eq b a
-ranks_alike a b = elim (cases_Bool (bytes_eq b a)) [
-  | inl holds ↦
-      let is : b ≡ a = (bytes_eq-Decides b a).0 holds in
-      rw holds ((bytes_eq-Decides (with_hash a) (with_hash b)).1 (ap with_hash (sym is)))
-  | inr fails ↦ elim (cases_Bool (bytes_eq (with_hash a) (with_hash b))) [
-    | inl holds ↦
-        let are : with_hash a ≡ with_hash b = (bytes_eq-Decides (with_hash a) (with_hash b)).0 holds in
-        let is : b ≡ a = cc (are) in
-        absurd (cc (fails, (bytes_eq-Decides b a).1 is))
-    | inr other ↦ rw fails other
-  ]
-]
-
 module _ {H : Type 0} (hash : H → ℕ) (decl : H → DeclRef) (name : DeclRef → List ℕ) where
   abbrev pub Fits : H → Type 0
   Fits h = hash h ≡ hash_of (name (decl h))
@@ -329,33 +307,6 @@ module _ {H : Type 0} (hash : H → ℕ) (decl : H → DeclRef) (name : DeclRef 
       let there : hash (get_or (h ∷ hs) (k + 1) h) ≡ hash_of (name (decl (get_or (h ∷ hs) (k + 1) h))) = all (k + 1) h long in
       rw (get_or-map decl (h ∷ hs) k h d (omega (arith, long)), get_or-map decl (h ∷ hs) (k + 1) h d long, ← here, ← there) (sorted k h from long)
 
-  module _ (hs gs : List H) (fits : All Fits hs) (moved : IsPermutation hs gs) (stable : IsStableBy first hs gs) (q : List ℕ) where
-    abbrev has : H → Bool
-    has h = bytes_eq (name (decl h)) q
-
-    tied_there : (x h : H) → name (decl x) ≡ q → Fits x → Fits h → has h ≡ ties first x h
-    tied_there x h is own other = sym (
-        ties_are (hash x ∷ name (decl x)) (hash h ∷ name (decl h))
-        ∙ ap₂ (λ (k l : ℕ). bytes_eq (k ∷ name (decl x)) (l ∷ name (decl h))) own other
-        ∙ ranks_alike (name (decl x)) (name (decl h))
-        ∙ ap (bytes_eq (name (decl h))) is)
-
-    all_tied : (x : H) → name (decl x) ≡ q → Fits x → (ks : List H) → All Fits ks → filter has ks ≡ filter (ties first x) ks
-    all_tied x is own ks all = keeps_alike has (ties first x) ks (λ k d lt. tied_there x (get_or ks k d) is own (all k d lt))
-
-    same_kept : filter has gs ≡ filter has hs
-    same_kept = elim (cases_Bool (list_any has hs)) [
-      | inl some ↦
-          let one = Any-from_list_any has hs some in
-          let own : Fits one.1 = subst Fits one.3 (fits one.0 one.1 one.2) in
-          let is : name (decl one.1) ≡ q = (bytes_eq-Decides (name (decl one.1)) q).0 one.4 in
-          all_tied one.1 is own gs (All-permutation Fits hs gs moved fits) ∙ stable one.1 ∙ sym (all_tied one.1 is own hs fits)
-      | inr none ↦ keeps_none_any has gs (sym (list_any-IsPermutation has hs gs moved) ∙ none) ∙ sym (keeps_none_any has hs none)
-    ]
-
-    kept_decls : filter (λ r. bytes_eq (name r) q) (map decl gs) ≡ filter (λ r. bytes_eq (name r) q) (map decl hs)
-    kept_decls = keeps_mapped (λ r. bytes_eq (name r) q) decl gs ∙ ap (map decl) same_kept ∙ sym (keeps_mapped (λ r. bytes_eq (name r) q) decl hs)
-
 module _ (name : DeclRef → List ℕ) where
   pub all_fit : (decls : List DeclRef) → All (Fits (λ (k : HashedDecl). k.hash) (λ k. k.decl) name) (map (hashed name) decls)
   all_fit [] = All-nil (Fits (λ (k : HashedDecl). k.hash) (λ k. k.decl) name)
@@ -372,24 +323,3 @@ module _ (name : DeclRef → List ℕ) where
     hashed = numbers_are (λ (k : HashedDecl). k.hash) (λ k. k.decl) name gs fits;
     ordered = into_ranks (λ (k : HashedDecl). k.hash) (λ k. k.decl) name gs fits sorted;
   }
-
-  pub put_by_hash : (decls : List DeclRef) (gs : List HashedDecl) → IsPermutation (map (hashed name) decls) gs → IsSortedBy (is_before name) gs
-      → AreByHash name (map (λ (k : HashedDecl). k.hash) gs) (map (λ (k : HashedDecl). k.decl) gs)
-  put_by_hash decls gs moved sorted =
-      let hs : List HashedDecl = map (hashed name) decls in
-      put_fitting gs (All-permutation (Fits (λ (k : HashedDecl). k.hash) (λ k. k.decl) name) hs gs moved (all_fit decls)) sorted
-
-  -- those of one text stay where entries that fit are put in order
-  pub kept_fitting : (hs gs : List HashedDecl) → All (Fits (λ (k : HashedDecl). k.hash) (λ k. k.decl) name) hs → IsPermutation hs gs → IsStableBy (is_before name) hs gs
-      → (q : List ℕ) → filter (λ r. bytes_eq (name r) q) (map (λ (k : HashedDecl). k.decl) gs) ≡ filter (λ r. bytes_eq (name r) q) (map (λ (k : HashedDecl). k.decl) hs)
-  kept_fitting hs gs fits moved stable q = kept_decls (λ (k : HashedDecl). k.hash) (λ k. k.decl) name hs gs fits moved stable q
-
-  pub kept_each : (decls : List DeclRef) (gs : List HashedDecl) → IsPermutation (map (hashed name) decls) gs → IsStableBy (is_before name) (map (hashed name) decls) gs
-      → (q : List ℕ) → filter (λ r. bytes_eq (name r) q) (map (λ (k : HashedDecl). k.decl) gs) ≡ filter (λ r. bytes_eq (name r) q) decls
-  kept_each decls gs moved stable q =
-      kept_decls (λ (k : HashedDecl). k.hash) (λ k. k.decl) name (map (hashed name) decls) gs (all_fit decls) moved stable q ∙ ap (filter (λ r. bytes_eq (name r) q)) (decls_back decls)
-
-module _ (name name' : DeclRef → List ℕ) (hashes : List ℕ) (decls : List DeclRef) where
-  -- the same declarations for the same names
-  pub still_by_hash : ((r : DeclRef) → name r ≡ name' r) → AreByHash name hashes decls → AreByHash name' hashes decls
-  still_by_hash names are = subst (λ n. AreByHash n hashes decls) (fun_ext names) are

@@ -17,6 +17,9 @@ pub mod Ahead
 pub mod Fronts
 pub mod ByLast
 pub mod Hashes
+pub mod Same
+pub mod Places
+pub mod Merges
 pub mod Entries
 pub mod PackageFronts
 pub mod Packaged
@@ -26,4 +29,5 @@ pub mod Alike
 pub mod Exports
 pub mod SeenAlone
 pub mod Outlines
+pub mod Replaced
 pub mod DiagnosticsSaid

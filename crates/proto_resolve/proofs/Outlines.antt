@@ -1,7 +1,7 @@
 -- What the graph and the names of files are made from: what the files say to one another.
 use Rattle.std.proofs.Common.{◌≡◌, ℕ, zero, suc, ◌+◌, ◌<◌, List, [], ◌∷◌, ◌++◌, Bool, Option, Some, None, if◌then◌else◌, length, get_or, set, map, filter, bytes_eq, nat_eq, not, refl, sym, ap, ap₂, subst, ◌∙◌, arith}
 use Rattle.std.specs.Prelude.{option_map, position}
-use Rattle.std.specs.List.{enumerate_from, flat_map, list_any, prefix_len, starts_with}
+use Rattle.std.specs.List.{enumerate_from, flat_map, prefix_len, starts_with}
 use Rattle.std.specs.List.Sorted.{IsPermutation}
 use Rattle.std.proofs.Math.ListN as math
 use Rattle.std.proofs.Math.Path.{fun_ext}
@@ -19,11 +19,13 @@ use Rattle.import_graph.specs.Imports.{graph_of, imports_of, edge_of}
 use Rattle.import_graph.specs.Paths.{IsInPathOrder, slash}
 use Rattle.proto_resolve.specs.declared.target.DeclRef.{DeclRef}
 use Rattle.proto_resolve.specs.Files.{all_decls, all_named, decl_at, dot, facts_at, no_decl, no_facts}
-use Rattle.proto_resolve.specs.Holders.{is_held}
+use Rattle.proto_resolve.specs.Hashed.{hashed}
 use Rattle.proto_resolve.specs.Names.{is_holder}
 use Rattle.proto_resolve.specs.Outlines.{declared, imported, import_outline, with_facts}
 use Rattle.proto_resolve.specs.Packages.{packaged, ArePackaged}
 use Rattle.proto_resolve.specs.Seen.{exports}
+use Rattle.proto_resolve.specs.Tables.{all_holders, by_name, by_scope, last_of, name_at, AreByName, AreInOrder}
+use Rattle.proto_resolve.specs.declared.hashed.HashedDecls.{HashedDecls}
 use Rattle.proto_resolve.specs.declared.packages.PackagedFile.{PackagedFile}
 use Rattle.proto_resolve.proofs.Order.{numbered, refs}
 
@@ -122,9 +124,19 @@ same_kind : (old new : List NamedFacts) → map telling old ≡ map telling new 
 same_kind old new same r =
     ap (λ d. d.0) (declared_at (let facts = facts_at old r.file in facts.decls) (let facts = facts_at new r.file in facts.decls) r.number (ap (λ t. t.0) (told_at old new same r.file)))
 
-pub same_held : (old new : List NamedFacts) → map telling old ≡ map telling new → (name : List ℕ) → is_held old name ≡ is_held new name
-same_held old new same name =
-    ap₂ (λ (test : DeclRef → Bool) (all : List DeclRef). list_any test all) (fun_ext (λ r. ap is_holder (same_kind old new same r))) (same_named old new same name)
+-- and so the same may settle a scope
+same_holders : (old new : List NamedFacts) → map telling old ≡ map telling new → all_holders old ≡ all_holders new
+same_holders old new same =
+    ap₂ (λ (test : DeclRef → Bool) (all : List DeclRef). filter test all) (fun_ext (λ r. ap is_holder (same_kind old new same r))) (same_decls old new same)
+
+-- the tables of names stay
+pub still_by_name : (old new : List NamedFacts) → map telling old ≡ map telling new → (names holders : HashedDecls) → AreByName old names holders → AreByName new names holders
+still_by_name old new same names holders are = record {
+  names_are = subst (λ (name : DeclRef → List ℕ). AreInOrder (by_name name) (map (hashed name) (all_decls new)) names) (fun_ext (same_name old new same))
+      (subst (λ ds. AreInOrder (by_name (name_at old)) (map (hashed (name_at old)) ds) names) (same_decls old new same) are.names_are);
+  holders_are = subst (λ (name : DeclRef → List ℕ). AreInOrder (by_scope name) (map (hashed (λ r. last_of (name r))) (all_holders new)) holders) (fun_ext (same_name old new same))
+      (subst (λ ds. AreInOrder (by_scope (name_at old)) (map (hashed (λ r. last_of (name_at old r))) ds) holders) (same_holders old new same) are.holders_are);
+}
 
 -- ---- the packages
 
@@ -175,6 +187,12 @@ pub stays_in_order : (files : List NamedFacts) (f : ℕ) (facts : FileFacts) →
 stays_in_order files f facts ordered i j other before there =
     let there' : j < length files = omega (arith, there, length-set files f (record { path = get_or (map (λ x. x.path) files) f []; facts = facts })) in
     rw (same_path files f facts i other (omega (arith, before, there')), same_path files f facts j other there') (ordered i j other before there')
+
+-- other facts beside the file's path
+pub facts_set : (files : List NamedFacts) (f : ℕ) (file : NamedFacts) (facts : FileFacts) → f < length files → file ≡ get_or files f file → set files f (record { path = file.path; facts = facts }) ≡ with_facts files f facts
+facts_set files f file facts there is =
+    let path : get_or (map (λ x. x.path) files) f [] ≡ file.path = get_or-map (λ x. x.path) files f file [] there ∙ sym (ap (λ x. x.path) is) in
+    ap (λ p. set files f (record { path = p; facts = facts })) (sym path)
 
 -- the same where the file's path is known
 pub still_in_order : (files : List NamedFacts) (f : ℕ) (file : NamedFacts) (facts : FileFacts) → f < length files → file ≡ get_or files f file

@@ -16,10 +16,6 @@ hash_of text = finish (write initial text)
 abbrev pub with_hash : List ℕ → List ℕ
 with_hash text = hash_of text ∷ text
 
--- whether a declaration comes before another, by the hashes that stand with them, then by text
-abbrev pub is_before : (DeclRef → List ℕ) → HashedDecl → HashedDecl → Bool
-is_before text a b = is_lt (slice_cmp nat_cmp (a.hash ∷ text a.decl) (b.hash ∷ text b.decl))
-
 -- a declaration with the hash of its text
 abbrev pub hashed : (DeclRef → List ℕ) → DeclRef → HashedDecl
 hashed text r = record { hash = hash_of (text r); decl = r }

@@ -12,6 +12,8 @@ pub mod Packages
 pub mod Tables
 pub mod Hashed
 pub mod Entries
+pub mod Bases
+pub mod Replaced
 pub mod Finding
 pub mod FindingLaws
 pub mod Seen

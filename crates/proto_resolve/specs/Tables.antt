@@ -1,7 +1,7 @@
 -- Declarations by name.
-use Rattle.std.specs.Prelude.{◌≡◌, ℕ, ◌-◌, ◌==◌, ◌&&◌, if◌then◌else◌, List, [], ◌∷◌, Bool, false, length, take, filter, bytes_eq}
+use Rattle.std.specs.Prelude.{◌≡◌, ℕ, ◌-◌, ◌==◌, ◌&&◌, if◌then◌else◌, List, [], ◌∷◌, Bool, false, not, length, take, map, filter, bytes_eq}
 use Rattle.std.specs.List.{list_any}
-use Rattle.std.specs.List.Sorted.{IsSortedBy}
+use Rattle.std.specs.List.Sorted.{IsSorted, IsSortedBy}
 use Rattle.std.specs.Cmp.Lexicographic.{slice_cmp}
 use Rattle.std.specs.Ordering.{is_lt, nat_cmp, ordering_then}
 use Rattle.std.specs.declared.cmp.Ordering.{Ordering}
@@ -10,9 +10,10 @@ use Rattle.file_facts.specs.Text.{joined}
 use Rattle.proto_resolve.specs.declared.hashed.HashedDecl.{HashedDecl}
 use Rattle.proto_resolve.specs.declared.hashed.HashedDecls.{HashedDecls}
 use Rattle.proto_resolve.specs.declared.target.DeclRef.{DeclRef}
-use Rattle.proto_resolve.specs.Files.{all_named, decl_at, dot}
-use Rattle.proto_resolve.specs.Holders.{has_dot, is_held}
-use Rattle.proto_resolve.specs.Hashed.{AreByHash}
+use Rattle.proto_resolve.specs.Files.{all_decls, decl_at, dot}
+use Rattle.proto_resolve.specs.Holders.{has_dot}
+use Rattle.proto_resolve.specs.Hashed.{hashed, AreByHash}
+use Rattle.proto_resolve.specs.Names.{is_holder}
 
 -- the full name of a declaration
 abbrev pub name_at : List NamedFacts → DeclRef → List ℕ
@@ -44,29 +45,54 @@ last_of (c ∷ cs) = if has_dot cs then behind_dot cs else c ∷ cs
 abbrev pub scope_of : List ℕ → List ℕ
 scope_of full_name = scope_before (length (last_of full_name)) full_name
 
+-- by file, then by number
+abbrev pub by_place : DeclRef → DeclRef → Ordering
+by_place r s = ordering_then (nat_cmp r.file s.file) (nat_cmp r.number s.number)
+
+-- by the hashes that stand with them and their full names, then by file and number
+abbrev pub by_name : (DeclRef → List ℕ) → HashedDecl → HashedDecl → Ordering
+by_name name a b = ordering_then (slice_cmp nat_cmp (a.hash ∷ name a.decl) (b.hash ∷ name b.decl)) (by_place a.decl b.decl)
+
 -- by the hashes that stand with them and their last components, then by their scopes
 abbrev pub by_scope : (DeclRef → List ℕ) → HashedDecl → HashedDecl → Ordering
 by_scope name a b =
     ordering_then (slice_cmp nat_cmp (a.hash ∷ last_of (name a.decl)) (b.hash ∷ last_of (name b.decl))) (slice_cmp nat_cmp (scope_of (name a.decl)) (scope_of (name b.decl)))
-
--- the declarations of one last component
-abbrev pub of_last : (DeclRef → List ℕ) → List DeclRef → List ℕ → List DeclRef
-of_last name decls last = filter (λ r. bytes_eq (last_of (name r)) last) decls
-
--- declarations by their last components, those of one last component by their scopes; one of a full name is among them exactly if that
--- name passes the test
-pub record AreByLast (name : DeclRef → List ℕ) (test : List ℕ → Bool) (hashes : List ℕ) (decls : List DeclRef) : Type 0 where
-  pub hashed : AreByHash (λ r. last_of (name r)) hashes decls
-  pub all : (scope last : List ℕ) → has_dot last ≡ false → stands_in name (length last) (of_last name decls last) scope ≡ test (joined scope last)
-  pub ordered : (last : List ℕ) → IsByScope name (length last) (of_last name decls last)
 
 -- the parts are those into which a full name comes apart at its last dot
 pub record AreParts (scope last full_name : List ℕ) : Type 0 where
   pub only : (s q : List ℕ) → has_dot q ≡ false → (bytes_eq last q && bytes_eq scope s) ≡ bytes_eq full_name (joined s q)
   pub before : scope ≡ scope_before (length last) full_name
 
+-- whether a declaration stands in another file
+abbrev pub is_of_another : ℕ → DeclRef → Bool
+is_of_another file r = not (r.file == file)
+
+-- the ones are the others in some order: each test keeps as many of both (this stays true of those that a test keeps, as one needs where
+-- a file's entries are left out)
+abbrev pub AreRearranged : List HashedDecl → List HashedDecl → Type 0
+AreRearranged xs ys = (test : HashedDecl → Bool) → length (filter test xs) ≡ length (filter test ys)
+
+-- the entries, put in the order, as two lists
+pub record AreInOrder (order : HashedDecl → HashedDecl → Ordering) (entries : List HashedDecl) (found : HashedDecls) : Type 0 where
+  pub sorted : List HashedDecl
+  pub same : AreRearranged entries sorted
+  pub ordered : IsSorted order sorted
+  pub hashes_are : found.hashes.items ≡ map (λ k. k.hash) sorted
+  pub decls_are : found.decls.items ≡ map (λ k. k.decl) sorted
+
+-- entries for all declarations of the files by their full names
+abbrev pub name_entries : List NamedFacts → List HashedDecl
+name_entries files = map (hashed (name_at files)) (all_decls files)
+
+-- those of the files that may settle a scope
+abbrev pub all_holders : List NamedFacts → List DeclRef
+all_holders files = filter (λ r. is_holder (let d = decl_at files r in d.kind)) (all_decls files)
+
+-- entries for these by their last components
+abbrev pub holder_entries : List NamedFacts → List HashedDecl
+holder_entries files = map (hashed (λ r. last_of (name_at files r))) (all_holders files)
+
 -- all declarations of the files by their full names, and what may settle a scope by the last components
 pub record AreByName (files : List NamedFacts) (names holders : HashedDecls) : Type 0 where
-  pub hashed : AreByHash (name_at files) names.hashes.items names.decls.items
-  pub each : (q : List ℕ) → filter (λ r. bytes_eq (name_at files r) q) names.decls.items ≡ all_named files q
-  pub last : AreByLast (name_at files) (is_held files) holders.hashes.items holders.decls.items
+  pub names_are : AreInOrder (by_name (name_at files)) (name_entries files) names
+  pub holders_are : AreInOrder (by_scope (name_at files)) (holder_entries files) holders

@@ -1,6 +1,6 @@
 // All declarations of files.
-ghost use Rattle.std.specs.Prelude.{◌≡◌, ◌++◌, IfOk, OnOk};
-ghost use Rattle.proto_resolve.specs.Files.{all_decls, refs_of};
+ghost use Rattle.std.specs.Prelude.{◌≡◌, ◌<◌, ◌++◌, IfOk, OnOk, length};
+ghost use Rattle.proto_resolve.specs.Files.{all_decls, decls_at, refs_of};
 
 use crate::target::DeclRef;
 use file_facts::Decl;
@@ -15,6 +15,20 @@ fn push_decls(file: usize, decls: &[Decl], found: &mut Items<DeclRef>) -> Result
         found.push(DeclRef { file, number })?;
     }
     Ok(())
+}
+
+// Those of a file, by offset.
+pub fn decls_of(
+    alloc: Global,
+    files: &[NamedFacts],
+    file: usize,
+) -> Result<Items<DeclRef>, AllocError>
+    requires { file < length files.now }
+    ensures { IfOk result (λ d. d ≡ refs_of file (decls_at files.now file)) }
+{
+    let mut found = Items::new(alloc);
+    push_decls(file, files[file].facts.get().decls.as_slice(), &mut found)?;
+    Ok(found)
 }
 
 // All of them, by file, then offset.

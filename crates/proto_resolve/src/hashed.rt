@@ -1,18 +1,16 @@
 // Declarations in the order of hashes made of their full names, or of a part of these; where hashes are equal, in the order of the text
 // itself. A look-up compares hashes, and texts only among equal ones. Names chosen to have equal hashes are still found by binary search.
-ghost use Rattle.std.specs.Prelude.{◌≡◌, ◌≤◌, ◌∷◌, ◌==◌, ℕ, List, true, false, IfOk, OnOk, map, filter, length, bytes_eq, nat_lt};
+ghost use Rattle.std.specs.Prelude.{◌≡◌, ◌≤◌, ◌==◌, ℕ, true, false, IfOk, map, filter, length, bytes_eq, nat_lt};
 ghost use Rattle.std.specs.Cmp.Lexicographic.{slice_cmp};
-ghost use Rattle.std.specs.List.Sorted.{IsNonDecreasing, IsPartitionPoint, IsPartitionedBy, IsPermutation, IsSorted, IsSortedBy, IsStableBy};
+ghost use Rattle.std.specs.List.Sorted.{IsNonDecreasing, IsPartitionPoint, IsPartitionedBy, IsSorted};
 ghost use Rattle.std.specs.Ordering.{is_lt, nat_cmp};
 ghost use Rattle.proto_resolve.specs.Hashed as spec;
-ghost use Rattle.proto_resolve.specs.Entries.{AreEntries};
-ghost use Rattle.proto_resolve.specs.Hashed.{AreByHash, hashed, is_before};
+ghost use Rattle.proto_resolve.specs.Hashed.{AreByHash, hashed};
 
 use crate::naming::Naming;
 use crate::target::DeclRef;
 use import_graph::NamedFacts;
 use std::alloc::{AllocError, Global};
-use std::cmp::Ordering;
 use std::hash::{FoldHasher, Hasher};
 
 /// A declaration with the hash of the text by which it is looked up: its full name, or a part of it.
@@ -62,28 +60,6 @@ pub fn hashed_decls<N: Naming>(
     Ok(found)
 }
 
-// By hash, then by text.
-pub fn compare<N: Naming>(files: &[NamedFacts], a: HashedDecl, b: HashedDecl) -> Ordering
-    ensures { result ≡ slice_cmp nat_cmp (a.hash ∷ N.part files.now a.decl) (b.hash ∷ N.part files.now b.decl) }
-{
-    match a.hash.cmp(&b.hash) {
-        Ordering::Equal => N::part(files, a.decl).cmp(N::part(files, b.decl)),
-        other => other,
-    }
-}
-
-// Sorts them by hash, then by text; ties keep their order.
-fn sort_by_hash<N: Naming>(
-    files: &[NamedFacts],
-    hashed: &mut Vec<HashedDecl>,
-) -> Result<(), AllocError>
-    ensures sorted { OnOk result (IsSortedBy (is_before (N.part files.now)) hashed.new.items) }
-    ensures same { IsPermutation hashed.old.items hashed.new.items }
-    ensures stable { IsStableBy (is_before (N.part files.now)) hashed.old.items hashed.new.items }
-{
-    hashed.sort_by(|a, b| compare::<N>(files, *a, *b))
-}
-
 // A hash without its last `shift` bits.
 fn first_bits(hash: u64, shift: u32) -> usize {
     hash.wrapping_shr(shift) as usize
@@ -124,36 +100,6 @@ pub fn apart(alloc: Global, hashed: &[HashedDecl]) -> Result<HashedDecls, AllocE
         starts,
         shift,
     })
-}
-
-// An entry for each of the declarations, by hash, then by text; those of one text stay in their order. An `Err` comes only where memory was
-// refused.
-pub fn entries_by_text<N: Naming>(
-    alloc: Global,
-    files: &[NamedFacts],
-    decls: &[DeclRef],
-) -> Result<Vec<HashedDecl>, AllocError>
-    ensures same { IfOk result (λ v. IsPermutation (map (hashed (N.part files.now)) decls.now) v.items) }
-    ensures entries { IfOk result (λ v. AreEntries (N.part files.now) decls.now v.items) }
-{
-    let mut hashed = hashed_decls::<N>(alloc, files, decls)?;
-    sort_by_hash::<N>(files, &mut hashed)?;
-    Ok(hashed)
-}
-
-// The declarations of some entries by full name, or by a part of it; those of one text stay in their order. Sorted runs are merged. An `Err`
-// comes only where memory was refused.
-pub fn sorted_by_text<N: Naming>(
-    alloc: Global,
-    files: &[NamedFacts],
-    entries: Vec<HashedDecl>,
-) -> Result<HashedDecls, AllocError>
-    ensures hashed { (decls : List DeclRef) → AreEntries (N.part files.now) decls entries.items → IfOk result (λ n. AreByHash (N.part files.now) n.hashes.items n.decls.items) }
-    ensures each { (decls : List DeclRef) → AreEntries (N.part files.now) decls entries.items → IfOk result (λ n. (q : List ℕ) → filter (λ r. bytes_eq (N.part files.now r) q) n.decls.items ≡ filter (λ r. bytes_eq (N.part files.now r) q) decls) }
-{
-    let mut entries = entries;
-    sort_by_hash::<N>(files, &mut entries)?;
-    apart(alloc, entries.as_slice())
 }
 
 // How many hashes at the front are this one, which no other comes between. Mostly there is at most one.

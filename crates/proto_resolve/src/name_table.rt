@@ -1,16 +1,24 @@
 // Files with their declarations by name.
-ghost use Rattle.std.specs.Prelude.{◌≡◌, ◌<◌, ◌≤◌, length, take, All, false, IfOk};
-ghost use Rattle.std.specs.List.Sorted.{IsNonDecreasing};
+ghost use Rattle.std.specs.Prelude.{◌≡◌, ◌<◌, ◌≤◌, List, length, map, take, All, false, IfOk};
+ghost use Rattle.std.specs.Cmp.{IsTotalOrder};
+ghost use Rattle.std.specs.List.Sorted.{IsNonDecreasing, IsSorted};
 ghost use Rattle.file_facts.specs.Text.{joined};
+ghost use Rattle.proto_resolve.specs.declared.hashed.HashedDecl.{HashedDecl};
+ghost use Rattle.proto_resolve.specs.Entries.{AreRunsOf};
 ghost use Rattle.proto_resolve.specs.Files.{all_named, facts_at};
 ghost use Rattle.proto_resolve.specs.Holders.{has_dot, is_held, IsLast};
 ghost use Rattle.proto_resolve.specs.Outlines.{with_facts};
 ghost use Rattle.proto_resolve.specs.Seen.{exports};
+ghost use Rattle.proto_resolve.specs.Tables.{AreInOrder};
 
-use crate::hashed::{HashedDecls, sorted_by_text, with_text};
-use crate::holders::{last_place, sorted_by_scope};
+use crate::decls::decls_of;
+use crate::entry_order::{ByName, ByScope, EntryOrder};
+use crate::hashed::{HashedDecl, HashedDecls, apart, with_text};
+use crate::holders::last_place;
+use crate::merging::merge_runs;
 use crate::name_entries::NameEntries;
 use crate::naming::{FullNames, LastComponents};
+use crate::replacing::{replaced_holders, replaced_names};
 use crate::target::DeclRef;
 use import_graph::{NamedFacts, SharedFacts};
 use std::alloc::{AllocError, Global};
@@ -39,6 +47,20 @@ impl Model for NameTable {
     ghost invariant = { λ t. AreByName t.files.items t.names t.holders };
 }
 
+// The entries of sorted runs in one order, as two lists.
+fn in_order<O: EntryOrder>(
+    alloc: Global,
+    files: &[NamedFacts],
+    runs: Vec<Vec<HashedDecl>>,
+) -> Result<HashedDecls, AllocError>
+    requires total { IsTotalOrder (O.order files.now) }
+    requires runs { All (λ run. IsSorted (O.order files.now) run.items) runs.items }
+    ensures { (entries : List HashedDecl) → AreRunsOf (O.order files.now) entries (map (λ run. run.items) runs.items) → IfOk result (AreInOrder (O.order files.now) entries) }
+{
+    let entries = merge_runs::<O>(alloc, files, runs)?;
+    apart(alloc, entries.as_slice())
+}
+
 impl NameTable {
     /// The table of the files of some entries. An `Err` comes only where memory was refused.
     pub fn of(alloc: Global, entries: NameEntries) -> Result<NameTable, AllocError>
@@ -49,8 +71,8 @@ impl NameTable {
             names,
             holders,
         } = entries;
-        let names = sorted_by_text::<FullNames>(alloc, files.as_slice(), names)?;
-        let holders = sorted_by_scope(alloc, files.as_slice(), holders)?;
+        let names = in_order::<ByName>(alloc, files.as_slice(), names)?;
+        let holders = in_order::<ByScope>(alloc, files.as_slice(), holders)?;
         Ok(NameTable {
             files,
             names,
@@ -63,14 +85,6 @@ impl NameTable {
         ensures { result.now ≡ self.now }
     {
         &self.files
-    }
-
-    /// The files; the rest is dropped.
-    pub fn into_files(self) -> Vec<NamedFacts>
-        ensures { result.items ≡ self }
-    {
-        let NameTable { files, .. } = self;
-        files
     }
 
     /// The declarations of a full name, by file, then offset. Takes no memory.
@@ -110,5 +124,32 @@ impl NameTable {
         ensures { self.new ≡ with_facts self.old file facts }
     {
         self.files[file].facts = facts;
+    }
+
+    /// The table with other facts of a file, given by its number from 0. Only the names of that file are put in order; those of
+    /// the others stay in theirs. An `Err` comes only where memory was refused; the table is gone then.
+    pub fn replace(
+        self,
+        alloc: Global,
+        file: usize,
+        facts: SharedFacts,
+    ) -> Result<NameTable, AllocError>
+        requires { file < length self }
+        ensures { IfOk result (λ t. t ≡ with_facts self file facts) }
+    {
+        let NameTable {
+            mut files,
+            names,
+            holders,
+        } = self;
+        files[file].facts = facts;
+        let own = decls_of(alloc, files.as_slice(), file)?;
+        let names = replaced_names(alloc, files.as_slice(), names, file, own.as_slice())?;
+        let holders = replaced_holders(alloc, files.as_slice(), holders, file, own.as_slice())?;
+        Ok(NameTable {
+            files,
+            names,
+            holders,
+        })
     }
 }

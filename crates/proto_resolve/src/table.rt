@@ -2,19 +2,20 @@
 ghost use Rattle.std.specs.Prelude.{◌≡◌, ◌<◌, length, IfOk};
 ghost use Rattle.import_graph.specs.Imports.{graph_of};
 ghost use Rattle.import_graph.specs.Paths.{IsInPathOrder};
+ghost use Rattle.proto_resolve.specs.Bases.{IsBaseOf};
 ghost use Rattle.proto_resolve.specs.Files.{all_decls, facts_at};
 ghost use Rattle.proto_resolve.specs.Outlines.{import_outline, with_facts};
 ghost use Rattle.proto_resolve.specs.Seen.{exports};
 
-use crate::decls::all_decls;
 use crate::index::Index;
 use crate::name_entries::NameEntries;
 use crate::name_table::NameTable;
-use crate::packages::{PackagedFile, longest_of, of_package, packaged_files};
+use crate::outline::same_exports;
+use crate::packages::{PackagedFile, of_package};
+use crate::table_base::TableBase;
 use crate::target::DeclRef;
 use file_facts::FileFacts;
 use import_graph::{Graph, NamedFacts, SharedFacts};
-use sqlite_items::Items;
 use std::alloc::{AllocError, Global};
 use std::marker::Model;
 
@@ -22,27 +23,37 @@ use std::marker::Model;
 #[derive(Drop)]
 pub struct Table {
     names: NameTable,
-    graph: Graph,
-    decls: Items<DeclRef>,
-    // The files that have packages, by these.
-    packaged: Vec<PackagedFile>,
-    // How long the longest name among those is.
-    longest: usize,
+    base: TableBase,
 }
 
 impl Model for Table {
-    ghost use Rattle.std.specs.Prelude.{◌≡◌, List};
+    ghost use Rattle.std.specs.Prelude.{List};
     ghost use Rattle.import_graph.specs.declared.paths.NamedFacts.{NamedFacts};
-    ghost use Rattle.import_graph.specs.Imports.{graph_of};
-    ghost use Rattle.import_graph.specs.Paths.{IsInPathOrder};
-    ghost use Rattle.proto_resolve.specs.Files.{all_decls};
-    ghost use Rattle.proto_resolve.specs.Packages.{AreNoLonger, ArePackaged};
+    ghost use Rattle.proto_resolve.specs.Bases.{IsBaseOf};
 
     ghost Value = { List NamedFacts };
 
     ghost view = { λ t. t.names };
 
-    ghost invariant = { λ t. (t.graph ≡ graph_of t.names) × (t.decls ≡ all_decls t.names) × IsInPathOrder t.names × ArePackaged t.names t.packaged.items × AreNoLonger t.longest t.packaged.items };
+    ghost invariant = { λ t. IsBaseOf t.names t.base };
+}
+
+// The names of the files with other facts of one. They stay in their order where that file declares what it did.
+fn with_facts(
+    alloc: Global,
+    names: NameTable,
+    file: usize,
+    facts: SharedFacts,
+) -> Result<NameTable, AllocError>
+    requires { file < length names }
+    ensures { IfOk result (λ t. t ≡ with_facts names file facts) }
+{
+    if same_exports(facts.get(), names.files()[file].facts.get()) {
+        let mut names = names;
+        names.set_facts(file, facts);
+        return Ok(names);
+    }
+    names.replace(alloc, file, facts)
 }
 
 impl Table {
@@ -51,28 +62,18 @@ impl Table {
         requires { IsInPathOrder files.items }
         ensures { IfOk result (λ t. t ≡ files.items) }
     {
+        let base = TableBase::of(alloc, files.as_slice())?;
         let entries = NameEntries::of(alloc, files)?;
         let names = NameTable::of(alloc, entries)?;
-        Table::of_names(alloc, names)
+        Ok(Table { names, base })
     }
 
-    /// The table of the files whose declarations these are, in the order of their paths. An `Err` comes only where memory was
-    /// refused.
-    pub fn of_names(alloc: Global, names: NameTable) -> Result<Table, AllocError>
-        requires { IsInPathOrder names }
-        ensures { IfOk result (λ t. t ≡ names) }
+    /// The table of the files whose declarations by name and whose base these are.
+    pub fn of_parts(names: NameTable, base: TableBase) -> Table
+        requires { IsBaseOf names base }
+        ensures { result ≡ names }
     {
-        let graph = Graph::of(alloc, names.files())?;
-        let decls = all_decls(alloc, names.files())?;
-        let packaged = packaged_files(alloc, names.files())?;
-        let longest = longest_of(packaged.as_slice());
-        Ok(Table {
-            names,
-            graph,
-            decls,
-            packaged,
-            longest,
-        })
+        Table { names, base }
     }
 
     /// Puts other facts of a file, given by its number from 0, in the place of its facts, which say the same to the other files
@@ -86,8 +87,9 @@ impl Table {
         self.names.set_facts(file, facts);
     }
 
-    /// The table with other facts of a file, given by its number from 0, and the graph of the files before. The other files'
-    /// facts are kept as they are, and all else is made anew. An `Err` comes only where memory was refused.
+    /// The table with other facts of a file, given by its number from 0, and the graph of the files before. Of the names only that
+    /// file's are put in order again, and none where it declares what it did; the graph and the rest are made anew. An `Err` comes
+    /// only where memory was refused; the table is gone then.
     pub fn replace_facts(
         self,
         alloc: Global,
@@ -98,17 +100,35 @@ impl Table {
         ensures table { IfOk result (λ r. r.0 ≡ with_facts self file facts) }
         ensures graph { IfOk result (λ r. r.1 ≡ graph_of self) }
     {
-        let Table { names, graph, .. } = self;
-        let mut files = names.into_files();
-        files[file].facts = facts;
-        Ok((Table::of(alloc, files)?, graph))
+        let Table { names, base } = self;
+        let names = with_facts(alloc, names, file, facts)?;
+        let made = TableBase::of(alloc, names.files())?;
+        Ok((Table::of_parts(names, made), base.graph))
+    }
+
+    /// The table with other facts of a file, given by its number from 0, which say the same of imports: the graph stays. An `Err`
+    /// comes only where memory was refused; the table is gone then.
+    pub fn replace_exports(
+        self,
+        alloc: Global,
+        file: usize,
+        facts: SharedFacts,
+    ) -> Result<Table, AllocError>
+        requires within { file < length self }
+        requires imports { import_outline facts ≡ import_outline (facts_at self file) }
+        ensures { IfOk result (λ t. t ≡ with_facts self file facts) }
+    {
+        let Table { names, base } = self;
+        let names = names.replace(alloc, file, facts)?;
+        let made = TableBase::with_graph(alloc, base.graph, names.files())?;
+        Ok(Table::of_parts(names, made))
     }
 
     /// All declarations, by path, then offset.
     pub fn decls(&self) -> &[DeclRef]
         ensures { result.now ≡ all_decls self.now }
     {
-        self.decls.as_slice()
+        self.base.decls.as_slice()
     }
 
     /// How many files there are.
@@ -123,7 +143,7 @@ impl Index for Table {
     ghost files = { λ t. t };
 
     fn graph(&self) -> &Graph {
-        &self.graph
+        &self.base.graph
     }
 
     fn facts(&self, file: usize) -> &FileFacts {
@@ -135,7 +155,7 @@ impl Index for Table {
     }
 
     fn packaged(&self, full_name: &str) -> &[PackagedFile] {
-        of_package(self.packaged.as_slice(), self.longest, full_name)
+        of_package(self.base.packaged.as_slice(), self.base.longest, full_name)
     }
 
     fn last_held(&self, scope: &str, lengths: &[usize], name: &str) -> Option<usize> {

@@ -1,7 +1,13 @@
 -- What a change of the text of one file leaves as it was.
-use Rattle.std.proofs.Common.{◌≡◌, ◌≢◌, ◌<◌, ◌≤◌, ◌+◌, ℕ, zero, suc, List, [], ◌∷◌, ◌++◌, Bool, true, false, not, Option, None, Some, length, get_or, set, take, drop, map, refl, sym, ap, ap₂, ◌∙◌, arith, add-one, zero-add}
-use Rattle.std.specs.Prelude.{IfSome, MatchOption}
-use Rattle.std.specs.List.{enumerate_from}
+use Rattle.std.proofs.Common.{◌≡◌, ◌≢◌, ◌<◌, ◌≤◌, ◌+◌, ◌==◌, ℕ, zero, suc, List, [], ◌∷◌, ◌++◌, Bool, true, false, not, Option, None, Some, Vec, Global, length, get_or, set, take, drop, map, refl, sym, ap, ap₂, ◌∙◌, arith, add-one, zero-add}
+use Rattle.std.specs.Prelude.{All, Contains, IfSome, MatchOption}
+use Rattle.std.specs.List.{enumerate_from, range_with_len}
+use Rattle.std.specs.List.Sorted.{IsStrictlyIncreasing}
+use Rattle.std.proofs.lemmas.Bool.{false≢true}
+use Rattle.std.proofs.lemmas.Bool.Decides.{nat_tests}
+use Rattle.std.proofs.lemmas.List.Elements.{All-contains_itself, All-weaker}
+use Rattle.std.proofs.lemmas.List.Folds.{list_any_at}
+use Rattle.std.proofs.lemmas.List.Kept.{IsStrictlyIncreasing-filter}
 use Rattle.std.proofs.lemmas.List.{length-map, length-set, map-set, get_or-map, get_or-set_other}
 use Rattle.std.proofs.Math.Seq.{map-set_same}
 use Rattle.std.proofs.lemmas.List.FromFn.{length-enumerate_from, get_or-enumerate_from}
@@ -12,11 +18,14 @@ use Rattle.file_facts.specs.declared.fact.FileFacts.{FileFacts}
 use Rattle.file_facts.specs.Facts.{facts_of}
 use Rattle.import_graph.specs.declared.imports.FileImports.{FileImports}
 use Rattle.import_graph.specs.declared.paths.NamedFacts.{NamedFacts}
-use Rattle.import_graph.specs.Imports.{graph_of}
-use Rattle.import_graph.specs.Imports.{imports_of}
+use Rattle.import_graph.specs.Closures.{seers_of, sees, view_of}
+use Rattle.import_graph.specs.Imports.{graph_of, imports_of}
+use Rattle.import_graph.proofs.ImportEdges.{filter_from, filter_to}
+use Rattle.import_graph.proofs.OneView.{in_range, rising}
 use Rattle.file_facts.specs.declared.diagnostic.Diag.{Diag}
 use Rattle.proto_resolve.specs.declared.resolve.Links.{Links}
 use Rattle.proto_resolve.specs.Files.{all_decls, facts_at}
+use Rattle.proto_resolve.specs.Names.{is_seen}
 use Rattle.proto_resolve.specs.Outlines.{import_outline, with_facts}
 use Rattle.proto_resolve.specs.Seen.{exports, SeesTheSame, SeenLaw}
 use Rattle.proto_resolve.proofs.Outlines.{asking, same_graph}
@@ -154,10 +163,41 @@ kept_count old new change differ = by change.before differ.graph
     by None same = tt
     by (Some g) is = ap length is ∙ length-map old (λ f. imports_of old f.facts) ∙ differ.files
 
--- a graph that is kept is one that is equal to it, and where none is, what followed from that follows
-pub kept_as : (o : Option (List FileImports)) (A B : Type 0) (old new : List FileImports) → (A → B) → old ≡ new → MatchOption o A (λ g. g ≡ old) → MatchOption o B (λ g. g ≡ new)
-kept_as None A B old new follows same h = follows h
-kept_as (Some g) A B old new follows same h = h ∙ same
+-- what is kept is still what is equal to that, and where nothing is, what followed from that follows
+pub kept_as : {X Y : Type 0} (of : X → Y) (o : Option X) (A B : Type 0) (old new : Y) → (A → B) → old ≡ new → MatchOption o A (λ x. of x ≡ old) → MatchOption o B (λ x. of x ≡ new)
+kept_as of None A B old new follows same h = follows h
+kept_as of (Some x) A B old new follows same h = h ∙ same
+
+-- ---- the files that see a changed file
+
+module _ (graph : List FileImports) (file : ℕ) where
+  pub seers_rise : IsStrictlyIncreasing (seers_of graph file)
+  seers_rise = IsStrictlyIncreasing-filter (λ g. sees graph g file) (range_with_len 0 (length graph)) (rising (length graph))
+
+  -- a file that has the other one in its view is a seer of that
+  is_seer : (f : ℕ) → f < length graph → Contains (view_of graph f) file → is_seen (seers_of graph file) f ≡ true
+  is_seer f there has =
+      let all = range_with_len 0 (length graph) in
+      let at : Contains (seers_of graph file) f = filter_to (λ g. sees graph g file) all f (in_range (length graph) f there) (filter_from (sees graph f) all file has).1 in
+      list_any_at (λ h. h == f) (seers_of graph file) at.0 f at.1 (equal (get_or (seers_of graph file) at.0 f) at.2)
+    where
+      equal : (h : ℕ) → h ≡ f → (h == f) ≡ true
+      equal h e = grind (arith, nat_tests)
+
+-- a file that is none of the seers sees no other thing
+pub unseen_by : (old new : List NamedFacts) (change : FileChange) (f : ℕ) → DifferAt old new change → f < length new → is_seen (seers_of (graph_of new) change.file) f ≡ false
+    → All (λ g. exports (facts_at old g) ≡ exports (facts_at new g)) (view_of (graph_of new) f)
+unseen_by old new change f differ there unseen =
+    All-weaker (Contains view) (λ g. exports (facts_at old g) ≡ exports (facts_at new g)) (λ g has. ap exports (differ.others g (apart g has))) view (All-contains_itself view)
+  where
+    view : List ℕ
+    view = view_of (graph_of new) f
+
+    there' : f < length (graph_of new)
+    there' = omega (arith, there, length-map new (λ x. imports_of new x.facts))
+
+    apart : (g : ℕ) → Contains view g → g ≢ change.file
+    apart g has same = false≢true (sym unseen ∙ is_seer (graph_of new) change.file f there' (rw same at has))
 
 -- ---- the workspace before the change
 
@@ -192,14 +232,14 @@ module _ (w : Workspace) (file : ℕ) (text : List ℕ) where
   graph_kept None there imports = graph_stays there imports
   graph_kept (Some g) there is = is
 
-  pub differ : (graph : Option (List FileImports)) (tells : Bool) → file < length w → MatchOption graph ImportsStay (λ g. g ≡ graph_of (all_facts before))
-      → (tells ≡ false → exports (facts_at (all_facts w) file) ≡ exports (facts_at (all_facts before) file))
-      → DifferAt (all_facts before) (all_facts w) (record { file = file; tells = tells; before = graph })
-  differ graph tells there kept quiet = record {
+  pub differ : (graph : Option (List FileImports)) (seers : Option (Vec ℕ Global)) → file < length w → MatchOption graph ImportsStay (λ g. g ≡ graph_of (all_facts before))
+      → MatchOption seers (exports (facts_at (all_facts before) file) ≡ exports (facts_at (all_facts w) file)) (λ seers. seers.items ≡ seers_of (graph_of (all_facts w)) file)
+      → DifferAt (all_facts before) (all_facts w) (record { file = file; seers = seers; before = graph })
+  differ graph seers there kept told = record {
     files = length-map before named_facts ∙ before_length ∙ sym (length-map w named_facts);
     graph = graph_kept graph there kept;
     others = λ g apart. ap (λ files. facts_at files g) facts_before ∙ others_stay (all_facts w) file g (facts_of text) apart;
-    quiet = λ still. sym (quiet still);
+    seers = told;
   }
 
   -- the table with the facts of the changed file is that after the change

@@ -8,3 +8,4 @@ pub mod Taken
 pub mod Joined
 pub mod Kept
 pub mod Promised
+pub mod OwnDiags

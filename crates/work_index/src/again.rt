@@ -1,7 +1,8 @@
 // The analysis of a workspace after a change of one file's text.
-ghost use Rattle.std.specs.Prelude.{◌≡◌, ◌≢◌, ◌<◌, List, false, length, map, slice_set, IfOk, IfSome, MatchOption, OnOk, IsTrue};
+ghost use Rattle.std.specs.Prelude.{◌≡◌, ◌≢◌, ◌<◌, List, All, false, length, map, slice_set, IfOk, IfSome, MatchOption, OnOk, IsTrue};
 ghost use Rattle.std.specs.List.{enumerate_from};
 ghost use Rattle.import_graph.specs.declared.paths.NamedFacts.{NamedFacts};
+ghost use Rattle.import_graph.specs.Closures.{seers_of, view_of};
 ghost use Rattle.import_graph.specs.Imports.{graph_of};
 ghost use Rattle.import_graph.specs.Outlooks.{outlook};
 ghost use Rattle.proto_resolve.specs.Files.{facts_at};
@@ -15,7 +16,7 @@ use crate::analyse::{diagnostics_of, resolution_of};
 use crate::analysis::{Analysis, Resolutions};
 use crate::file_work::{FileWork, shared_in};
 use file_facts::FileFacts;
-use import_graph::{Graph, SharedFacts, same_outlook};
+use import_graph::{FileNo, Graph, SharedFacts, same_outlook};
 use piece_collector::Piece;
 use proto_resolve::{Index, Table, same_exports, same_imports, seen_law};
 use std::alloc::{AllocError, Global};
@@ -25,8 +26,8 @@ use std::alloc::{AllocError, Global};
 struct FileChange {
     // The number of the file.
     file: usize,
-    // Whether it says another thing than before to the files that see it.
-    tells: bool,
+    // The files that see it, ascending, where it says another thing than before to them.
+    seers: Option<Vec<FileNo>>,
     // The graph of imports before the change, where that may be another one than after it.
     before: Option<Graph>,
 }
@@ -52,6 +53,16 @@ fn looks_as_before(table: &Table, change: &FileChange, file: usize) -> Result<bo
     }
 }
 
+// Whether a file sees the changed one, and that says another thing than before to it.
+fn is_told(change: &FileChange, file: usize) -> bool
+    ensures { (old new : List NamedFacts) → DifferAt old new change.now → file < length new → result ≡ false → All (λ g. exports (facts_at old g) ≡ exports (facts_at new g)) (view_of (graph_of new) file) }
+{
+    match &change.seers {
+        Some(seers) => seers.as_slice().binary_search(&file).is_ok(),
+        None => false,
+    }
+}
+
 // Whether a file has to be linked again after a change.
 fn is_affected(table: &Table, change: &FileChange, file: usize) -> Result<bool, AllocError>
     requires file { file < length table.now }
@@ -62,11 +73,7 @@ fn is_affected(table: &Table, change: &FileChange, file: usize) -> Result<bool, 
     if file == change.file || !looks_as_before(table, change, file)? {
         return Ok(true);
     }
-    if !change.tells {
-        return Ok(false);
-    }
-    let seen = table.graph().visible(file)?;
-    Ok(seen.as_slice().contains(&change.file))
+    Ok(is_told(change, file))
 }
 
 // Links a file again.
@@ -112,8 +119,8 @@ fn relink(
     Ok(())
 }
 
-// The table after the change, from the one before; and the graph before, where the imports may say another thing now. The table
-// is made anew where the changed file may say another thing of imports or to the files that see it.
+// The table after the change, from the one before; and the graph before, where the imports may say another thing now. The file's names
+// are put in order again where it may say another thing of imports or to the files that see it.
 fn table_after(
     alloc: Global,
     table: Table,
@@ -128,20 +135,28 @@ fn table_after(
     ensures graph { IfOk result (λ after. MatchOption after.1 (differences.imports ≡ false) (λ graph. graph ≡ graph_of table)) }
 {
     let facts = shared_at(pieces, changed).another()?;
-    if differences.imports || differences.exports {
+    if differences.imports {
         let (table, before) = table.replace_facts(alloc, changed, facts)?;
-        return Ok((
-            table,
-            if differences.imports {
-                Some(before)
-            } else {
-                None
-            },
-        ));
+        return Ok((table, Some(before)));
+    }
+    if differences.exports {
+        return Ok((table.replace_exports(alloc, changed, facts)?, None));
     }
     let mut table = table;
     table.set_facts(changed, facts);
     Ok((table, None))
+}
+
+// The files that see the changed one, where it tells them another thing than before.
+fn told_seers(table: &Table, changed: usize, tells: bool) -> Result<Option<Vec<FileNo>>, AllocError>
+    requires { changed < length table.now }
+    ensures { IfOk result (λ seers. MatchOption seers (tells ≡ false) (λ found. found.items ≡ seers_of (graph_of table.now) changed)) }
+{
+    if !tells {
+        return Ok(None);
+    }
+    let seers = table.graph().seen_by(changed)?;
+    Ok(Some(seers))
 }
 
 // The facts of a piece, as what shares them.
@@ -186,7 +201,7 @@ pub fn analyse_again(
     let (table, before) = table_after(alloc, table, changed, differences, pieces)?;
     let change = FileChange {
         file: changed,
-        tells: exports,
+        seers: told_seers(&table, changed, exports)?,
         before,
     };
     relink(alloc, &table, &change, pieces, &mut resolutions)?;

@@ -1,13 +1,12 @@
 // The analysis of a workspace by several threads.
-ghost use Rattle.std.specs.Prelude.{◌≡◌, ℕ, List, length, map, IfOk};
+ghost use Rattle.std.specs.Prelude.{◌≡◌, length, map, IfOk};
 ghost use Rattle.std.specs.Thread.{IsSync};
-ghost use Rattle.import_graph.specs.declared.paths.NamedFacts.{NamedFacts};
 ghost use Rattle.import_graph.specs.Paths.{IsInPathOrder};
-ghost use Rattle.work_index.specs.Parts.{part_of, IsIndexed, AreIndexed};
+ghost use Rattle.work_index.specs.Parts.{part_of, IsIndexed, AreIndexedWith};
 ghost use Rattle.work_index.specs.Pieces.{workspace_of};
-ghost use Rattle.work_index.specs.Shares.{pieces_in, AreNumbersIn, ArePlacedIn, IsLinkedBy, AreLinkedBy};
+ghost use Rattle.work_index.specs.Shares.{AreNumbersIn, ArePlacedIn, IsLinkedBy, AreLinkedBy};
 ghost use Rattle.work_index.specs.Stretches.{Cover};
-ghost use Rattle.work_index.specs.Workspace.{all_facts, analysis};
+ghost use Rattle.work_index.specs.Workspace.{analysis};
 
 use crate::analyse::paths_of;
 use crate::analysis::Analysis;
@@ -18,8 +17,10 @@ use crate::indexed::{IndexedShare, IndexedShares, index_share, take_apart};
 use crate::linked::{LinkedShare, gather, link_share};
 use crate::part_table::merge_tables;
 use crate::shares::{Share, cut};
+use crate::table_of::all_facts;
+use import_graph::NamedFacts;
 use piece_collector::Lent;
-use proto_resolve::Table;
+use proto_resolve::{Table, TableBase};
 use std::alloc::{AllocError, Global};
 use std::snapshot::Snapshot;
 use std::sync::Wait;
@@ -47,19 +48,30 @@ impl Promise<Result<IndexedShare, AllocError>> for ShareIndexed {
     ghost kept_by = { λ p answer. IfOk answer (IsIndexed p.share.value) };
 }
 
-// Makes the table of each share in a thread of its own, and waits for all of them.
+// The tables of the shares, or refusals, and what is known of their files beside the names.
+#[derive(Drop)]
+struct Indexed {
+    answers: Vec<Result<IndexedShare, AllocError>>,
+    base: TableBase,
+}
+
+// Makes the table of each share in a thread of its own and meanwhile, in this one, what is known of all files beside their names; and
+// waits for all of them.
 fn index_all<R: Threads + Wait>(
     rt: &R,
     alloc: Global,
     shares: Vec<Share>,
-) -> Result<Vec<Result<IndexedShare, AllocError>>, AnalyseFault>
-    ensures { IfOk result (λ answers. AreIndexed shares.items answers.items) }
+    files: &[NamedFacts],
+) -> Result<Indexed, AnalyseFault>
+    requires { IsInPathOrder files.now }
+    ensures { IfOk result (AreIndexedWith shares.items files.now) }
 {
     thread::scope(
         thread::scope_env(),
         rt,
-        |scope| -> Result<Vec<Result<IndexedShare, AllocError>>, AnalyseFault>
-            ensures { IfOk result (λ answers. AreIndexed shares.items answers.items) }
+        |scope| -> Result<Indexed, AnalyseFault>
+            requires { IsInPathOrder files.now }
+            ensures { IfOk result (AreIndexedWith shares.items files.entry.now) }
         {
             let mut handles = Vec::new(alloc);
             for share in shares {
@@ -76,8 +88,9 @@ fn index_all<R: Threads + Wait>(
                 };
                 handles.push(handle)?;
             }
+            let base = TableBase::of(alloc, files)?;
             let answers = thread::join_promised(rt, handles)?;
-            Ok(answers)
+            Ok(Indexed { answers, base })
         },
     )
 }
@@ -87,17 +100,17 @@ fn table_in_shares<R: Threads + Wait>(
     rt: &R,
     alloc: Global,
     shares: Vec<Share>,
+    files: Vec<NamedFacts>,
 ) -> Result<(Vec<Share>, Table), AnalyseFault>
-    requires cover { Cover (all_facts (workspace_of (pieces_in shares.items))) (map part_of shares.items) }
-    requires ordered { IsInPathOrder (all_facts (workspace_of (pieces_in shares.items))) }
+    requires cover { Cover files.items (map part_of shares.items) }
+    requires ordered { IsInPathOrder files.items }
     ensures shares { IfOk result (λ r. r.0.items ≡ shares.items) }
-    ensures table { IfOk result (λ r. r.1 ≡ all_facts (workspace_of (pieces_in shares.items))) }
+    ensures table { IfOk result (λ r. r.1 ≡ files.items) }
 {
-    let answers = index_all(rt, alloc, shares)?;
+    let Indexed { answers, base } = index_all(rt, alloc, shares, files.as_slice())?;
     let IndexedShares { shares, parts } = take_apart(alloc, answers)?;
     let names = merge_tables(alloc, parts)?;
-    let table = Table::of_names(alloc, names)?;
-    Ok((shares, table))
+    Ok((shares, Table::of_parts(names, base)))
 }
 
 // Links each share in a thread of its own, and waits for all of them.
@@ -143,8 +156,8 @@ fn link_all<R: Threads + Wait, G: Gate>(
 }
 
 /// The analysis of the workspace of lent pieces, which come back as they were. It is the one that [`analyse_here`](crate::analyse_here)
-/// makes of them. As many threads as there are `workers` gather the declarations of the files by name, and after that
-/// as many link the files: 0 counts as 1, and over 64 as 64, and there are never
+/// makes of them. As many threads as there are `workers` gather the declarations of the files by name, while this one makes the
+/// graph of imports, and after that as many link the files: 0 counts as 1, and over 64 as 64, and there are never
 /// more than there are files. Each takes a run of consecutive files; the runs differ in length by at most one, the longer ones
 /// first. A thread enters the gate with the path and the stamp of each of its files before it links it. The number of threads
 /// takes no part in what is made. It waits until each of them has ended.
@@ -163,9 +176,10 @@ pub fn analyse_in_shares<R: Threads + Wait, G: Gate>(
 {
     let pieces = lent.into_pieces();
     let paths = paths_of(alloc, pieces.as_slice())?;
+    let files = all_facts(alloc, pieces.as_slice())?;
     let count = workers.clamp(1, 64).min(pieces.len());
     let shares = cut(alloc, pieces, count)?;
-    let (shares, table) = table_in_shares(rt, alloc, shares)?;
+    let (shares, table) = table_in_shares(rt, alloc, shares, files)?;
     let answers = link_all(rt, alloc, shares, &table, gate)?;
     let LinkedShare {
         pieces,

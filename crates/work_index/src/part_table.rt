@@ -61,7 +61,7 @@ pub fn merge_tables(alloc: Global, parts: Vec<PartTable>) -> Result<NameTable, A
     sort_by_first(&mut parts)?;
     let mut entries = NameEntries::new(alloc);
     for part in parts {
-        entries = entries.followed_by(part.entries)?;
+        entries = entries.followed_by(alloc, part.entries)?;
     }
     NameTable::of(alloc, entries)
 }

@@ -1,6 +1,6 @@
 use Rattle.std.proofs.Common.{◌∙◌, arith}
 use Rattle.std.proofs.lemmas.List.{take_more, take_all}
-use Rattle.import_graph.proofs.Turns.{AddsOnly-push}
+use Rattle.import_graph.proofs.Turns.{Adds-push}
 use Rattle.import_graph.proofs.tour.add_to_all.Goals as goal
 
 pub loop-target-preserved : goal.loop-target-preserved
@@ -11,7 +11,7 @@ loop-target-preserved c =
       length_is = c.in_ok-add_to.ensures.length ∙ long;
       within = rw long at c.in_ok-add_to.ensures.within;
       adds = rw (take_more c.args.targets.now c.loop-target.target-index 0 c.loop-target-test.true, c.in_ok-add_to.ensures.adds)
-          (AddsOnly-push _ _ _ _ _ (omega (arith, target, long, c.loop-target.rows.ok)) c.loop-target.invariant.adds);
+          (Adds-push _ _ _ _ _ (omega (arith, target, long, c.loop-target.rows.ok)) c.loop-target.invariant.adds);
     }
 
 pub returns-clause-adds : goal.returns-clause-adds

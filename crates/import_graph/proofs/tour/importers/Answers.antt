@@ -1,5 +1,5 @@
-use Rattle.std.proofs.Common.{◌≡◌, [], get_or, ◌∙◌}
-use Rattle.std.proofs.lemmas.List.{get_or_default}
+use Rattle.std.proofs.Common.{◌≡◌, [], get_or, ◌∙◌, arith}
+use Rattle.std.proofs.lemmas.List.{get_or_default, length-take-le, take_all, take_more}
 use Rattle.import_graph.proofs.Turns.{IsTurned-push}
 use Rattle.import_graph.proofs.tour.importers.Goals as goal
 
@@ -11,5 +11,9 @@ loop-file-preserved c =
     record {
       length_is = c.in_ok-add_to_all.ensures.length ∙ long;
       within = rw long at c.in_ok-add_to_all.ensures.within;
-      turned = IsTurned-push _ _ _ _ c.loop-file.invariant.turned (rw row at c.in_ok-add_to_all.ensures.adds);
+      turned = rw (take_more c.args.imports.now c.loop-file.file [] c.loop-file-test.true)
+          (IsTurned-push _ _ _ _ c.loop-file.file (length-take-le c.loop-file.file c.args.imports.now (omega arith)) c.loop-file.invariant.turned (rw row at c.in_ok-add_to_all.ensures.adds));
     }
+
+pub returns-clause-turned : goal.returns-clause-turned
+returns-clause-turned c = rw (take_all c.loop-file.file c.args.imports.now c.loop-file-test.false) at c.loop-file.invariant.turned

@@ -3,5 +3,5 @@ use Rattle.proto_resolve.specs.Entries.{with_renumbered}
 use Rattle.proto_resolve.proofs.name_entries.push_renumbered.Given as goal
 
 -- those so far
-abbrev pub invariant-loop-entry : goal.invariant-loop-entry
-invariant-loop-entry l = l.found.items ≡ l.fn.found.items ++ map (with_renumbered l.by) (take l.entry-index l.entries)
+abbrev pub invariant-loop-run : goal.invariant-loop-run
+invariant-loop-run l = map (λ run. run.items) l.found.items ≡ map (λ run. run.items) l.fn.found.items ++ map (λ run. map (with_renumbered l.by) run.items) (take l.run-index l.runs)

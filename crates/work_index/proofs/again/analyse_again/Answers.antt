@@ -1,5 +1,6 @@
 use Rattle.std.proofs.Common.{◌≡◌, map, sym, ap, ◌∙◌, false, not}
 use Rattle.std.proofs.lemmas.Simd.{map-map}
+use Rattle.import_graph.specs.Closures.{seers_of}
 use Rattle.import_graph.specs.Imports.{graph_of}
 use Rattle.proto_resolve.specs.Files.{facts_at}
 use Rattle.proto_resolve.specs.Outlines.{import_outline}
@@ -31,14 +32,18 @@ relink-requires-clause-before c =
     let before' : c.facts-2.result.now ≡ facts_at (all_facts b) file = c.facts-2.ensures ∙ ap (λ files. facts_at files file) of.table_is in
     let alike = c.same_imports-imports.result in
     let imports : not alike ≡ false → import_outline (facts_at (all_facts w) file) ≡ import_outline (facts_at (all_facts b) file) =
-    λ still. ap import_outline (sym c.facts_at-facts.ensures) ∙ c.same_imports-imports.ensures.0 (not_false alike still) ∙ ap import_outline before in record {
+    λ still. ap import_outline (sym c.facts_at-facts.ensures) ∙ c.same_imports-imports.ensures.0 (not_false alike still) ∙ ap import_outline before in
+    let told_alike = c.same_exports-exports.result in
+    let quiet : not told_alike ≡ false → exports (facts_at (all_facts b) file) ≡ exports (facts_at (all_facts w) file) =
+    λ still. sym (ap exports (sym c.facts_at-facts.ensures) ∙ c.same_exports-exports.ensures.0 (not_false told_alike still) ∙ ap exports before') in
+    let seen_by : seers_of (graph_of c.in_ok-table.table) file ≡ seers_of (graph_of (all_facts w)) file = ap (λ files. seers_of (graph_of files) file) c.in_ok-table.ensures.table in record {
       within = was.within;
       text = was.text;
       links_are = of.links_are;
       diagnostics_are = of.diagnostics_are;
-      differ = differ w file was.text c.in_ok-table.before (not c.same_exports-exports.result) was.within
-          (kept_as c.in_ok-table.before (not alike ≡ false) _ (graph_of inside.table) (graph_of (all_facts b)) imports (ap graph_of of.table_is) c.in_ok-table.ensures.graph)
-          (λ still. ap exports (sym c.facts_at-facts.ensures) ∙ c.same_exports-exports.ensures.0 (not_false c.same_exports-exports.result still) ∙ ap exports before');
+      differ = differ w file was.text c.in_ok-table.before c.in_ok-told_seers.field-0 was.within
+          (kept_as (λ g. g) c.in_ok-table.before (not alike ≡ false) _ (graph_of inside.table) (graph_of (all_facts b)) imports (ap graph_of of.table_is) c.in_ok-table.ensures.graph)
+          (kept_as (λ seers. seers.items) c.in_ok-told_seers.field-0 (not told_alike ≡ false) _ _ _ quiet seen_by c.in_ok-told_seers.ensures);
     }
 
 pub invariant_of-result : goal.invariant_of-result

@@ -8,6 +8,11 @@ returns-then-differences-clause-table c =
     c.in_ok-table.ensures.table
     ∙ replaced (workspace_of c.args.pieces.now) c.args.changed c.requires.before.text c.args.table c.in_ok-facts.facts c.requires.before.within c.requires.before.are (c.in_ok-facts.ensures ∙ c.shared_at.ensures)
 
+pub returns-then-differences-2-clause-table : goal.returns-then-differences-2-clause-table
+returns-then-differences-2-clause-table c =
+    c.in_ok-replace_exports.ensures
+    ∙ replaced (workspace_of c.args.pieces.now) c.args.changed c.requires.before.text c.args.table c.in_ok-facts.facts c.requires.before.within c.requires.before.are (c.in_ok-facts.ensures ∙ c.shared_at.ensures)
+
 pub returns-clause-table : goal.returns-clause-table
 returns-clause-table c =
     c.set_facts.ensures

@@ -1,26 +1,29 @@
-use Rattle.std.proofs.Common.{List, refl, sym, ◌&&◌, bytes_eq, map, filter}
-use Rattle.std.specs.List.{list_any}
-use Rattle.std.specs.List.Sorted.{IsPermutation}
+use Rattle.std.proofs.Common.{List}
 use Rattle.import_graph.specs.declared.paths.NamedFacts.{NamedFacts}
-use Rattle.proto_resolve.specs.Entries.{AreEntries}
-use Rattle.proto_resolve.specs.Files.{all_decls, decl_at}
-use Rattle.proto_resolve.specs.Hashed.{hashed}
-use Rattle.proto_resolve.specs.Holders.{is_held}
-use Rattle.proto_resolve.specs.Names.{is_holder}
-use Rattle.proto_resolve.specs.Tables.{last_of, name_at}
-use Rattle.proto_resolve.proofs.ByLast.{any_kept, still_by_last}
+use Rattle.proto_resolve.specs.Tables.{by_name, by_scope, holder_entries, name_at, name_entries}
+use Rattle.proto_resolve.proofs.ByLast.{scopes_total}
+use Rattle.proto_resolve.proofs.Entries.{each_sorted}
+use Rattle.proto_resolve.proofs.Places.{names_total}
 use Rattle.proto_resolve.proofs.name_table.NameTable.of.Goals as goal
+
+pub in_order-requires-clause-total : goal.in_order-requires-clause-total
+in_order-requires-clause-total c = names_total (name_at c.as_slice.result.now)
+
+pub in_order-requires-clause-runs : goal.in_order-requires-clause-runs
+in_order-requires-clause-runs c =
+    rw c.as_slice.ensures.value (each_sorted (λ run. run.items) (by_name (name_at c.entries.inside.files.items)) c.entries.inside.names.items c.entries.invariant.names_are.sorted)
+
+pub in_order-requires-2-clause-total : goal.in_order-requires-2-clause-total
+in_order-requires-2-clause-total c = scopes_total (name_at c.as_slice-2.result.now)
+
+pub in_order-requires-2-clause-runs : goal.in_order-requires-2-clause-runs
+in_order-requires-2-clause-runs c =
+    rw c.as_slice-2.ensures.value (each_sorted (λ run. run.items) (by_scope (name_at c.entries.inside.files.items)) c.entries.inside.holders.items c.entries.invariant.holders_are.sorted)
 
 pub invariant_of-result : goal.invariant_of-result
 invariant_of-result c =
     let files : List NamedFacts = c.entries.inside.files.items in
-    let by_name : AreEntries (name_at c.as_slice.result.now) (all_decls files) c.entries.inside.names.items = rw c.as_slice.ensures.value c.entries.invariant.by_name in
-    let by_last : IsPermutation (map (hashed (λ r. last_of (name_at c.as_slice-2.result.now r))) (filter (λ r. is_holder (let d = decl_at files r in d.kind)) (all_decls files))) c.entries.inside.holders.items =
-    rw c.as_slice-2.ensures.value c.entries.invariant.by_last in
     record {
-      hashed = rw c.as_slice.ensures.value at (c.in_ok-names.ensures.hashed (all_decls files) by_name);
-      each = rw c.as_slice.ensures.value at (c.in_ok-names.ensures.each (all_decls files) by_name);
-      last = still_by_last (name_at files) (name_at files) (λ n. list_any (λ r. bytes_eq (name_at files r) n && is_holder (let d = decl_at files r in d.kind)) (all_decls files)) (is_held files) c.in_ok-holders.holders.hashes.items c.in_ok-holders.holders.decls.items
-          (λ r. refl) (λ n. sym (any_kept (λ r. bytes_eq (name_at files r) n) (λ r. is_holder (let d = decl_at files r in d.kind)) (all_decls files)))
-          (rw c.as_slice-2.ensures.value at (c.in_ok-holders.ensures (λ r. is_holder (let d = decl_at files r in d.kind)) (all_decls files) by_last));
+      names_are = (rw c.as_slice.ensures.value at c.in_ok-names.ensures) (name_entries files) c.entries.invariant.names_are;
+      holders_are = (rw c.as_slice-2.ensures.value at c.in_ok-holders.ensures) (holder_entries files) c.entries.invariant.holders_are;
     }

@@ -12,10 +12,10 @@ invariant_of-self c =
     let new : List NamedFacts = with_facts files f c.args.facts in
     let asks : map asking files ≡ map asking new = asks_alike files f c.args.facts (rw seen at c.requires.within) (rw seen at c.requires.imports) in
     let tells : map telling files ≡ map telling new = tells_alike files f c.args.facts (rw seen at c.requires.within) (rw seen at c.requires.exports) in
-    rw c.set_facts.ensures (
-      c.self.invariant.0 ∙ same_graph files new asks,
-      c.self.invariant.1 ∙ same_decls files new tells,
-      stays_in_order files f c.args.facts c.self.invariant.2,
-      still_packaged files new tells c.self.inside.packaged.items c.self.invariant.3,
-      c.self.invariant.4,
-    )
+    rw c.set_facts.ensures (record {
+      ordered = stays_in_order files f c.args.facts c.self.invariant.ordered;
+      graph = c.self.invariant.graph ∙ same_graph files new asks;
+      decls = c.self.invariant.decls ∙ same_decls files new tells;
+      packaged = still_packaged files new tells c.self.inside.base.packaged.items c.self.invariant.packaged;
+      longest = c.self.invariant.longest;
+    })

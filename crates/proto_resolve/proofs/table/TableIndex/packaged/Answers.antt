@@ -2,13 +2,13 @@ use Rattle.proto_resolve.proofs.Packaged.{those_with}
 use Rattle.proto_resolve.proofs.table.TableIndex.packaged.Goals as goal
 
 pub of_package-requires-clause-by_package : goal.of_package-requires-clause-by_package
-of_package-requires-clause-by_package c = rw c.as_slice.ensures.value c.self.invariant.3.ordered
+of_package-requires-clause-by_package c = rw c.as_slice.ensures.value c.self.invariant.packaged.ordered
 
 pub of_package-requires-clause-longest : goal.of_package-requires-clause-longest
-of_package-requires-clause-longest c = rw c.as_slice.ensures.value c.self.invariant.4
+of_package-requires-clause-longest c = rw c.as_slice.ensures.value c.self.invariant.longest
 
 pub returns : goal.returns
 returns c =
     rw (← c.self.view_is)
-    (those_with c.args.full_name.now c.self.inside.names c.self.inside.packaged.items c.of_package.result.now c.self.invariant.3
+    (those_with c.args.full_name.now c.self.inside.names c.self.inside.base.packaged.items c.of_package.result.now c.self.invariant.packaged
     (rw c.as_slice.ensures.value at c.of_package.ensures))

@@ -1,0 +1,25 @@
+-- What is wrong in a file by itself is in order already.
+use Rattle.std.proofs.Common.{◌≡◌, ◌∙◌, ℕ, List, [], ◌++◌, Option, Some, None, refl, ap, sym, append-nil}
+use Rattle.syntax_tree.specs.declared.node.FileTree.{FileTree}
+use Rattle.syntax_tree.specs.Read.{value_tree}
+use Rattle.file_facts.specs.declared.diagnostic.Diag.{Diag}
+use Rattle.file_facts.specs.declared.stated.StatedSyntax.{StatedSyntax}
+use Rattle.file_facts.specs.Facts.{diags_of, packages, imports, decls, opaque, stated, facts_at, facts_of}
+use Rattle.file_facts.specs.Order.{in_order}
+use Rattle.file_facts.proofs.DiagOrder.{in_order-is_list, only_list}
+use Rattle.proto_resolve.specs.declared.resolve.Links.{Links}
+use Rattle.work_index.specs.Workspace.{merged}
+
+once : (all : List Diag) → in_order (in_order all) ≡ in_order all
+once all = sym (only_list (in_order all) (in_order all) (record { ordered = (in_order-is_list all).ordered; listed = λ d h. h; no_other = λ d h. h }))
+
+at : (o : Option Diag) (syntaxes : List StatedSyntax) (text : List ℕ) (tree : FileTree) → in_order (let f = facts_at o syntaxes text tree in f.diags) ≡ (let f = facts_at o syntaxes text tree in f.diags)
+at None syntaxes text tree = once (diags_of text tree syntaxes (packages text tree.nodes) (imports text tree.nodes) (decls text tree.nodes))
+at (Some d) syntaxes text tree = refl
+
+-- with nothing wrong by what is seen, they are all
+pub own-merged : (text : List ℕ) (links : Links) → links.diags ≡ [] → (let f = facts_of text in f.diags) ≡ merged (facts_of text) links
+own-merged text links none =
+    let tree = value_tree text in
+    let own : List Diag = (let f = facts_of text in f.diags) in
+    sym (ap in_order (ap (λ l. own ++ l) none ∙ append-nil own) ∙ at (opaque text (stated text tree.nodes)) (stated text tree.nodes) text tree)
