@@ -1,10 +1,10 @@
 -- Declarations by hash: in the order of hashes made of their full names, or of a part of these, here a text, and where hashes are equal
 -- in the order of the texts.
-use Rattle.std.specs.Prelude.{◌≡◌, ℕ, ◌∷◌, List, Bool, map}
+use Rattle.std.specs.Prelude.{◌≡◌, ℕ, ◌∷◌, List, map}
 use Rattle.std.specs.List.Sorted.{IsSorted}
 use Rattle.std.specs.Cmp.Lexicographic.{slice_cmp}
 use Rattle.std.specs.Hash.FoldHasher.{initial, write, finish}
-use Rattle.std.specs.Ordering.{is_lt, nat_cmp}
+use Rattle.std.specs.Ordering.{nat_cmp}
 use Rattle.proto_resolve.specs.declared.hashed.HashedDecl.{HashedDecl}
 use Rattle.proto_resolve.specs.declared.target.DeclRef.{DeclRef}
 

@@ -12,7 +12,7 @@ use Rattle.proto_resolve.specs.declared.hashed.HashedDecls.{HashedDecls}
 use Rattle.proto_resolve.specs.declared.target.DeclRef.{DeclRef}
 use Rattle.proto_resolve.specs.Files.{all_decls, decl_at, dot}
 use Rattle.proto_resolve.specs.Holders.{has_dot}
-use Rattle.proto_resolve.specs.Hashed.{hashed, AreByHash}
+use Rattle.proto_resolve.specs.Hashed.{hashed}
 use Rattle.proto_resolve.specs.Names.{is_holder}
 
 -- the full name of a declaration

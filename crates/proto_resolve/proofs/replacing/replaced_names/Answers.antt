@@ -1,4 +1,4 @@
-use Rattle.std.proofs.Common.{◌≡◌, ◌∙◌, List, map, filter}
+use Rattle.std.proofs.Common.{◌≡◌, List, map, filter}
 use Rattle.std.proofs.lemmas.Result.{IfOk-weaker}
 use Rattle.proto_resolve.specs.declared.hashed.HashedDecl.{HashedDecl}
 use Rattle.proto_resolve.specs.declared.hashed.HashedDecls.{HashedDecls}
