@@ -1,5 +1,7 @@
 // A file that was found.
 
+use std::io;
+
 /// A file below a folder.
 #[derive(Debug, Drop)]
 pub struct FoundFile {
@@ -7,4 +9,18 @@ pub struct FoundFile {
     pub path: String,
     /// What it holds.
     pub text: String,
+}
+
+// A file that was met: its path below the folder, and how many bytes it is said to have.
+#[derive(Drop)]
+pub(crate) struct MetFile {
+    pub(crate) path: String,
+    pub(crate) length: u64,
+}
+
+// A file that was read: its path below the folder, and its text, or why it can't be had.
+#[derive(Drop)]
+pub(crate) struct ReadFile {
+    pub(crate) path: String,
+    pub(crate) text: io::Result<String>,
 }

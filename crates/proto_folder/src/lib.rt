@@ -3,9 +3,11 @@
 
 mod fault;
 mod found;
+mod reading;
 mod skipping;
 mod walk;
 
 pub use fault::FolderFault;
 pub use found::FoundFile;
+pub use reading::TextReader;
 pub use walk::read_folder;

@@ -1,13 +1,15 @@
 // The walk over a folder and the folders below it.
 
 use crate::fault::FolderFault;
-use crate::found::FoundFile;
+use crate::found::{FoundFile, MetFile};
+use crate::reading::{TextReader, path_in, read_all, texts_of};
 use crate::skipping::{skip, skip_named, skip_unread};
-use std::alloc::{AllocError, Global};
+use std::alloc::Global;
 use std::fs::{self, Metadata};
-use std::io::{self, BufRead, BufReader, ErrorKind, Read};
+use std::io::{self, BufRead, BufReader, ErrorKind};
 use std::rt::Files;
 use std::str;
+use std::thread::Threads;
 
 // How many folders may stand in one another below the root.
 const MAX_DEPTH: u32 = 64;
@@ -28,22 +30,9 @@ struct Folder {
 struct Walk<'d> {
     alloc: Global,
     dir: &'d str,
-    files: Vec<FoundFile>,
+    files: Vec<MetFile>,
     folders: Vec<Folder>,
     entries: u32,
-}
-
-// The path of a name in a folder. In the folder with the empty path it is the name alone.
-fn path_in(alloc: Global, folder: &str, name: &str) -> Result<String, AllocError> {
-    if folder.is_empty() {
-        return String::from_str(alloc, name);
-    }
-    let length = folder.len().saturating_add(name.len()).saturating_add(1);
-    let mut path = String::with_capacity(alloc, length)?;
-    path.push_str(folder)?;
-    path.push('/')?;
-    path.push_str(name)?;
-    Ok(path)
 }
 
 // Leaves a folder out that can't be listed; the root has to be.
@@ -52,20 +41,6 @@ fn skip_unlisted(rt: &impl Eprint, folder: &Folder, error: io::Error) -> Result<
         return Err(FolderFault::Unlisted { error });
     }
     skip_unread(rt, folder.path.as_str(), &error)
-}
-
-// The text of the file at a place in the file system, about `length` bytes long. An error also where it isn't UTF-8.
-fn read_text<R: Files + AllocGlobal>(rt: &R, place: &str, length: u64) -> io::Result<String> {
-    let capacity = usize::try_from(length)
-        .unwrap_or(usize::MAX)
-        .saturating_add(1);
-    let mut file = fs::open(rt, place)?;
-    let mut bytes = Vec::with_capacity(rt.alloc(), capacity)?;
-    file.read_to_end(&mut bytes)?;
-    match String::from_utf8(bytes) {
-        Ok(text) => Ok(text),
-        Err(_) => Err(io::Error::new(ErrorKind::InvalidData, "not UTF-8")),
-    }
 }
 
 // Keeps a folder that was met, to be listed later.
@@ -78,21 +53,10 @@ fn add_folder(walk: &mut Walk<'_>, holder: &Folder, path: String) -> Result<(), 
     Ok(())
 }
 
-// Reads the file at a place, and keeps it.
-fn add_file<R: Files + AllocGlobal + Eprint>(
-    rt: &R,
-    walk: &mut Walk<'_>,
-    place: &str,
-    path: String,
-    length: u64,
-) -> Result<(), FolderFault> {
-    match read_text(rt, place, length) {
-        Ok(text) => {
-            walk.files.push(FoundFile { path, text })?;
-            Ok(())
-        }
-        Err(error) => skip_unread(rt, path.as_str(), &error),
-    }
+// Keeps a file that was met, of so many bytes, to be read later.
+fn add_file(walk: &mut Walk<'_>, path: String, length: u64) -> Result<(), FolderFault> {
+    walk.files.push(MetFile { path, length })?;
+    Ok(())
 }
 
 // Looks at the entry of a folder that has this name. Symbolic links aren't followed. What ends in `.proto` and is
@@ -114,7 +78,7 @@ fn add_named<R: Files + AllocGlobal + Eprint>(
     } else if found.is_symlink() || !name.ends_with(".proto") {
         Ok(())
     } else if found.is_file() {
-        add_file(rt, walk, place.as_str(), path, found.len())
+        add_file(walk, path, found.len())
     } else {
         skip(rt, path.as_str(), "neither a file nor a folder");
         Ok(())
@@ -203,13 +167,14 @@ fn list<R: Files + AllocGlobal + Eprint>(
 ///
 /// Names that begin with `.` and symbolic links are skipped; the folder itself may be a link. An entry that can't be
 /// read, and one whose name or text isn't UTF-8, is skipped with the line `skipped` on standard error, and a line that
-/// says which entry it is, and why.
+/// says which entry it is, and why. So many threads read the files, at least one; if one can't be started, another does its work.
 ///
 /// # Errors
 /// [`FolderFault`] says each.
-pub fn read_folder<R: Files + AllocGlobal + Eprint>(
+pub fn read_folder<R: Files + AllocGlobal + Eprint + Threads + TextReader>(
     rt: &R,
     dir: &str,
+    threads: usize,
 ) -> Result<Vec<FoundFile>, FolderFault> {
     let alloc = rt.alloc();
     let mut walk = Walk {
@@ -224,7 +189,8 @@ pub fn read_folder<R: Files + AllocGlobal + Eprint>(
         depth: 0,
     })?;
     walk_folders(rt, &mut walk)?;
-    Ok(walk.files)
+    let files = read_all(rt, alloc, dir, walk.files, threads)?;
+    texts_of(rt, files)
 }
 
 // Lists each folder that is still to be listed, and those that are met there.

@@ -17,15 +17,12 @@ use Rattle.std.proofs.lemmas.List.Kept.{IsSortedBy-filter}
 use Rattle.std.proofs.lemmas.List.Sorted.{ranks_by}
 use Rattle.std.proofs.lemmas.Slice.Eq.{bytes_eq-Decides}
 use Rattle.file_facts.specs.Text.{joined}
-use Rattle.import_graph.specs.declared.paths.NamedFacts.{NamedFacts}
 use Rattle.proto_resolve.specs.declared.hashed.HashedDecl.{HashedDecl}
 use Rattle.proto_resolve.specs.declared.hashed.HashedDecls.{HashedDecls}
 use Rattle.proto_resolve.specs.declared.target.DeclRef.{DeclRef}
-use Rattle.proto_resolve.specs.Files.{all_decls, decl_at}
 use Rattle.proto_resolve.specs.Hashed.{hash_of, hashed, AreByHash}
-use Rattle.proto_resolve.specs.Holders.{has_dot, is_held}
-use Rattle.proto_resolve.specs.Names.{is_holder}
-use Rattle.proto_resolve.specs.Tables.{by_scope, holder_entries, last_of, name_at, scope_before, scope_of, stands_in, AreInOrder, IsByScope}
+use Rattle.proto_resolve.specs.Holders.{has_dot}
+use Rattle.proto_resolve.specs.Tables.{by_scope, last_of, scope_before, scope_of, stands_in, AreInOrder, IsByScope}
 use Rattle.proto_resolve.proofs.Hashes.{all_fit, decls_back, is_before, keeps_mapped, put_fitting, Fits}
 use Rattle.proto_resolve.proofs.LastParts.{parts_of_any}
 use Rattle.proto_resolve.proofs.Same.{fits_so, fitting, same_all, same_any, same_mapped}
@@ -134,7 +131,7 @@ module _ (name : DeclRef → List ℕ) where
 
   -- ---- which there are
 
-  both_parts : (s q : List ℕ) → has_dot q ≡ false → (n : List ℕ) → (bytes_eq (last_of n) q && bytes_eq (scope_before (length q) n) s) ≡ bytes_eq n (joined s q)
+  pub both_parts : (s q : List ℕ) → has_dot q ≡ false → (n : List ℕ) → (bytes_eq (last_of n) q && bytes_eq (scope_before (length q) n) s) ≡ bytes_eq n (joined s q)
   both_parts s q plain n = elim (cases_Bool (bytes_eq (last_of n) q)) [
     | inl holds ↦
         let is : last_of n ≡ q = (bytes_eq-Decides (last_of n) q).0 holds in
@@ -172,11 +169,3 @@ module _ (name : DeclRef → List ℕ) where
         all = λ s q plain. stands_alike holder decls (map (λ (k : HashedDecl). k.decl) gs) counts s q plain;
         ordered = λ q. of_one_last gs are.ordered fits q;
       })
-
--- of files
-pub files_by_last : (files : List NamedFacts) (found : HashedDecls) → AreInOrder (by_scope (name_at files)) (holder_entries files) found
-    → AreByLast (name_at files) (is_held files) found.hashes.items found.decls.items
-files_by_last files found are =
-    subst (λ (test : List ℕ → Bool). AreByLast (name_at files) test found.hashes.items found.decls.items)
-    (fun_ext (λ n. sym (any_kept (λ r. bytes_eq (name_at files r) n) (λ r. is_holder (let d = decl_at files r in d.kind)) (all_decls files))))
-    (holders_by_last (name_at files) (λ r. is_holder (let d = decl_at files r in d.kind)) (all_decls files) found are)

@@ -1,32 +1,31 @@
 -- Entries for the names of files, of some files and of others that follow.
-use Rattle.std.proofs.Common.{◌≡◌, ◌∙◌, sym, ap, ap₂, subst, refl, inl, inr, ◌<◌, ◌≤◌, ◌+◌, ℕ, List, [], ◌∷◌, ◌++◌, append-nil, Bool, true, false, not, map, filter, get_or, length, arith}
+use Rattle.std.proofs.Common.{◌≡◌, ◌∙◌, sym, ap, ap₂, refl, inl, inr, ◌<◌, ◌≤◌, ◌+◌, ◌-◌, ℕ, List, [], ◌∷◌, ◌++◌, Bool, true, false, not, map, filter, take, drop, get_or, set, length, arith}
 use Rattle.std.specs.Prelude.{All, nat_lt}
 use Rattle.std.specs.List.{enumerate_from, flat_map}
-use Rattle.std.specs.List.Sorted.{IsPermutation, IsSorted}
-use Rattle.std.specs.Ordering.{is_lt, nat_cmp}
+use Rattle.std.specs.List.Sorted.{IsSorted}
+use Rattle.std.specs.Ordering.{is_lt}
 use Rattle.std.specs.declared.cmp.Ordering.{Ordering}
 use Rattle.std.proofs.Math.Path.{fun_ext}
-use Rattle.std.proofs.lemmas.Bool.{cases_Bool, cases_lt}
+use Rattle.std.proofs.lemmas.Bool.{cases_Bool}
 use Rattle.std.proofs.lemmas.Bool.Decides.{nat_tests}
 use Rattle.std.proofs.lemmas.Grind.{flat_map-append}
-use Rattle.std.proofs.lemmas.List.{get_or-append-add, get_or-map, get_or_append_left, length-map, map-append}
+use Rattle.std.proofs.lemmas.List.{drop-set-lt, drop_more, get_or-append-add, get_or-drop, get_or_append_left, length-drop, length-map, map-append, take_more, take_more_set}
 use Rattle.std.proofs.lemmas.List.Elements.{All-append, All-cons, All-head, All-map, All-nil, All-tail, All-weaker, filter-append}
 use Rattle.std.proofs.lemmas.Simd.{map-map}
 use Rattle.file_facts.specs.declared.fact.Decl.{Decl}
 use Rattle.import_graph.specs.declared.paths.NamedFacts.{NamedFacts}
 use Rattle.proto_resolve.specs.declared.hashed.HashedDecl.{HashedDecl}
-use Rattle.proto_resolve.specs.declared.hashed.HashedDecls.{HashedDecls}
 use Rattle.proto_resolve.specs.declared.target.DeclRef.{DeclRef}
-use Rattle.proto_resolve.specs.Entries.{renumbered, with_renumbered, AreEntriesOf, AreRunsOf}
+use Rattle.proto_resolve.specs.Entries.{renumbered, with_renumbered, AreEntriesOf}
 use Rattle.proto_resolve.specs.Files.{all_decls, decl_at, facts_at, no_decl, no_facts}
 use Rattle.proto_resolve.specs.Hashed.{hash_of, hashed}
 use Rattle.proto_resolve.specs.Names.{is_holder}
-use Rattle.proto_resolve.specs.Tables.{by_name, by_scope, holder_entries, last_of, name_at, name_entries, AreInOrder, AreRearranged}
+use Rattle.proto_resolve.specs.Tables.{by_name, by_scope, holder_entries, last_of, name_at, name_entries, AreRearranged}
 use Rattle.proto_resolve.proofs.ByLast.{keeps_fits}
 use Rattle.proto_resolve.proofs.Hashes.{keeps_mapped}
 use Rattle.proto_resolve.proofs.Order.{numbered, refs, refs_from, IsFrom}
-use Rattle.proto_resolve.proofs.Same.{same_all, same_both, same_mapped, same_moved}
-use Rattle.proto_resolve.proofs.Search.{above, below, same}
+use Rattle.proto_resolve.proofs.Same.{same_all, same_both, same_mapped}
+use Rattle.proto_resolve.proofs.Search.{same}
 
 -- ---- all declarations
 
@@ -93,14 +92,6 @@ pub sorted_alike : (order order' : HashedDecl → HashedDecl → Ordering) (P : 
 sorted_alike order order' P alike es all sorted k d from lt =
     ap is_lt (sym (alike (get_or es (k + 1) d) (get_or es k d) (all (k + 1) d lt) (all k d (omega (arith, lt))))) ∙ sorted k d from lt
 
-sorted_moved : (order order' : HashedDecl → HashedDecl → Ordering) (n : ℕ) → ((a b : HashedDecl) → order' (with_renumbered n a) (with_renumbered n b) ≡ order a b)
-    → (es : List HashedDecl) → IsSorted order es → IsSorted order' (map (with_renumbered n) es)
-sorted_moved order order' n alike [] sorted k d from lt = absurd (omega (arith, lt))
-sorted_moved order order' n alike (e ∷ es) sorted k d from lt =
-    let long : k + 1 < length (e ∷ es) = rw (length-map (e ∷ es) (with_renumbered n)) at lt in
-    rw (get_or-map (with_renumbered n) (e ∷ es) k e d (omega (arith, long)), get_or-map (with_renumbered n) (e ∷ es) (k + 1) e d long)
-    (ap is_lt (alike (get_or (e ∷ es) (k + 1) e) (get_or (e ∷ es) k e)) ∙ sorted k e from long)
-
 all_front : (P : HashedDecl → Type 0) (xs ys : List HashedDecl) → All P (xs ++ ys) → All P xs
 all_front P [] ys all = All-nil P
 all_front P (x ∷ xs) ys all = All-cons P x xs (All-head P x (xs ++ ys) all) (all_front P xs ys (All-tail P x (xs ++ ys) all))
@@ -119,39 +110,10 @@ runs_moved : (n : ℕ) (runs : List (List HashedDecl)) → flat_map (λ run. run
 runs_moved n [] = refl
 runs_moved n (run ∷ runs) = ap (λ (es : List HashedDecl). map (with_renumbered n) run ++ es) (runs_moved n runs) ∙ sym (map-append (with_renumbered n) run (flat_map (λ run. run) runs))
 
-all_moved : (P Q : List HashedDecl → Type 0) (f : List HashedDecl → List HashedDecl) → ((run : List HashedDecl) → P run → Q (f run)) → (runs : List (List HashedDecl)) → All P runs → All Q (map f runs)
-all_moved P Q f step runs all = All-map Q f runs (All-weaker P (λ run. Q (f run)) step runs all)
-
 all_of_two : (P Q R : List HashedDecl → Type 0) → ((run : List HashedDecl) → P run → Q run → R run) → (runs : List (List HashedDecl)) → All P runs → All Q runs → All R runs
 all_of_two P Q R step runs ps qs k d lt = step (get_or runs k d) (ps k d lt) (qs k d lt)
 
--- runs of the ones and of the others, which stand behind so many files
-module _ (front back both : HashedDecl → HashedDecl → Ordering) (n : ℕ) (P : HashedDecl → Type 0)
-    (alike : (a b : HashedDecl) → P a → P b → front a b ≡ both a b)
-    (moved : (a b : HashedDecl) → both (with_renumbered n a) (with_renumbered n b) ≡ back a b) where
-  runs_both : (es fs : List HashedDecl) (rs ss : List (List HashedDecl)) → All P (flat_map (λ run. run) rs) → AreRunsOf front es rs → AreRunsOf back fs ss
-      → AreRunsOf both (es ++ map (with_renumbered n) fs) (rs ++ map (λ run. map (with_renumbered n) run) ss)
-  runs_both es fs rs ss within ones others = record {
-    same = λ p.
-        same_both es (map (with_renumbered n) fs) (flat_map (λ run. run) rs) (map (with_renumbered n) (flat_map (λ run. run) ss)) ones.same
-        (λ q. same_mapped (with_renumbered n) fs (flat_map (λ run. run) ss) others.same q) p
-        ∙ ap (λ es. length (filter p (flat_map (λ run. run) rs ++ es))) (sym (runs_moved n ss))
-        ∙ ap (λ es. length (filter p es)) (sym (flat_map-append (λ run. run) rs (map (λ run. map (with_renumbered n) run) ss)));
-    sorted = All-append (λ run. IsSorted both run) rs (map (λ run. map (with_renumbered n) run) ss)
-        (all_of_two (λ run. All P run) (λ run. IsSorted front run) (λ run. IsSorted both run) (λ run all sorted. sorted_alike front both P alike run all sorted) rs (in_runs P rs within) ones.sorted)
-        (all_moved (λ run. IsSorted back run) (λ run. IsSorted both run) (λ run. map (with_renumbered n) run) (λ run sorted. sorted_moved back both n moved run sorted) ss others.sorted);
-  }
-
 -- ---- the orders
-
-shifted : (n a b : ℕ) → nat_cmp (n + a) (n + b) ≡ nat_cmp a b
-shifted n a b = elim (cases_lt a b) [
-  | inl less ↦ below (n + a) (n + b) (omega (arith, less)) ∙ sym (below a b less)
-  | inr from ↦ elim (cases_lt b a) [
-    | inl more ↦ above (n + a) (n + b) (omega (arith, more)) ∙ sym (above a b more)
-    | inr up_to ↦ let e : a ≡ b = omega (arith, from, up_to) in rw e (same (n + b) ∙ sym (same b))
-  ]
-]
 
 module _ (name name' : DeclRef → List ℕ) where
   pub names_alike : (a b : HashedDecl) → name (decl_of a) ≡ name' (decl_of a) → name (decl_of b) ≡ name' (decl_of b) → by_name name a b ≡ by_name name' a b
@@ -159,13 +121,6 @@ module _ (name name' : DeclRef → List ℕ) where
 
   pub scopes_alike : (a b : HashedDecl) → name (decl_of a) ≡ name' (decl_of a) → name (decl_of b) ≡ name' (decl_of b) → by_scope name a b ≡ by_scope name' a b
   scopes_alike a b e f = rw (e, f) refl
-
-  module _ (n : ℕ) (moved : (r : DeclRef) → name' (renumbered n r) ≡ name r) where
-    names_moved : (a b : HashedDecl) → by_name name' (with_renumbered n a) (with_renumbered n b) ≡ by_name name a b
-    names_moved a b = rw (moved (decl_of a), moved (decl_of b), shifted n (let r = decl_of a in r.file) (let r = decl_of b in r.file)) refl
-
-    scopes_moved : (a b : HashedDecl) → by_scope name' (with_renumbered n a) (with_renumbered n b) ≡ by_scope name a b
-    scopes_moved a b = rw (moved (decl_of a), moved (decl_of b)) refl
 
 -- ---- the entries
 
@@ -242,20 +197,17 @@ abbrev pub IsWithin : List NamedFacts → HashedDecl → Type 0
 IsWithin files k = (let r = decl_of k in r.file) < length files
 
 -- each entry's file is one of the files
-entries_within : (files : List NamedFacts) (text : DeclRef → List ℕ) (p : DeclRef → Bool) (es : List HashedDecl) → AreRearranged (map (hashed text) (filter p (all_decls files))) es → All (IsWithin files) es
-entries_within files text p es same_are =
+entries_within : (files : List NamedFacts) (text : DeclRef → List ℕ) (p : DeclRef → Bool) → All (IsWithin files) (map (hashed text) (filter p (all_decls files)))
+entries_within files text p = All-map (IsWithin files) (hashed text) (filter p (all_decls files)) (keeps_fits (λ r. r.file < length files) p (all_decls files) (all_within files))
+
+pub names_within : (files : List NamedFacts) (runs : List (List HashedDecl)) → flat_map (λ run. run) runs ≡ name_entries files → All (IsWithin files) (flat_map (λ run. run) runs)
+names_within files runs are = rw are (All-map (IsWithin files) (hashed (name_at files)) (all_decls files) (all_within files))
+
+pub holders_within : (files : List NamedFacts) (runs : List (List HashedDecl)) → AreRearranged (holder_entries files) (flat_map (λ run. run) runs) → All (IsWithin files) (flat_map (λ run. run) runs)
+holders_within files runs are =
     same_all (IsWithin files) (λ k. not (nat_lt (let r = decl_of k in r.file) (length files)))
     (λ k e. lower_so (let r = decl_of k in r.file) (length files) e) (λ k lt. lower_is (let r = decl_of k in r.file) (length files) lt)
-    (map (hashed text) (filter p (all_decls files))) es same_are
-    (All-map (IsWithin files) (hashed text) (filter p (all_decls files)) (keeps_fits (λ r. r.file < length files) p (all_decls files) (all_within files)))
-
-pub names_within : (files : List NamedFacts) (runs : List (List HashedDecl)) → AreRunsOf (by_name (name_at files)) (name_entries files) runs → All (IsWithin files) (flat_map (λ run. run) runs)
-names_within files runs are =
-    entries_within files (name_at files) (λ r. true) (flat_map (λ run. run) runs)
-    (λ p. ap (λ ds. length (filter p (map (hashed (name_at files)) ds))) (keeps_any (all_decls files)) ∙ are.same p)
-
-pub holders_within : (files : List NamedFacts) (runs : List (List HashedDecl)) → AreRunsOf (by_scope (name_at files)) (holder_entries files) runs → All (IsWithin files) (flat_map (λ run. run) runs)
-holders_within files runs are = entries_within files (lasts files) (holds files) (flat_map (λ run. run) runs) are.same
+    (holder_entries files) (flat_map (λ run. run) runs) are (entries_within files (lasts files) (holds files))
 
 -- so a renumbered file's number is small
 pub small_runs : (files : List NamedFacts) (n : ℕ) (runs : List (List HashedDecl)) → All (IsWithin files) (flat_map (λ run. run) runs) → n + length files ≤ 18446744073709551615
@@ -265,32 +217,21 @@ small_runs files n runs within small =
     (λ run all other k d lt. let there = all k d lt in omega (arith, there, small)) runs (in_runs (IsWithin files) runs within) (in_runs (IsWithin files) runs within)
 
 pub no_entries : AreEntriesOf [] [] []
-no_entries = record {
-  names_are = record { same = λ p. refl; sorted = All-nil (λ run. IsSorted (by_name (name_at [])) run) };
-  holders_are = record { same = λ p. refl; sorted = All-nil (λ run. IsSorted (by_scope (name_at [])) run) };
-}
-
--- one run
-pub one_run : (order : HashedDecl → HashedDecl → Ordering) (entries run : List HashedDecl) → AreRearranged entries run → IsSorted order run → AreRunsOf order entries (run ∷ [])
-one_run order entries run same_are sorted = record {
-  same = λ p. same_are p ∙ ap (λ es. length (filter p es)) (sym (append-nil run));
-  sorted = All-cons (λ r. IsSorted order r) run [] sorted (All-nil (λ r. IsSorted order r));
-}
+no_entries = record { names_are = refl; holders_are = λ p. refl }
 
 -- those of some files, then of others
+both_runs : (n : ℕ) (rs ss : List (List HashedDecl)) → flat_map (λ run. run) (rs ++ map (λ run. map (with_renumbered n) run) ss) ≡ flat_map (λ run. run) rs ++ map (with_renumbered n) (flat_map (λ run. run) ss)
+both_runs n rs ss = flat_map-append (λ run. run) rs (map (λ run. map (with_renumbered n) run) ss) ∙ ap (λ (es : List HashedDecl). flat_map (λ run. run) rs ++ es) (runs_moved n ss)
+
 pub joined_entries : (xs ys : List NamedFacts) (ns hs ms gs : List (List HashedDecl)) → AreEntriesOf xs ns hs → AreEntriesOf ys ms gs
     → AreEntriesOf (xs ++ ys) (ns ++ map (λ run. map (with_renumbered (length xs)) run) ms) (hs ++ map (λ run. map (with_renumbered (length xs)) run) gs)
 joined_entries xs ys ns hs ms gs front back = record {
-  names_are = subst (λ es. AreRunsOf (by_name (name_at (xs ++ ys))) es (ns ++ map (λ run. map (with_renumbered (length xs)) run) ms)) (names_both xs ys)
-      (runs_both (by_name (name_at xs)) (by_name (name_at ys)) (by_name (name_at (xs ++ ys))) (length xs) (IsWithin xs)
-      (λ a b in_a in_b. names_alike (name_at xs) (name_at (xs ++ ys)) a b (name_front xs ys (decl_of a) in_a) (name_front xs ys (decl_of b) in_b))
-      (names_moved (name_at ys) (name_at (xs ++ ys)) (length xs) (name_behind xs ys))
-      (name_entries xs) (name_entries ys) ns ms (names_within xs ns front.names_are) front.names_are back.names_are);
-  holders_are = subst (λ es. AreRunsOf (by_scope (name_at (xs ++ ys))) es (hs ++ map (λ run. map (with_renumbered (length xs)) run) gs)) (holders_both xs ys)
-      (runs_both (by_scope (name_at xs)) (by_scope (name_at ys)) (by_scope (name_at (xs ++ ys))) (length xs) (IsWithin xs)
-      (λ a b in_a in_b. scopes_alike (name_at xs) (name_at (xs ++ ys)) a b (name_front xs ys (decl_of a) in_a) (name_front xs ys (decl_of b) in_b))
-      (scopes_moved (name_at ys) (name_at (xs ++ ys)) (length xs) (name_behind xs ys))
-      (holder_entries xs) (holder_entries ys) hs gs (holders_within xs hs front.holders_are) front.holders_are back.holders_are);
+  names_are = both_runs (length xs) ns ms ∙ ap₂ (λ (a b : List HashedDecl). a ++ map (with_renumbered (length xs)) b) front.names_are back.names_are ∙ names_both xs ys;
+  holders_are = λ p.
+      ap (λ (es : List HashedDecl). length (filter p es)) (sym (holders_both xs ys))
+      ∙ same_both (holder_entries xs) (map (with_renumbered (length xs)) (holder_entries ys)) (flat_map (λ run. run) hs) (map (with_renumbered (length xs)) (flat_map (λ run. run) gs)) front.holders_are
+      (λ q. same_mapped (with_renumbered (length xs)) (holder_entries ys) (flat_map (λ run. run) gs) back.holders_are q) p
+      ∙ ap (λ (es : List HashedDecl). length (filter p es)) (sym (both_runs (length xs) hs gs));
 }
 
 -- the same where the lists are known by what they are
@@ -298,17 +239,11 @@ pub followed : (xs ys files : List NamedFacts) (ns hs ms gs names holders : List
     → names ≡ ns ++ map (λ run. map (with_renumbered n) run) ms → holders ≡ hs ++ map (λ run. map (with_renumbered n) run) gs → AreEntriesOf xs ns hs → AreEntriesOf ys ms gs → AreEntriesOf files names holders
 followed xs ys files ns hs ms gs names holders n files_are long names_are holders_are front back = rw (files_are, names_are, holders_are, long) (joined_entries xs ys ns hs ms gs front back)
 
--- ---- merged
+-- ---- what holds of runs
 
-flat_items : {R : Type 0} (items : R → List HashedDecl) (runs : List R) → flat_map items runs ≡ flat_map (λ run. run) (map items runs)
+pub flat_items : {R : Type 0} (items : R → List HashedDecl) (runs : List R) → flat_map items runs ≡ flat_map (λ run. run) (map items runs)
 flat_items items [] = refl
 flat_items items (run ∷ runs) = ap (λ (es : List HashedDecl). items run ++ es) (flat_items items runs)
-
-pub each_sorted : {R : Type 0} (items : R → List HashedDecl) (order : HashedDecl → HashedDecl → Ordering) (runs : List R) → All (λ run. IsSorted order run) (map items runs) → All (λ run. IsSorted order (items run)) runs
-each_sorted items order [] all = All-nil (λ run. IsSorted order (items run))
-each_sorted items order (run ∷ runs) all =
-    All-cons (λ r. IsSorted order (items r)) run runs (All-head (λ r. IsSorted order r) (items run) (map items runs) all)
-    (each_sorted items order runs (All-tail (λ r. IsSorted order r) (items run) (map items runs) all))
 
 pub each_small : {R : Type 0} (items : R → List HashedDecl) (P : HashedDecl → Type 0) (runs : List R) → All (λ run. All P run) (map items runs) → All (λ run. All P (items run)) runs
 each_small items P [] all = All-nil (λ run. All P (items run))
@@ -316,14 +251,30 @@ each_small items P (run ∷ runs) all =
     All-cons (λ r. All P (items r)) run runs (All-head (λ r. All P r) (items run) (map items runs) all)
     (each_small items P runs (All-tail (λ r. All P r) (items run) (map items runs) all))
 
--- runs that are merged, and then stand as two lists
-pub merged_runs : {R : Type 0} (items : R → List HashedDecl) (order : HashedDecl → HashedDecl → Ordering) (entries : List HashedDecl) (runs : List R) (es : List HashedDecl) (found : HashedDecls)
-    → AreRunsOf order entries (map items runs) → IsPermutation (flat_map items runs) es → IsSorted order es
-    → found.hashes.items ≡ map (λ k. k.hash) es → found.decls.items ≡ map (λ k. k.decl) es → AreInOrder order entries found
-merged_runs items order entries runs es found are moved ordered hashes decls = record {
-  sorted = es;
-  same = λ p. are.same p ∙ ap (λ l. length (filter p l)) (sym (flat_items items runs)) ∙ same_moved (flat_map items runs) es moved p;
-  ordered = ordered;
-  hashes_are = hashes;
-  decls_are = decls;
-}
+-- ---- renumbered in place
+
+pub either_way : (n : ℕ) (k : HashedDecl) → record { hash = k.hash; decl = record { file = (let r = k.decl in r.file) + n; number = (let r = k.decl in r.number) } } ≡ with_renumbered n k
+either_way n k =
+    let turned : (let r = k.decl in r.file) + n ≡ n + (let r = k.decl in r.file) = omega arith in
+    ap (λ (f : ℕ). record { hash = k.hash; decl = record { file = f; number = (let r = k.decl in r.number) } }) turned
+
+module _ (n : ℕ) (old new : List HashedDecl) (i : ℕ) (done : take i new ≡ map (with_renumbered n) (take i old)) (left : drop i new ≡ drop i old) (d : HashedDecl) (lt : i < length new) where
+  same_left : length old - i ≡ length new - i
+  same_left = sym (length-drop i old) ∙ sym (ap length left) ∙ length-drop i new
+
+  pub as_long : i < length old
+  as_long = omega (arith, lt, same_left)
+
+  pub as_before : get_or new i d ≡ get_or old i d
+  as_before =
+      let start : i ≡ i + 0 = omega arith in
+      ap (λ k. get_or new k d) start ∙ sym (get_or-drop i new 0 d) ∙ ap (λ (es : List HashedDecl). get_or es 0 d) left ∙ get_or-drop i old 0 d ∙ ap (λ k. get_or old k d) (sym start)
+
+  pub one_more_done : (e : HashedDecl) → e ≡ with_renumbered n (get_or new i d)
+      → (take (i + 1) (set new i e) ≡ map (with_renumbered n) (take (i + 1) old)) × (drop (i + 1) (set new i e) ≡ drop (i + 1) old)
+  one_more_done e is = (
+    take_more_set new i e lt ∙ ap₂ (λ (es : List HashedDecl) (x : HashedDecl). es ++ x ∷ []) done (is ∙ ap (with_renumbered n) as_before)
+        ∙ sym (map-append (with_renumbered n) (take i old) (get_or old i d ∷ []))
+        ∙ ap (map (with_renumbered n)) (sym (take_more old i d as_long)),
+    drop-set-lt (i + 1) new i e (omega arith) ∙ sym (ap (drop 1) (drop_more new i d lt)) ∙ ap (drop 1) left ∙ ap (drop 1) (drop_more old i d as_long),
+  )

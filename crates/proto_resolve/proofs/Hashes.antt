@@ -45,10 +45,6 @@ module _ {S : Type 0} (p : S → Bool) where
     | inr fails ↦ rw fails (keeps_none_any xs (rw fails at none))
   ]
 
-  pub keeps_alike : (q : S → Bool) (xs : List S) → All (λ x. p x ≡ q x) xs → filter p xs ≡ filter q xs
-  keeps_alike q [] all = refl
-  keeps_alike q (x ∷ xs) all = rw (All-head (λ x. p x ≡ q x) x xs all, keeps_alike q xs (All-tail (λ x. p x ≡ q x) x xs all)) refl
-
   -- what passes a test is kept by a weaker one
   narrower : (q : S → Bool) → ((x : S) → q x ≡ true → p x ≡ true) → (xs : List S) → filter q (filter p xs) ≡ filter q xs
   narrower q weaker [] = refl
@@ -158,23 +154,9 @@ other_number hash s e = grind (arith, nat_tests)
 between : (a b hash : ℕ) → a ≤ b → nat_lt a hash ≡ false → (b == hash) ≡ true → (a == hash) ≡ true
 between a b hash le from e = grind (arith, nat_tests)
 
-is_lower : (a b : ℕ) → a < b → nat_lt a b ≡ true
-is_lower a b lt = grind (arith, nat_tests)
-
-is_not_lower : (a b : ℕ) → b ≤ a → nat_lt a b ≡ false
-is_not_lower a b le = grind (arith, nat_tests)
-
 module _ (hashes : List ℕ) (hash : ℕ) (up : IsNonDecreasing hashes) where
   pub lower_first : IsPartitionedBy (λ k. nat_lt k hash) hashes
   lower_first i j d le lt e = less_too (get_or hashes i d) (get_or hashes j d) hash (up i j d le lt) e
-
-  -- a place with a lower one right before it and none at it
-  pub place_is : (place : ℕ) → place ≤ length hashes → (0 < place → get_or hashes (place - 1) 0 < hash) → (place < length hashes → hash ≤ get_or hashes place 0)
-      → IsPartitionPoint (λ k. nat_lt k hash ≡ true) (λ k. nat_lt k hash ≡ false) hashes place
-  place_is place within before at =
-      point_at (λ k. nat_lt k hash) hashes lower_first place
-      (λ some d. rw (get_or_default hashes (place - 1) d 0 (omega (arith, some, within))) (is_lower (get_or hashes (place - 1) 0) hash (before some)))
-      (λ lt d. rw (get_or_default hashes place d 0 lt) (is_not_lower (get_or hashes place 0) hash (at lt))) within
 
   pub hash_first : (start : ℕ) → IsPartitionPoint (λ k. nat_lt k hash ≡ true) (λ k. nat_lt k hash ≡ false) hashes start → IsPartitionedBy (λ k. k == hash) (drop start hashes)
   hash_first start point = first_alike (λ k. nat_lt k hash) (λ k. k == hash) hashes start point (other_number hash) (λ i j d le lt from e. between (get_or hashes i d) (get_or hashes j d) hash (up i j d le lt) from e)

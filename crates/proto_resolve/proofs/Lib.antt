@@ -18,8 +18,11 @@ pub mod Fronts
 pub mod ByLast
 pub mod Hashes
 pub mod Same
+pub mod Dealing
+pub mod InBuckets
 pub mod Places
 pub mod Merges
+pub mod Leaving
 pub mod Entries
 pub mod PackageFronts
 pub mod Packaged
@@ -31,3 +34,4 @@ pub mod SeenAlone
 pub mod Outlines
 pub mod Replaced
 pub mod DiagnosticsSaid
+pub mod BaseChanges

@@ -1,13 +1,11 @@
 -- Lists in an order, merged.
-use Rattle.std.proofs.Common.{◌≡◌, ◌∙◌, sym, ap, subst, refl, inl, inr, ◌<◌, ◌+◌, ℕ, zero, suc, List, [], ◌∷◌, ◌++◌, Bool, true, false, not, take, drop, reverse, get_or, length, arith}
+use Rattle.std.proofs.Common.{◌≡◌, ◌∙◌, sym, ap, subst, refl, inl, inr, ◌<◌, ◌+◌, ℕ, zero, suc, List, [], ◌∷◌, ◌++◌, Bool, true, false, not, take, drop, get_or, length, arith}
 use native.Mathlib.Numerals.{unary_clauses}
 use Rattle.std.specs.Prelude.{⊤, All}
 use Rattle.std.specs.Cmp.{IsStrictWeakOrder}
-use Rattle.std.specs.List.{flat_map}
 use Rattle.std.specs.List.Sorted.{IsPartitionedBy, IsPartitionPoint, IsPermutation, IsSortedBy}
 use Rattle.std.proofs.lemmas.Bool.{cases_Bool}
-use Rattle.std.proofs.lemmas.List.{append_assoc, append-nil, get_or_default, get_or_append_left, get_or-append-add, get_or-take, get_or-drop, length-append, length-take, length-drop, reverse-append, take-append-drop}
-use Rattle.std.proofs.lemmas.List.Concat.{flat_map-append}
+use Rattle.std.proofs.lemmas.List.{append_assoc, get_or_default, get_or_append_left, get_or-append-add, get_or-take, get_or-drop, length-append, length-take, length-drop, take-append-drop}
 use Rattle.std.proofs.lemmas.List.Elements.{All-append, All-cons, All-head, All-nil, All-tail, All-weaker}
 use Rattle.std.proofs.lemmas.List.Sorted.{sorted_far, IsPermutation-append_comm, IsPermutation-append_left, IsPermutation-append_right, IsPermutation-trans}
 
@@ -188,26 +186,3 @@ same_with_one a taken found rest one place same =
     (IsPermutation-trans ((a ++ taken) ++ one ∷ []) (((found ++ take place rest) ++ drop place rest) ++ one ∷ []) (((found ++ take place rest) ++ one ∷ []) ++ drop place rest)
     (IsPermutation-append_left (one ∷ []) (a ++ taken) ((found ++ take place rest) ++ drop place rest) parts)
     (moved_over (found ++ take place rest) (drop place rest) (one ∷ [])))
-
--- ---- lists that are merged in pairs, from the last one on
-
-module _ {V X : Type 0} (items : V → List X) where
-  joined_last : (left found : List V) (first second : V)
-      → flat_map items (((left ++ first ∷ []) ++ second ∷ []) ++ reverse found) ≡ flat_map items left ++ ((items first ++ items second) ++ flat_map items (reverse found))
-  joined_last left found first second = simp (append_assoc, flat_map-append, append-nil)
-
-  joined_merged : (left found : List V) (m : V) → flat_map items (left ++ reverse (found ++ m ∷ [])) ≡ flat_map items left ++ (items m ++ flat_map items (reverse found))
-  joined_merged left found m = ap (λ (vs : List V). flat_map items (left ++ vs)) (reverse-append found (m ∷ [])) ∙ flat_map-append items left (m ∷ reverse found)
-
-  pub same_with_pair : (all left found : List V) (first second m : V) → IsPermutation (flat_map items all) (flat_map items (((left ++ first ∷ []) ++ second ∷ []) ++ reverse found))
-      → IsPermutation (items first ++ items second) (items m) → IsPermutation (flat_map items all) (flat_map items (left ++ reverse (found ++ m ∷ [])))
-  same_with_pair all left found first second m same one =
-      subst (IsPermutation (flat_map items all)) (sym (joined_merged left found m))
-      (IsPermutation-trans (flat_map items all) (flat_map items left ++ ((items first ++ items second) ++ flat_map items (reverse found))) (flat_map items left ++ (items m ++ flat_map items (reverse found)))
-      (subst (IsPermutation (flat_map items all)) (joined_last left found first second) same)
-      (IsPermutation-append_right (flat_map items left) ((items first ++ items second) ++ flat_map items (reverse found)) (items m ++ flat_map items (reverse found))
-      (IsPermutation-append_left (flat_map items (reverse found)) (items first ++ items second) (items m) one)))
-
--- one list that goes over alone
-pub moved_last : {V : Type 0} (left found : List V) (second : V) → (left ++ second ∷ []) ++ reverse found ≡ left ++ reverse (found ++ second ∷ [])
-moved_last left found second = append_assoc left (second ∷ []) (reverse found) ∙ ap (λ vs. left ++ vs) (sym (reverse-append found (second ∷ [])))

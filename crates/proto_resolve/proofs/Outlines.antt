@@ -18,14 +18,15 @@ use Rattle.import_graph.specs.declared.paths.NamedFacts.{NamedFacts}
 use Rattle.import_graph.specs.Imports.{graph_of, imports_of, edge_of}
 use Rattle.import_graph.specs.Paths.{IsInPathOrder, slash}
 use Rattle.proto_resolve.specs.declared.target.DeclRef.{DeclRef}
+use Rattle.proto_resolve.specs.Buckets.{AreByName, AreInBuckets}
 use Rattle.proto_resolve.specs.Files.{all_decls, all_named, decl_at, dot, facts_at, no_decl, no_facts}
 use Rattle.proto_resolve.specs.Hashed.{hashed}
 use Rattle.proto_resolve.specs.Names.{is_holder}
 use Rattle.proto_resolve.specs.Outlines.{declared, imported, import_outline, with_facts}
 use Rattle.proto_resolve.specs.Packages.{packaged, ArePackaged}
 use Rattle.proto_resolve.specs.Seen.{exports}
-use Rattle.proto_resolve.specs.Tables.{all_holders, by_name, by_scope, last_of, name_at, AreByName, AreInOrder}
-use Rattle.proto_resolve.specs.declared.hashed.HashedDecls.{HashedDecls}
+use Rattle.proto_resolve.specs.Tables.{all_holders, by_name, by_scope, last_of, name_at}
+use Rattle.proto_resolve.specs.declared.buckets.Buckets.{Buckets}
 use Rattle.proto_resolve.specs.declared.packages.PackagedFile.{PackagedFile}
 use Rattle.proto_resolve.proofs.Order.{numbered, refs}
 
@@ -130,17 +131,17 @@ same_holders old new same =
     ap₂ (λ (test : DeclRef → Bool) (all : List DeclRef). filter test all) (fun_ext (λ r. ap is_holder (same_kind old new same r))) (same_decls old new same)
 
 -- the tables of names stay
-pub still_by_name : (old new : List NamedFacts) → map telling old ≡ map telling new → (names holders : HashedDecls) → AreByName old names holders → AreByName new names holders
+pub still_by_name : (old new : List NamedFacts) → map telling old ≡ map telling new → (names holders : Buckets) → AreByName old names holders → AreByName new names holders
 still_by_name old new same names holders are = record {
-  names_are = subst (λ (name : DeclRef → List ℕ). AreInOrder (by_name name) (map (hashed name) (all_decls new)) names) (fun_ext (same_name old new same))
-      (subst (λ ds. AreInOrder (by_name (name_at old)) (map (hashed (name_at old)) ds) names) (same_decls old new same) are.names_are);
-  holders_are = subst (λ (name : DeclRef → List ℕ). AreInOrder (by_scope name) (map (hashed (λ r. last_of (name r))) (all_holders new)) holders) (fun_ext (same_name old new same))
-      (subst (λ ds. AreInOrder (by_scope (name_at old)) (map (hashed (λ r. last_of (name_at old r))) ds) holders) (same_holders old new same) are.holders_are);
+  names_are = subst (λ (name : DeclRef → List ℕ). AreInBuckets (by_name name) (map (hashed name) (all_decls new)) names.list.items) (fun_ext (same_name old new same))
+      (subst (λ ds. AreInBuckets (by_name (name_at old)) (map (hashed (name_at old)) ds) names.list.items) (same_decls old new same) are.names_are);
+  holders_are = subst (λ (name : DeclRef → List ℕ). AreInBuckets (by_scope name) (map (hashed (λ r. last_of (name r))) (all_holders new)) holders.list.items) (fun_ext (same_name old new same))
+      (subst (λ ds. AreInBuckets (by_scope (name_at old)) (map (hashed (λ r. last_of (name_at old r))) ds) holders.list.items) (same_holders old new same) are.holders_are);
 }
 
 -- ---- the packages
 
-package_alike : (n : ℕ) (a b : Option PackageFact) → option_map (λ p. p.full_name) a ≡ option_map (λ p. p.full_name) b → packaged n a ≡ packaged n b
+pub package_alike : (n : ℕ) (a b : Option PackageFact) → option_map (λ p. p.full_name) a ≡ option_map (λ p. p.full_name) b → packaged n a ≡ packaged n b
 package_alike n None None same = refl
 package_alike n None (Some q) same = absurd (cc (same))
 package_alike n (Some p) None same = absurd (cc (same))

@@ -1,32 +1,34 @@
 -- The entries of files after other facts were put in the place of one's.
-use Rattle.std.proofs.Common.{◌≡◌, ◌≢◌, ◌∙◌, sym, ap, ap₂, subst, refl, ◌==◌, ◌&&◌, ◌<◌, ◌≤◌, ◌+◌, ℕ, zero, suc, List, [], ◌∷◌, ◌++◌, append-nil, Bool, true, false, not, map, filter, take, get_or, set, length, arith}
+use Rattle.std.proofs.Common.{◌≡◌, ◌≢◌, ◌∙◌, sym, ap, ap₂, subst, refl, ◌==◌, ◌&&◌, ◌<◌, ◌≤◌, ◌+◌, ℕ, zero, suc, List, [], ◌∷◌, ◌++◌, append-nil, Bool, true, false, not, map, filter, get_or, set, length, arith}
 use Rattle.std.specs.Prelude.{All}
 use Rattle.std.specs.List.{enumerate_from, flat_map}
-use Rattle.std.specs.List.Sorted.{IsPermutation, IsSorted}
-use Rattle.std.specs.Ordering.{is_lt}
+use Rattle.std.specs.Cmp.{IsTotalOrder}
+use Rattle.std.specs.declared.cmp.Ordering.{Ordering}
 use Rattle.std.proofs.Math.Path.{fun_ext}
 use Rattle.std.proofs.lemmas.Bool.Decides.{nat_tests}
-use Rattle.std.proofs.lemmas.List.{get_or-map, length-map, length-set, map-append}
-use Rattle.std.proofs.lemmas.List.Elements.{All-weaker, filter-append, filter_more, filter_passes}
-use Rattle.std.proofs.lemmas.List.Kept.{IsSortedBy-filter}
-use Rattle.std.proofs.lemmas.List.Sorted.{ranks_by, IsPermutation-filter_both}
+use Rattle.std.proofs.lemmas.List.{get_or-map, length-set, map-append}
+use Rattle.std.proofs.lemmas.List.Elements.{All-weaker, filter-append, filter_passes}
+use Rattle.std.proofs.lemmas.List.Sorted.{IsPermutation-filter_both}
 use Rattle.file_facts.specs.declared.fact.Decl.{Decl}
 use Rattle.file_facts.specs.declared.fact.FileFacts.{FileFacts}
 use Rattle.import_graph.specs.declared.paths.NamedFacts.{NamedFacts}
 use Rattle.proto_resolve.specs.declared.hashed.HashedDecl.{HashedDecl}
 use Rattle.proto_resolve.specs.declared.hashed.HashedDecls.{HashedDecls}
 use Rattle.proto_resolve.specs.declared.target.DeclRef.{DeclRef}
+use Rattle.proto_resolve.specs.Buckets.{is_in, AreInBuckets}
 use Rattle.proto_resolve.specs.Files.{all_decls, decl_at, decls_at, no_decl, no_facts, refs_of}
 use Rattle.proto_resolve.specs.Hashed.{hashed}
 use Rattle.proto_resolve.specs.Names.{is_holder}
 use Rattle.proto_resolve.specs.Outlines.{with_facts}
+use Rattle.proto_resolve.specs.Replaced.{WereInBuckets}
 use Rattle.proto_resolve.specs.Tables.{by_name, by_scope, holder_entries, is_of_another, last_of, name_at, name_entries, AreInOrder, AreRearranged}
-use Rattle.proto_resolve.proofs.ByLast.{scopes_total}
+use Rattle.proto_resolve.proofs.ByLast.{keeps_fits, scopes_total}
 use Rattle.proto_resolve.proofs.Entries.{holders_alike, keeps_any, names_alike, scopes_alike, sorted_alike}
 use Rattle.proto_resolve.proofs.Hashes.{keeps_all, keeps_mapped, keeps_none}
+use Rattle.proto_resolve.proofs.InBuckets.{buckets_moved}
 use Rattle.proto_resolve.proofs.Order.{files_from, refs, refs_from, IsFrom}
 use Rattle.proto_resolve.proofs.Places.{names_total}
-use Rattle.proto_resolve.proofs.Same.{kept_twice, same_both, same_kept, same_mapped, same_moved}
+use Rattle.proto_resolve.proofs.Same.{kept_twice, same_all, same_both, same_kept, same_mapped, same_moved}
 
 abbrev another : ℕ → DeclRef → Bool
 another f r = not (r.file == f)
@@ -119,30 +121,6 @@ either_way false false = refl
 abbrev decl_of : HashedDecl → DeclRef
 decl_of k = k.decl
 
--- ---- one entry more
-
-module _ (f : ℕ) (sorted : List HashedDecl) (hashes : List ℕ) (decls : List DeclRef) (hashes_are : hashes ≡ map (λ k. k.hash) sorted) (decls_are : decls ≡ map (λ k. k.decl) sorted)
-    (others : List HashedDecl) (i : ℕ) (lt : i < length decls) (so_far : others ≡ filter (λ k. is_of_another f k.decl) (take i sorted)) where
-  long : i < length sorted
-  long = rw (decls_are, length-map sorted (λ (k : HashedDecl). k.decl)) at lt
-
-  entry : (h : ℕ) (r : DeclRef) → h ≡ get_or hashes i 0 → r ≡ get_or decls i (record { file = 0; number = 0 }) → (d : HashedDecl) → record { hash = h; decl = r } ≡ get_or sorted i d
-  entry h r at_hash at_decl d =
-      ap₂ (λ (k : ℕ) (s : DeclRef). record { hash = k; decl = s })
-      (at_hash ∙ ap (λ ks. get_or ks i 0) hashes_are ∙ get_or-map (λ (k : HashedDecl). k.hash) sorted i d 0 long)
-      (at_decl ∙ ap (λ rs. get_or rs i (record { file = 0; number = 0 })) decls_are ∙ get_or-map (λ (k : HashedDecl). k.decl) sorted i d (record { file = 0; number = 0 }) long)
-
-  pub one_more : (h : ℕ) (r : DeclRef) → h ≡ get_or hashes i 0 → r ≡ get_or decls i (record { file = 0; number = 0 }) → r.file ≢ f → others ++ record { hash = h; decl = r } ∷ [] ≡ filter (λ k. is_of_another f k.decl) (take (i + 1) sorted)
-  one_more h r at_hash at_decl other =
-      let is : record { hash = h; decl = r } ≡ get_or sorted i (record { hash = h; decl = r }) = entry h r at_hash at_decl (record { hash = h; decl = r }) in
-      ap (λ es. es ++ record { hash = h; decl = r } ∷ []) so_far
-      ∙ sym (filter_more (λ k. is_of_another f k.decl) sorted i (record { hash = h; decl = r }) long ∙ rw (← is, is_elsewhere r.file f other) refl)
-
-  pub none_more : (h : ℕ) (r : DeclRef) → h ≡ get_or hashes i 0 → r ≡ get_or decls i (record { file = 0; number = 0 }) → r.file ≡ f → others ≡ filter (λ k. is_of_another f k.decl) (take (i + 1) sorted)
-  none_more h r at_hash at_decl there =
-      let is : record { hash = h; decl = r } ≡ get_or sorted i (record { hash = h; decl = r }) = entry h r at_hash at_decl (record { hash = h; decl = r }) in
-      so_far ∙ sym (filter_more (λ k. is_of_another f k.decl) sorted i (record { hash = h; decl = r }) long ∙ rw (← is, is_there r.file f there) (append-nil (filter (λ k. is_of_another f k.decl) (take i sorted))))
-
 module _ (old : List NamedFacts) (f : ℕ) (facts : FileFacts) (there : f < length old) where
   decl_elsewhere : (r : DeclRef) → r.file ≢ f → decl_at old r ≡ decl_at (with_facts old f facts) r
   decl_elsewhere r other = ap (λ (fs : FileFacts). get_or fs.decls r.number no_decl) (sym (facts_elsewhere old f r.file (record { path = get_or (map (λ (file : NamedFacts). file.path) old) f []; facts = facts }) other))
@@ -214,46 +192,115 @@ module _ (old : List NamedFacts) (f : ℕ) (facts : FileFacts) (there : f < leng
       entries_same (λ r. last_of (name_at old r)) (λ r. last_of (name_at (with_facts old f facts) r)) (λ r. is_holder (let d = decl_at old r in d.kind)) (λ r. is_holder (let d = decl_at (with_facts old f facts) r in d.kind))
       (λ r other. (ap last_of (name_elsewhere r other), ap (λ d. is_holder d.kind) (decl_elsewhere r other))) sorted own same_others same_own
 
-  not_of : (sorted : List HashedDecl) → All (λ k. (let r = decl_of k in r.file) ≢ f) (filter (λ k. is_of_another f k.decl) sorted)
-  not_of sorted = All-weaker (λ (k : HashedDecl). is_of_another f k.decl ≡ true) (λ k. (let r = decl_of k in r.file) ≢ f) (λ k e. not_there (let r = decl_of k in r.file) f e)
-      (filter (λ k. is_of_another f k.decl) sorted) (filter_passes (λ (k : HashedDecl). is_of_another f k.decl) sorted)
+  pub names_back : AreRearranged (name_entries (with_facts old f facts)) (filter (λ k. is_of_another f k.decl) (name_entries old) ++ map (hashed (name_at (with_facts old f facts))) (refs_of f (decls_at (with_facts old f facts) f)))
+  names_back = names_are (name_entries old) (map (hashed (name_at (with_facts old f facts))) (refs_of f (decls_at (with_facts old f facts) f))) (λ p. refl) (λ p. refl)
 
-  -- the others stay in their order
-  pub names_stay : (sorted : List HashedDecl) → IsSorted (by_name (name_at old)) sorted → IsSorted (by_name (name_at (with_facts old f facts))) (filter (λ k. is_of_another f k.decl) sorted)
-  names_stay sorted ordered =
-      sorted_alike (by_name (name_at old)) (by_name (name_at (with_facts old f facts))) (λ k. (let r = decl_of k in r.file) ≢ f)
-      (λ a b in_a in_b. names_alike (name_at old) (name_at (with_facts old f facts)) a b (name_elsewhere (decl_of a) in_a) (name_elsewhere (decl_of b) in_b))
-      (filter (λ k. is_of_another f k.decl) sorted) (not_of sorted)
-      (IsSortedBy-filter (λ a b. is_lt (by_name (name_at old) a b)) (ranks_by (names_total (name_at old)) (λ k. k)) (λ k. is_of_another f k.decl) sorted ordered)
+  pub holders_back : AreRearranged (holder_entries (with_facts old f facts))
+      (filter (λ k. is_of_another f k.decl) (holder_entries old)
+      ++ map (hashed (λ r. last_of (name_at (with_facts old f facts) r))) (filter (λ r. is_holder (let d = decl_at (with_facts old f facts) r in d.kind)) (refs_of f (decls_at (with_facts old f facts) f))))
+  holders_back =
+      holders_are (holder_entries old) (map (hashed (λ r. last_of (name_at (with_facts old f facts) r))) (filter (λ r. is_holder (let d = decl_at (with_facts old f facts) r in d.kind)) (refs_of f (decls_at (with_facts old f facts) f))))
+      (λ p. refl) (λ p. refl)
 
-  pub holders_stay : (sorted : List HashedDecl) → IsSorted (by_scope (name_at old)) sorted → IsSorted (by_scope (name_at (with_facts old f facts))) (filter (λ k. is_of_another f k.decl) sorted)
-  holders_stay sorted ordered =
-      sorted_alike (by_scope (name_at old)) (by_scope (name_at (with_facts old f facts))) (λ k. (let r = decl_of k in r.file) ≢ f)
-      (λ a b in_a in_b. scopes_alike (name_at old) (name_at (with_facts old f facts)) a b (name_elsewhere (decl_of a) in_a) (name_elsewhere (decl_of b) in_b))
-      (filter (λ k. is_of_another f k.decl) sorted) (not_of sorted)
-      (IsSortedBy-filter (λ a b. is_lt (by_scope (name_at old) a b)) (ranks_by (scopes_total (name_at old)) (λ k. k)) (λ k. is_of_another f k.decl) sorted ordered)
+  -- entries of the others, in whatever order
+  others_in : (es sorted : List HashedDecl) (count n : ℕ) → AreRearranged (filter (is_in count n) (filter (λ k. is_of_another f k.decl) es)) sorted → All (λ k. (let r = decl_of k in r.file) ≢ f) sorted
+  others_in es sorted count n same =
+      same_all (λ k. (let r = decl_of k in r.file) ≢ f) (λ k. (let r = decl_of k in r.file) == f)
+      (λ k e there. absurd (cc (e, is_there (let r = decl_of k in r.file) f there))) (λ k other. is_elsewhere (let r = decl_of k in r.file) f other)
+      (filter (is_in count n) (filter (λ k. is_of_another f k.decl) es)) sorted same
+      (keeps_fits (λ k. (let r = decl_of k in r.file) ≢ f) (is_in count n) (filter (λ k. is_of_another f k.decl) es)
+      (All-weaker (λ (k : HashedDecl). is_of_another f k.decl ≡ true) (λ k. (let r = decl_of k in r.file) ≢ f) (λ k e. not_there (let r = decl_of k in r.file) f e)
+      (filter (λ k. is_of_another f k.decl) es) (filter_passes (λ (k : HashedDecl). is_of_another f k.decl) es)))
 
-  module _ (before after : HashedDecls) (own all : List HashedDecl) where
-    -- names, where those of the file are merged with the others, and then stand as two lists
-    pub names_merged : (are : AreInOrder (by_name (name_at old)) (name_entries old) before) → AreRearranged (map (hashed (name_at (with_facts old f facts))) (refs_of f (decls_at (with_facts old f facts) f))) own
-        → IsPermutation (filter (λ k. is_of_another f k.decl) are.sorted ++ own) all → IsSorted (by_name (name_at (with_facts old f facts))) all
-        → after.hashes.items ≡ map (λ k. k.hash) all → after.decls.items ≡ map (λ k. k.decl) all → AreInOrder (by_name (name_at (with_facts old f facts))) (name_entries (with_facts old f facts)) after
-    names_merged are same_own moved ordered hashes decls = record {
-      sorted = all;
-      same = λ p. names_are are.sorted own are.same same_own p ∙ same_moved (filter (λ k. is_of_another f k.decl) are.sorted ++ own) all moved p;
-      ordered = ordered;
-      hashes_are = hashes;
-      decls_are = decls;
-    }
+  -- they stay in their order
+  pub names_stay : (es : List HashedDecl) (buckets : List HashedDecls) → AreInBuckets (by_name (name_at old)) (filter (λ k. is_of_another f k.decl) es) buckets
+      → AreInBuckets (by_name (name_at (with_facts old f facts))) (filter (λ k. is_of_another f k.decl) es) buckets
+  names_stay es buckets are = record {
+    some = are.some;
+    each = λ n d lt.
+        let here : AreInOrder (by_name (name_at old)) (filter (is_in (length buckets) n) (filter (λ k. is_of_another f k.decl) es)) (get_or buckets n d) = are.each n d lt in
+        record {
+          sorted = here.sorted;
+          same = here.same;
+          ordered = sorted_alike (by_name (name_at old)) (by_name (name_at (with_facts old f facts))) (λ k. (let r = decl_of k in r.file) ≢ f)
+              (λ a b in_a in_b. names_alike (name_at old) (name_at (with_facts old f facts)) a b (name_elsewhere (decl_of a) in_a) (name_elsewhere (decl_of b) in_b))
+              here.sorted (others_in es here.sorted (length buckets) n here.same) here.ordered;
+          hashes_are = here.hashes_are;
+          decls_are = here.decls_are;
+        };
+  }
 
-    pub holders_merged : (are : AreInOrder (by_scope (name_at old)) (holder_entries old) before)
-        → AreRearranged (map (hashed (λ r. last_of (name_at (with_facts old f facts) r))) (filter (λ r. is_holder (let d = decl_at (with_facts old f facts) r in d.kind)) (refs_of f (decls_at (with_facts old f facts) f)))) own
-        → IsPermutation (filter (λ k. is_of_another f k.decl) are.sorted ++ own) all → IsSorted (by_scope (name_at (with_facts old f facts))) all
-        → after.hashes.items ≡ map (λ k. k.hash) all → after.decls.items ≡ map (λ k. k.decl) all → AreInOrder (by_scope (name_at (with_facts old f facts))) (holder_entries (with_facts old f facts)) after
-    holders_merged are same_own moved ordered hashes decls = record {
-      sorted = all;
-      same = λ p. holders_are are.sorted own are.same same_own p ∙ same_moved (filter (λ k. is_of_another f k.decl) are.sorted ++ own) all moved p;
-      ordered = ordered;
-      hashes_are = hashes;
-      decls_are = decls;
-    }
+  pub holders_stay : (es : List HashedDecl) (buckets : List HashedDecls) → AreInBuckets (by_scope (name_at old)) (filter (λ k. is_of_another f k.decl) es) buckets
+      → AreInBuckets (by_scope (name_at (with_facts old f facts))) (filter (λ k. is_of_another f k.decl) es) buckets
+  holders_stay es buckets are = record {
+    some = are.some;
+    each = λ n d lt.
+        let here : AreInOrder (by_scope (name_at old)) (filter (is_in (length buckets) n) (filter (λ k. is_of_another f k.decl) es)) (get_or buckets n d) = are.each n d lt in
+        record {
+          sorted = here.sorted;
+          same = here.same;
+          ordered = sorted_alike (by_scope (name_at old)) (by_scope (name_at (with_facts old f facts))) (λ k. (let r = decl_of k in r.file) ≢ f)
+              (λ a b in_a in_b. scopes_alike (name_at old) (name_at (with_facts old f facts)) a b (name_elsewhere (decl_of a) in_a) (name_elsewhere (decl_of b) in_b))
+              here.sorted (others_in es here.sorted (length buckets) n here.same) here.ordered;
+          hashes_are = here.hashes_are;
+          decls_are = here.decls_are;
+        };
+  }
+
+-- ---- the entries of one file
+
+module _ (files : List NamedFacts) (f : ℕ) (there : f < length files) where
+  own_decls : filter (of_file f) (all_decls files) ≡ refs_of f (decls_at files f)
+  own_decls =
+      let file : NamedFacts = record { path = []; facts = no_facts } in
+      let first : 0 + f ≡ f = omega arith in
+      subst (λ n. filter (of_file n) (all_decls files) ≡ refs_of n (decls_in (get_or files f file))) first (own_from 0 f files file there)
+      ∙ ap (λ (fs : FileFacts). refs_of f fs.decls) (sym (get_or-map (λ (file : NamedFacts). file.facts) files f file no_facts there))
+
+  of_it : (text : DeclRef → List ℕ) (decls : List DeclRef) → filter (λ k. not (is_of_another f k.decl)) (map (hashed text) decls) ≡ map (hashed text) (filter (of_file f) decls)
+  of_it text decls =
+      keeps_mapped (λ (k : HashedDecl). not (is_of_another f k.decl)) (hashed text) decls
+      ∙ ap (λ (test : DeclRef → Bool). map (hashed text) (filter test decls)) (fun_ext (λ r. twice (of_file f r)))
+
+  pub names_gone : filter (λ k. not (is_of_another f k.decl)) (name_entries files) ≡ map (hashed (name_at files)) (refs_of f (decls_at files f))
+  names_gone = of_it (name_at files) (all_decls files) ∙ ap (map (hashed (name_at files))) own_decls
+
+  pub holders_gone : filter (λ k. not (is_of_another f k.decl)) (holder_entries files)
+      ≡ map (hashed (λ r. last_of (name_at files r))) (filter (λ r. is_holder (let d = decl_at files r in d.kind)) (refs_of f (decls_at files f)))
+  holders_gone =
+      let holds : DeclRef → Bool = λ r. is_holder (let d = decl_at files r in d.kind) in
+      of_it (λ r. last_of (name_at files r)) (filter holds (all_decls files))
+      ∙ ap (map (hashed (λ r. last_of (name_at files r))))
+      (kept_twice (of_file f) holds (all_decls files) ∙ ap (λ (test : DeclRef → Bool). filter test (all_decls files)) (fun_ext (λ r. either_way (holds r) (of_file f r)))
+      ∙ sym (kept_twice holds (of_file f) (all_decls files)) ∙ ap (filter holds) own_decls)
+
+-- ---- buckets of which a file's entries are left out, and to which others are added
+
+pub names_left : (files : List NamedFacts) (f : ℕ) (gone : List HashedDecl) (before after : List HashedDecls)
+    → (w : WereInBuckets (λ old. by_name (name_at old)) name_entries files f gone before)
+    → ((order : HashedDecl → HashedDecl → Ordering) (es : List HashedDecl) → IsTotalOrder order → filter (λ k. not (is_of_another f k.decl)) es ≡ gone → AreInBuckets order es before → AreInBuckets order (filter (λ k. is_of_another f k.decl) es) after)
+    → AreInBuckets (by_name (name_at files)) (filter (λ k. is_of_another f k.decl) (name_entries w.old)) after
+names_left files f gone before after w left =
+    rw w.files_are (names_stay w.old f w.facts w.within (name_entries w.old) after (left (by_name (name_at w.old)) (name_entries w.old) (names_total (name_at w.old)) w.gone_are w.were))
+
+pub names_come : (files : List NamedFacts) (f : ℕ) (gone come : List HashedDecl) (before after : List HashedDecls)
+    → (w : WereInBuckets (λ old. by_name (name_at old)) name_entries files f gone before) → come ≡ map (hashed (name_at files)) (refs_of f (decls_at files f))
+    → AreInBuckets (by_name (name_at files)) (filter (λ k. is_of_another f k.decl) (name_entries w.old) ++ come) after → AreInBuckets (by_name (name_at files)) (name_entries files) after
+names_come files f gone come before after w come_is are =
+    buckets_moved (by_name (name_at files)) (filter (λ k. is_of_another f k.decl) (name_entries w.old) ++ come) (name_entries files) after
+    (rw (come_is, w.files_are) (names_back w.old f w.facts w.within)) are
+
+pub holders_left : (files : List NamedFacts) (f : ℕ) (gone : List HashedDecl) (before after : List HashedDecls)
+    → (w : WereInBuckets (λ old. by_scope (name_at old)) holder_entries files f gone before)
+    → ((order : HashedDecl → HashedDecl → Ordering) (es : List HashedDecl) → IsTotalOrder order → filter (λ k. not (is_of_another f k.decl)) es ≡ gone → AreInBuckets order es before → AreInBuckets order (filter (λ k. is_of_another f k.decl) es) after)
+    → AreInBuckets (by_scope (name_at files)) (filter (λ k. is_of_another f k.decl) (holder_entries w.old)) after
+holders_left files f gone before after w left =
+    rw w.files_are (holders_stay w.old f w.facts w.within (holder_entries w.old) after (left (by_scope (name_at w.old)) (holder_entries w.old) (scopes_total (name_at w.old)) w.gone_are w.were))
+
+pub holders_come : (files : List NamedFacts) (f : ℕ) (gone come : List HashedDecl) (before after : List HashedDecls)
+    → (w : WereInBuckets (λ old. by_scope (name_at old)) holder_entries files f gone before)
+    → come ≡ map (hashed (λ r. last_of (name_at files r))) (filter (λ r. is_holder (let d = decl_at files r in d.kind)) (refs_of f (decls_at files f)))
+    → AreInBuckets (by_scope (name_at files)) (filter (λ k. is_of_another f k.decl) (holder_entries w.old) ++ come) after → AreInBuckets (by_scope (name_at files)) (holder_entries files) after
+holders_come files f gone come before after w come_is are =
+    buckets_moved (by_scope (name_at files)) (filter (λ k. is_of_another f k.decl) (holder_entries w.old) ++ come) (holder_entries files) after
+    (rw (come_is, w.files_are) (holders_back w.old f w.facts w.within)) are

@@ -1,16 +1,37 @@
 -- What a table knows of its files beside their declarations by name.
-use Rattle.std.specs.Prelude.{◌≡◌, List}
+use Rattle.std.specs.Prelude.{◌≡◌, ℕ, ◌<◌, Bool, true, List, length, option_map}
+use Rattle.file_facts.specs.declared.fact.FileFacts.{FileFacts}
 use Rattle.import_graph.specs.declared.paths.NamedFacts.{NamedFacts}
 use Rattle.import_graph.specs.Imports.{graph_of}
 use Rattle.import_graph.specs.Paths.{IsInPathOrder}
 use Rattle.proto_resolve.specs.declared.table_base.TableBase.{TableBase}
-use Rattle.proto_resolve.specs.Files.{all_decls}
+use Rattle.proto_resolve.specs.declared.target.DeclRef.{DeclRef}
+use Rattle.proto_resolve.specs.Files.{all_decls, facts_at}
+use Rattle.proto_resolve.specs.Outlines.{import_outline, with_facts}
 use Rattle.proto_resolve.specs.Packages.{AreNoLonger, ArePackaged}
 
 -- the graph, the declarations and the packages are those of the files, which are in the order of their paths; no package has a longer name
 pub record IsBaseOf (files : List NamedFacts) (base : TableBase) : Type 0 where
   pub ordered : IsInPathOrder files
   pub graph : base.graph ≡ graph_of files
-  pub decls : base.decls ≡ all_decls files
+  pub decls : base.decls.items ≡ all_decls files
   pub packaged : ArePackaged files base.packaged.items
   pub longest : AreNoLonger base.longest base.packaged.items
+
+-- these are all declarations of the files before other facts were put in the place of one's
+pub record HadDecls (files : List NamedFacts) (file : ℕ) (decls : List DeclRef) : Type 0 where
+  pub old : List NamedFacts
+  pub facts : FileFacts
+  pub within : file < length old
+  pub files_are : files ≡ with_facts old file facts
+  pub were : decls ≡ all_decls old
+
+-- the base is that of the files before other facts, which say the same of imports, were put in the place of one's; where `same_package` says so, the package of that one has the same name
+pub record WasBaseOf (files : List NamedFacts) (file : ℕ) (same_package : Bool) (base : TableBase) : Type 0 where
+  pub old : List NamedFacts
+  pub facts : FileFacts
+  pub within : file < length old
+  pub files_are : files ≡ with_facts old file facts
+  pub was : IsBaseOf old base
+  pub imports : import_outline facts ≡ import_outline (facts_at old file)
+  pub «package» : same_package ≡ true → option_map (λ p. p.full_name) (let now = facts in now.«package») ≡ option_map (λ p. p.full_name) (let before = facts_at old file in before.«package»)

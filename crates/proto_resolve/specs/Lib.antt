@@ -13,6 +13,7 @@ pub mod Tables
 pub mod Hashed
 pub mod Entries
 pub mod Bases
+pub mod Buckets
 pub mod Replaced
 pub mod Finding
 pub mod FindingLaws

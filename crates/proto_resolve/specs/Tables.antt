@@ -91,8 +91,3 @@ all_holders files = filter (λ r. is_holder (let d = decl_at files r in d.kind))
 -- entries for these by their last components
 abbrev pub holder_entries : List NamedFacts → List HashedDecl
 holder_entries files = map (hashed (λ r. last_of (name_at files r))) (all_holders files)
-
--- all declarations of the files by their full names, and what may settle a scope by the last components
-pub record AreByName (files : List NamedFacts) (names holders : HashedDecls) : Type 0 where
-  pub names_are : AreInOrder (by_name (name_at files)) (name_entries files) names
-  pub holders_are : AreInOrder (by_scope (name_at files)) (holder_entries files) holders

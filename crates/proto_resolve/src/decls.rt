@@ -1,15 +1,17 @@
 // All declarations of files.
-ghost use Rattle.std.specs.Prelude.{◌≡◌, ◌<◌, ◌++◌, IfOk, OnOk, length};
+ghost use Rattle.std.specs.Prelude.{◌≡◌, ◌<◌, ◌≤◌, ◌++◌, All, IfOk, List, OnOk, length};
+ghost use Rattle.std.specs.List.{splice};
+ghost use Rattle.proto_resolve.specs.declared.target.DeclRef.{DeclRef};
+ghost use Rattle.proto_resolve.specs.Bases.{HadDecls};
 ghost use Rattle.proto_resolve.specs.Files.{all_decls, decls_at, refs_of};
 
 use crate::target::DeclRef;
 use file_facts::Decl;
 use import_graph::NamedFacts;
-use sqlite_items::Items;
 use std::alloc::{AllocError, Global};
 
-fn push_decls(file: usize, decls: &[Decl], found: &mut Items<DeclRef>) -> Result<(), AllocError>
-    ensures { OnOk result (found.new ≡ found.old ++ refs_of file decls.now) }
+fn push_decls(file: usize, decls: &[Decl], found: &mut Vec<DeclRef>) -> Result<(), AllocError>
+    ensures { OnOk result (found.new.items ≡ found.old.items ++ refs_of file decls.now) }
 {
     for (number, _) in decls.iter().enumerate() {
         found.push(DeclRef { file, number })?;
@@ -22,22 +24,72 @@ pub fn decls_of(
     alloc: Global,
     files: &[NamedFacts],
     file: usize,
-) -> Result<Items<DeclRef>, AllocError>
+) -> Result<Vec<DeclRef>, AllocError>
     requires { file < length files.now }
-    ensures { IfOk result (λ d. d ≡ refs_of file (decls_at files.now file)) }
+    ensures { IfOk result (λ d. d.items ≡ refs_of file (decls_at files.now file)) }
 {
-    let mut found = Items::new(alloc);
+    let mut found = Vec::new(alloc);
     push_decls(file, files[file].facts.get().decls.as_slice(), &mut found)?;
     Ok(found)
 }
 
 // All of them, by file, then offset.
-pub fn all_decls(alloc: Global, files: &[NamedFacts]) -> Result<Items<DeclRef>, AllocError>
-    ensures { IfOk result (λ d. d ≡ all_decls files.now) }
+pub fn all_decls(alloc: Global, files: &[NamedFacts]) -> Result<Vec<DeclRef>, AllocError>
+    ensures { IfOk result (λ d. d.items ≡ all_decls files.now) }
 {
-    let mut found = Items::new(alloc);
+    let mut found = Vec::new(alloc);
     for (number, file) in files.iter().enumerate() {
         push_decls(number, file.facts.get().decls.as_slice(), &mut found)?;
     }
     Ok(found)
+}
+
+// The first place among declarations, which are by file, from which on none is of an earlier file than this, given by its number from
+// 0.
+fn start_of(decls: &[DeclRef], file: usize) -> usize
+    ensures { (front rest : List DeclRef) → decls.now ≡ front ++ rest → All (λ r. r.file < file) front → All (λ r. file ≤ r.file) rest → result ≡ length front }
+{
+    decls.partition_point(|decl| decl.file < file)
+}
+
+// The first place from which on each is of a later file.
+fn end_of(decls: &[DeclRef], file: usize) -> usize
+    ensures { (front rest : List DeclRef) → decls.now ≡ front ++ rest → All (λ r. r.file ≤ file) front → All (λ r. file < r.file) rest → result ≡ length front }
+{
+    decls.partition_point(|decl| decl.file <= file)
+}
+
+// Puts others in the place of the declarations from `start` up to `end`.
+fn put(
+    decls: &mut Vec<DeclRef>,
+    start: usize,
+    end: usize,
+    others: Vec<DeclRef>,
+) -> Result<(), AllocError>
+    requires ordered { start ≤ end }
+    requires within { end ≤ length decls.old.items }
+    ensures { OnOk result (decls.new.items ≡ splice decls.old.items start end others.items) }
+{
+    decls.splice(start..end, others)?;
+    Ok(())
+}
+
+// Puts the declarations of a file, given by its number from 0, in the place of those that it had. The others stay, and all do where
+// the file has as many as it had. An `Err` comes only where memory was refused; what is there then is neither.
+pub fn replace_decls(
+    alloc: Global,
+    files: &[NamedFacts],
+    file: usize,
+    decls: &mut Vec<DeclRef>,
+) -> Result<(), AllocError>
+    requires { HadDecls files.now file decls.old.items }
+    ensures { OnOk result (decls.new.items ≡ all_decls files.now) }
+{
+    let start = start_of(decls, file);
+    let end = end_of(decls, file);
+    if files[file].facts.get().decls.as_slice().len() == end - start {
+        return Ok(());
+    }
+    let own = decls_of(alloc, files, file)?;
+    put(decls, start, end, own)
 }

@@ -29,14 +29,10 @@ pub struct HashedDecls {
     pub hashes: Vec<u64>,
     /// The declarations.
     pub decls: Vec<DeclRef>,
-    /// Where the hashes with the same first bits begin, for each value of these. Only the time of a look-up depends on it.
-    pub starts: Vec<usize>,
-    /// How many bits of a hash are not among those.
-    pub shift: u32,
 }
 
 // The hash of a text. Equal texts have equal hashes.
-fn hash_of(text: &[u8]) -> u64
+pub fn hash_of(text: &[u8]) -> u64
     ensures { result ≡ spec.hash_of text.now }
 {
     let mut state = FoldHasher::default();
@@ -60,29 +56,7 @@ pub fn hashed_decls<N: Naming>(
     Ok(found)
 }
 
-// A hash without its last `shift` bits.
-fn first_bits(hash: u64, shift: u32) -> usize {
-    hash.wrapping_shr(shift) as usize
-}
-
-// Gives each value up to `bits` that has no start this one.
-fn fill_up(bits: usize, place: usize, starts: &mut Vec<usize>) -> Result<(), AllocError> {
-    while starts.len() <= bits {
-        starts.push(place)?;
-    }
-    Ok(())
-}
-
-// For each value of the first bits where the hashes with it begin.
-fn starts_of(alloc: Global, hashes: &[u64], shift: u32) -> Result<Vec<usize>, AllocError> {
-    let mut starts = Vec::new(alloc);
-    for (place, hash) in hashes.iter().enumerate() {
-        fill_up(first_bits(*hash, shift), place, &mut starts)?;
-    }
-    Ok(starts)
-}
-
-// The hashes and the declarations, as two lists. There is one value of the first bits for each one or two hashes.
+// The hashes and the declarations, as two lists.
 pub fn apart(alloc: Global, hashed: &[HashedDecl]) -> Result<HashedDecls, AllocError>
     ensures { IfOk result (λ n. (n.hashes.items ≡ map (λ k. k.hash) hashed.now) × (n.decls.items ≡ map (λ k. k.decl) hashed.now)) }
 {
@@ -92,14 +66,7 @@ pub fn apart(alloc: Global, hashed: &[HashedDecl]) -> Result<HashedDecls, AllocE
         hashes.push(one.hash)?;
         decls.push(one.decl)?;
     }
-    let shift = hashes.len().leading_zeros().saturating_add(1).min(63);
-    let starts = starts_of(alloc, hashes.as_slice(), shift)?;
-    Ok(HashedDecls {
-        hashes,
-        decls,
-        starts,
-        shift,
-    })
+    Ok(HashedDecls { hashes, decls })
 }
 
 // How many hashes at the front are this one, which no other comes between. Mostly there is at most one.
@@ -117,40 +84,13 @@ fn count_of(hashes: &[u64], hash: u64) -> usize
     hashes.partition_point(|other| *other == hash)
 }
 
-// Hashes that are compared one by one before a binary search.
-const MOST_STEPS: usize = 8;
-
-// The first place from which on no hash is lower. It is found soonest if it stands a little behind `near`.
-fn first_place(hashes: &[u64], near: usize, hash: u64) -> usize
+// The first place from which on no hash is lower.
+fn start_of(hashes: &[u64], hash: u64) -> usize
     requires { IsNonDecreasing hashes.now }
     ensures within { result ≤ length hashes.now }
     ensures point { IsPartitionPoint (λ k. nat_lt k hash ≡ true) (λ k. nat_lt k hash ≡ false) hashes.now result }
 {
-    let mut place = near.min(hashes.len());
-    if place > 0 && hashes[place - 1] >= hash {
-        return hashes.partition_point(|other| *other < hash);
-    }
-    let end = hashes.len().min(place.saturating_add(MOST_STEPS));
-    while place < end {
-        if hashes[place] >= hash {
-            return place;
-        }
-        place += 1;
-    }
     hashes.partition_point(|other| *other < hash)
-}
-
-// The first place from which on no hash is lower, by where the hashes with its first bits begin.
-fn start_of(hashed: &HashedDecls, hash: u64) -> usize
-    requires { IsNonDecreasing hashed.now.hashes.items }
-    ensures within { result ≤ length hashed.now.hashes.items }
-    ensures point { IsPartitionPoint (λ k. nat_lt k hash ≡ true) (λ k. nat_lt k hash ≡ false) hashed.now.hashes.items result }
-{
-    let near = match hashed.starts.get(first_bits(hash, hashed.shift)) {
-        Some(start) => *start,
-        None => hashed.hashes.len(),
-    };
-    first_place(hashed.hashes.as_slice(), near, hash)
 }
 
 // Of declarations in the order of their hashes, those of one hash.
@@ -159,9 +99,9 @@ fn of_hash<'a>(hashed: &'a HashedDecls, hash: u64) -> &'a [DeclRef]
     requires len { length hashed.now.hashes.items ≡ length hashed.now.decls.items }
     ensures { (hash_at : DeclRef → ℕ) → hashed.now.hashes.items ≡ map hash_at hashed.now.decls.items → result.now ≡ filter (λ r. hash_at r == hash) hashed.now.decls.items }
 {
-    let start = start_of(hashed, hash);
     let hashes = hashed.hashes.as_slice();
     let decls = hashed.decls.as_slice();
+    let start = start_of(hashes, hash);
     let count = count_of(&hashes[start..], hash);
     let rest = &decls[start..];
     &rest[..count]

@@ -1,14 +1,13 @@
-// Files with entries for the names of their declarations, before those of all files are merged.
-ghost use Rattle.std.specs.Prelude.{◌≡◌, ◌≤◌, ◌+◌, ◌++◌, All, IfOk, OnOk, [], map, filter};
-ghost use Rattle.std.specs.List.Sorted.{IsSorted};
+// Files with entries for the names of their declarations, before these are put in order.
+ghost use Rattle.std.specs.Prelude.{◌≡◌, ◌≤◌, ◌+◌, ◌++◌, ◌<◌, All, IfOk, OnOk, [], length, map, filter};
 ghost use Rattle.proto_resolve.specs.Entries.{with_renumbered};
-ghost use Rattle.proto_resolve.specs.Files.{decl_at};
+ghost use Rattle.proto_resolve.specs.Files.{decl_at, decls_at, refs_of};
 ghost use Rattle.proto_resolve.specs.Hashed.{hashed};
 ghost use Rattle.proto_resolve.specs.Names.{is_holder};
-ghost use Rattle.proto_resolve.specs.Tables.{by_name, by_scope, last_of, name_at, AreRearranged};
+ghost use Rattle.proto_resolve.specs.Tables.{last_of, name_at};
 
-use crate::decls::all_decls;
-use crate::entry_order::{ByName, ByScope, sort_entries};
+use crate::decls::{all_decls, decls_of};
+use crate::entry_order::{ByScope, sort_entries};
 use crate::hashed::{HashedDecl, hashed_decls};
 use crate::holders::holders_of;
 use crate::naming::{FullNames, LastComponents};
@@ -23,9 +22,10 @@ use std::marker::Model;
 #[derive(Drop)]
 pub struct NameEntries {
     pub(crate) files: Vec<NamedFacts>,
-    // All declarations by full name, in runs that are each in order.
+    // All declarations by full name, in runs.
     pub(crate) names: Vec<Vec<HashedDecl>>,
-    // Messages, enums and services by the last components of their full names, then by what stands before those, in such runs.
+    // Messages, enums and services by the last components of their full names, in runs. In whatever order they stand, a table answers
+    // the same; it is made sooner if each run is in its order.
     pub(crate) holders: Vec<Vec<HashedDecl>>,
 }
 
@@ -41,71 +41,78 @@ impl Model for NameEntries {
     ghost invariant = { λ e. AreEntriesOf e.files.items (map (λ run. run.items) e.names.items) (map (λ run. run.items) e.holders.items) };
 }
 
-// Entries for these declarations by their full names, in order.
-pub fn names_in_order(
+// Entries for these declarations by their full names.
+fn names_of(
     alloc: Global,
     files: &[NamedFacts],
     decls: &[DeclRef],
 ) -> Result<Vec<HashedDecl>, AllocError>
-    ensures sorted { IfOk result (λ v. IsSorted (by_name (name_at files.now)) v.items) }
-    ensures same { IfOk result (λ v. AreRearranged (map (hashed (name_at files.now)) decls.now) v.items) }
+    ensures { IfOk result (λ v. v.items ≡ map (hashed (name_at files.now)) decls.now) }
 {
-    let mut entries = hashed_decls::<FullNames>(alloc, files, decls)?;
-    sort_entries::<ByName>(files, &mut entries)?;
-    Ok(entries)
+    hashed_decls::<FullNames>(alloc, files, decls)
 }
 
-// Entries for those of these declarations that may settle a scope by the last components of their full names, in order.
-pub fn holders_in_order(
+// Entries for those of these declarations that may settle a scope, by the last components of their full names.
+fn holders_among(
     alloc: Global,
     files: &[NamedFacts],
     decls: &[DeclRef],
 ) -> Result<Vec<HashedDecl>, AllocError>
-    ensures sorted { IfOk result (λ v. IsSorted (by_scope (name_at files.now)) v.items) }
-    ensures same { IfOk result (λ v. AreRearranged (map (hashed (λ r. last_of (name_at files.now r))) (filter (λ r. is_holder (let d = decl_at files.now r in d.kind)) decls.now)) v.items) }
+    ensures { IfOk result (λ v. v.items ≡ map (hashed (λ r. last_of (name_at files.now r))) (filter (λ r. is_holder (let d = decl_at files.now r in d.kind)) decls.now)) }
 {
     let holders = holders_of(alloc, files, decls)?;
-    let mut entries = hashed_decls::<LastComponents>(alloc, files, holders.as_slice())?;
-    sort_entries::<ByScope>(files, &mut entries)?;
-    Ok(entries)
+    hashed_decls::<LastComponents>(alloc, files, holders.as_slice())
 }
 
-// The entries of files that stand behind so many others, renumbered.
-fn renumbered(
+// The entries of one file.
+#[derive(Drop)]
+pub struct OwnEntries {
+    // Its declarations by full name.
+    pub names: Vec<HashedDecl>,
+    // Its messages, enums and services by the last components of their full names.
+    pub holders: Vec<HashedDecl>,
+}
+
+// The entries of a file, given by its number from 0.
+pub fn entries_of(
     alloc: Global,
-    by: usize,
-    entries: &[HashedDecl],
-) -> Result<Vec<HashedDecl>, AllocError>
-    requires { All (λ k. by + k.decl.file ≤ 18446744073709551615) entries.now }
-    ensures { IfOk result (λ v. v.items ≡ map (with_renumbered by) entries.now) }
+    files: &[NamedFacts],
+    file: usize,
+) -> Result<OwnEntries, AllocError>
+    requires { file < length files.now }
+    ensures names { IfOk result (λ e. e.names.items ≡ map (hashed (name_at files.now)) (refs_of file (decls_at files.now file))) }
+    ensures holders { IfOk result (λ e. e.holders.items ≡ map (hashed (λ r. last_of (name_at files.now r))) (filter (λ r. is_holder (let d = decl_at files.now r in d.kind)) (refs_of file (decls_at files.now file)))) }
 {
-    let mut found = Vec::with_capacity(alloc, entries.len())?;
-    for entry in entries {
-        let decl = DeclRef {
-            file: by + entry.decl.file,
-            number: entry.decl.number,
-        };
-        found.push(HashedDecl {
-            hash: entry.hash,
-            decl,
-        })?;
+    let decls = decls_of(alloc, files, file)?;
+    Ok(OwnEntries {
+        names: names_of(alloc, files, decls.as_slice())?,
+        holders: holders_among(alloc, files, decls.as_slice())?,
+    })
+}
+
+// Renumbers the entries of files that stand behind so many others.
+fn renumber(by: usize, entries: &mut Vec<HashedDecl>)
+    requires { All (λ k. by + k.decl.file ≤ 18446744073709551615) entries.old.items }
+    ensures { entries.new.items ≡ map (with_renumbered by) entries.old.items }
+{
+    for entry in entries.iter_mut() {
+        entry.decl.file += by;
     }
-    Ok(found)
 }
 
 // Adds runs of entries of files that stand behind so many others, renumbered.
 fn push_renumbered(
-    alloc: Global,
     by: usize,
-    runs: &[Vec<HashedDecl>],
+    runs: Vec<Vec<HashedDecl>>,
     found: &mut Vec<Vec<HashedDecl>>,
 ) -> Result<(), AllocError>
-    requires { All (λ run. All (λ k. by + k.decl.file ≤ 18446744073709551615) run.items) runs.now }
-    ensures { OnOk result (map (λ run. run.items) found.new.items ≡ map (λ run. run.items) found.old.items ++ map (λ run. map (with_renumbered by) run.items) runs.now) }
+    requires { All (λ run. All (λ k. by + k.decl.file ≤ 18446744073709551615) run.items) runs.items }
+    ensures { OnOk result (map (λ run. run.items) found.new.items ≡ map (λ run. run.items) found.old.items ++ map (λ run. map (with_renumbered by) run.items) runs.items) }
 {
     for run in runs {
-        let moved = renumbered(alloc, by, run.as_slice())?;
-        found.push(moved)?;
+        let mut run = run;
+        renumber(by, &mut run);
+        found.push(run)?;
     }
     Ok(())
 }
@@ -127,8 +134,10 @@ impl NameEntries {
         ensures { IfOk result (λ e. e ≡ files.items) }
     {
         let decls = all_decls(alloc, files.as_slice())?;
-        let names = names_in_order(alloc, files.as_slice(), decls.as_slice())?;
-        let holders = holders_in_order(alloc, files.as_slice(), decls.as_slice())?;
+        let names = names_of(alloc, files.as_slice(), decls.as_slice())?;
+        let mut holders = holders_among(alloc, files.as_slice(), decls.as_slice())?;
+        // (types that many files declare by one last component are put in order here, by the threads of these files)
+        sort_entries::<ByScope>(files.as_slice(), &mut holders)?;
         Ok(NameEntries {
             files,
             names: vec![in alloc; names]?,
@@ -137,7 +146,7 @@ impl NameEntries {
     }
 
     /// The entries of these files, then of the others, renumbered. An `Err` comes only where memory was refused; both are gone then.
-    pub fn followed_by(self, alloc: Global, others: NameEntries) -> Result<NameEntries, AllocError>
+    pub fn followed_by(self, others: NameEntries) -> Result<NameEntries, AllocError>
         ensures { IfOk result (λ e. e ≡ self ++ others) }
     {
         let NameEntries {
@@ -145,11 +154,15 @@ impl NameEntries {
             mut names,
             mut holders,
         } = self;
-        let mut others = others;
+        let NameEntries {
+            files: mut more,
+            names: other_names,
+            holders: other_holders,
+        } = others;
         let by = files.len();
-        files.append(&mut others.files)?;
-        push_renumbered(alloc, by, others.names.as_slice(), &mut names)?;
-        push_renumbered(alloc, by, others.holders.as_slice(), &mut holders)?;
+        files.append(&mut more)?;
+        push_renumbered(by, other_names, &mut names)?;
+        push_renumbered(by, other_holders, &mut holders)?;
         Ok(NameEntries {
             files,
             names,

@@ -26,7 +26,8 @@ fn declare_alike(a: &[Decl], b: &[Decl]) -> bool
     true
 }
 
-fn have_one_name(a: &Option<PackageFact>, b: &Option<PackageFact>) -> bool
+// Whether packages, where there are any, have the same full name.
+pub(crate) fn have_one_name(a: &Option<PackageFact>, b: &Option<PackageFact>) -> bool
     ensures { IsTrue result ↔ (option_map (λ p. p.full_name) a.now ≡ option_map (λ p. p.full_name) b.now) }
 {
     match (a, b) {

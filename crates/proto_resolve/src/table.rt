@@ -10,7 +10,7 @@ ghost use Rattle.proto_resolve.specs.Seen.{exports};
 use crate::index::Index;
 use crate::name_entries::NameEntries;
 use crate::name_table::NameTable;
-use crate::outline::same_exports;
+use crate::outline::{have_one_name, same_exports};
 use crate::packages::{PackagedFile, of_package};
 use crate::table_base::TableBase;
 use crate::target::DeclRef;
@@ -106,8 +106,9 @@ impl Table {
         Ok((Table::of_parts(names, made), base.graph))
     }
 
-    /// The table with other facts of a file, given by its number from 0, which say the same of imports: the graph stays. An `Err`
-    /// comes only where memory was refused; the table is gone then.
+    /// The table with other facts of a file, given by its number from 0, which say the same of imports: the graph stays, and of
+    /// all declarations those of the other files; so do the packages, if the file has the same one. An `Err` comes only where memory
+    /// was refused; the table is gone then.
     pub fn replace_exports(
         self,
         alloc: Global,
@@ -119,9 +120,13 @@ impl Table {
         ensures { IfOk result (λ t. t ≡ with_facts self file facts) }
     {
         let Table { names, base } = self;
+        let same_package = have_one_name(
+            &facts.get().package,
+            &names.files()[file].facts.get().package,
+        );
         let names = names.replace(alloc, file, facts)?;
-        let made = TableBase::with_graph(alloc, base.graph, names.files())?;
-        Ok(Table::of_parts(names, made))
+        let base = base.changed(alloc, names.files(), file, same_package)?;
+        Ok(Table::of_parts(names, base))
     }
 
     /// All declarations, by path, then offset.

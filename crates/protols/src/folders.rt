@@ -3,9 +3,10 @@
 use crate::failure::Failure;
 use lsp_session::{Config, DiskFile};
 use program_options::root_url;
-use proto_folder::{FoundFile, read_folder};
+use proto_folder::{FoundFile, TextReader, read_folder};
 use std::alloc::{AllocError, Global};
 use std::rt::Files;
+use std::thread::Threads;
 
 // Adds the files that were found below the root with this number.
 fn add_found(
@@ -19,14 +20,15 @@ fn add_found(
     Ok(())
 }
 
-// Adds the files of the folder at a path, which is the root with this number.
-fn add_files<'d, R: Files + Eprint + AllocGlobal>(
+// Adds the files of the folder at a path, which is the root with this number. So many threads read them.
+fn add_files<'d, R: Files + TextReader + Eprint + AllocGlobal + Threads>(
     rt: &R,
     files: &mut Vec<DiskFile>,
     root: usize,
     dir: &'d str,
+    threads: u8,
 ) -> Result<(), Failure<'d>> {
-    match read_folder(rt, dir) {
+    match read_folder(rt, dir, usize::from(threads)) {
         Ok(found) => Ok(add_found(files, root, found)?),
         Err(fault) => Err(Failure::of_folder(dir, fault)),
     }
@@ -51,26 +53,29 @@ fn roots_of(alloc: Global, dirs: &[&str]) -> Result<Vec<String>, AllocError> {
     Ok(roots)
 }
 
-// What a session is started with: the folders as its roots, and the files below them. With no folder no file is read.
-pub(crate) fn configuration<'d, R: Files + Eprint + AllocGlobal>(
+// What a session is started with: the folders as its roots, and the files below them, which so many threads read. With no folder
+// no file is read.
+pub(crate) fn configuration<'d, R: Files + TextReader + Eprint + AllocGlobal + Threads>(
     rt: &R,
     dirs: &[&'d str],
+    threads: u8,
 ) -> Result<Config, Failure<'d>> {
     let mut files = Vec::new(rt.alloc());
     for (number, dir) in dirs.iter().enumerate() {
-        add_files(rt, &mut files, number, dir)?;
+        add_files(rt, &mut files, number, dir, threads)?;
     }
     let roots = roots_of(rt.alloc(), dirs)?;
     Ok(Config::make(rt.alloc(), roots, files)?)
 }
 
-// What a check is started with: the files of the folder at a path, below the root of all paths.
-pub(crate) fn files_of<'d, R: Files + Eprint + AllocGlobal>(
+// What a check is started with: the files of the folder at a path, which so many threads read, below the root of all paths.
+pub(crate) fn files_of<'d, R: Files + TextReader + Eprint + AllocGlobal + Threads>(
     rt: &R,
     dir: &'d str,
+    threads: u8,
 ) -> Result<Config, Failure<'d>> {
     let mut files = Vec::new(rt.alloc());
-    add_files(rt, &mut files, 0, dir)?;
+    add_files(rt, &mut files, 0, dir, threads)?;
     let roots = root_of_all(rt.alloc())?;
     Ok(Config::make(rt.alloc(), roots, files)?)
 }

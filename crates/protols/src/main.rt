@@ -12,6 +12,7 @@ use crate::status::{fail, status_of, status_of_check};
 use lsp_frame::{FrameReader, FromRead, ToWrite};
 use lsp_session::{Config, Ended, OpenGate, ServeFault, check, serve};
 use program_options::options;
+use proto_folder::TextReader;
 use std::alloc::Global;
 use std::env::{self, Env};
 use std::io::{self, BufReader, ErrorKind};
@@ -69,13 +70,14 @@ fn serve_editor<
         + Send
         + Drop
         + Files
+        + TextReader
         + Input
         + Print
         + Eprint
         + AllocGlobal
         + 'static,
 >(rt: &R, dirs: &[&'d str], workers: u8) -> Result<Ended, Failure<'d>> {
-    let config = configuration(rt, dirs)?;
+    let config = configuration(rt, dirs, workers)?;
     Ok(serve_with(rt, config, workers)?)
 }
 
@@ -95,9 +97,20 @@ fn check_with<R: Threads + Wait + Clone + Send + Drop + Print + AllocGlobal + 's
 // Checks the files of the folder. With no folder it is the current one.
 fn check_files<
     'd,
-    R: Threads + Wait + Clone + Send + Drop + Files + Print + Eprint + AllocGlobal + 'static,
+    R: Threads
+        + Wait
+        + Clone
+        + Send
+        + Drop
+        + Files
+        + TextReader
+        + Print
+        + Eprint
+        + AllocGlobal
+        + 'static,
 >(rt: &R, dirs: &[&'d str], workers: u8) -> Result<bool, Failure<'d>> {
-    let config = files_of(rt, dirs.first().copied().unwrap_or("."))?;
+    let dir = dirs.first().copied().unwrap_or(".");
+    let config = files_of(rt, dir, workers)?;
     Ok(check_with(rt, config, workers)?)
 }
 

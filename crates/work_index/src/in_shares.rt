@@ -15,7 +15,7 @@ use crate::file_work::FileWork;
 use crate::gate::Gate;
 use crate::indexed::{IndexedShare, IndexedShares, index_share, take_apart};
 use crate::linked::{LinkedShare, gather, link_share};
-use crate::part_table::merge_tables;
+use crate::part_table::merge_by_two;
 use crate::shares::{Share, cut};
 use crate::table_of::all_facts;
 use import_graph::NamedFacts;
@@ -109,7 +109,7 @@ fn table_in_shares<R: Threads + Wait>(
 {
     let Indexed { answers, base } = index_all(rt, alloc, shares, files.as_slice())?;
     let IndexedShares { shares, parts } = take_apart(alloc, answers)?;
-    let names = merge_tables(alloc, parts)?;
+    let names = merge_by_two(rt, alloc, parts)?;
     Ok((shares, Table::of_parts(names, base)))
 }
 

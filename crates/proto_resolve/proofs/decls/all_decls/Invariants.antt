@@ -6,4 +6,4 @@ use Rattle.proto_resolve.proofs.decls.all_decls.Given as goal
 -- what is found and what is left are all
 abbrev pub invariant-loop-number : goal.invariant-loop-number
 invariant-loop-number l =
-    l.found ++ flat_map (λ e. refs_of e.0 (let facts = e.1.facts in facts.decls)) (enumerate_from l.number (drop l.number l.files)) ≡ all_decls l.files
+    l.found.items ++ flat_map (λ e. refs_of e.0 (let facts = e.1.facts in facts.decls)) (enumerate_from l.number (drop l.number l.files)) ≡ all_decls l.files

@@ -9,7 +9,7 @@ pub push_renumbered-requires : goal.push_renumbered-requires
 push_renumbered-requires c =
     let small : c.len-by.result + length c.others.inside.files.items ≤ 18446744073709551615 =
     omega (arith, c.len-by.ensures, c.append.new.self.small, c.append.new.self.ok, ap length c.in_ok-append.ensures.items, length-append c.self.inside.files.items c.others.inside.files.items, c.self.inside.files.ok) in
-    rw c.as_slice.ensures.value (each_small (λ run. run.items) (λ k. c.len-by.result + (let r = k.decl in r.file) ≤ 18446744073709551615) c.others.inside.names.items
+    (each_small (λ run. run.items) (λ k. c.len-by.result + (let r = k.decl in r.file) ≤ 18446744073709551615) c.others.inside.names.items
     (small_runs c.others.inside.files.items c.len-by.result (map (λ run. run.items) c.others.inside.names.items)
     (names_within c.others.inside.files.items (map (λ run. run.items) c.others.inside.names.items) c.others.invariant.names_are) small))
 
@@ -17,7 +17,7 @@ pub push_renumbered-requires-2 : goal.push_renumbered-requires-2
 push_renumbered-requires-2 c =
     let small : c.len-by.result + length c.others.inside.files.items ≤ 18446744073709551615 =
     omega (arith, c.len-by.ensures, c.append.new.self.small, c.append.new.self.ok, ap length c.in_ok-append.ensures.items, length-append c.self.inside.files.items c.others.inside.files.items, c.self.inside.files.ok) in
-    rw c.as_slice-2.ensures.value (each_small (λ run. run.items) (λ k. c.len-by.result + (let r = k.decl in r.file) ≤ 18446744073709551615) c.others.inside.holders.items
+    (each_small (λ run. run.items) (λ k. c.len-by.result + (let r = k.decl in r.file) ≤ 18446744073709551615) c.others.inside.holders.items
     (small_runs c.others.inside.files.items c.len-by.result (map (λ run. run.items) c.others.inside.holders.items)
     (holders_within c.others.inside.files.items (map (λ run. run.items) c.others.inside.holders.items) c.others.invariant.holders_are) small))
 
@@ -29,7 +29,7 @@ invariant_of-result c =
     (map (λ run. run.items) c.push_renumbered.new.found.items) (map (λ run. run.items) c.push_renumbered-2.new.found.items) c.len-by.result
     c.in_ok-append.ensures.items (omega (arith, c.len-by.ensures, c.self.inside.files.ok))
     (c.in_ok-push_renumbered.ensures
-    ∙ ap (λ l. map (λ run. run.items) c.self.inside.names.items ++ l) (ap (map (λ run. map (with_renumbered c.len-by.result) run.items)) c.as_slice.ensures.value ∙ sym (map-map (λ run. map (with_renumbered c.len-by.result) run) (λ run. run.items) c.others.inside.names.items)))
+    ∙ ap (λ l. map (λ run. run.items) c.self.inside.names.items ++ l) (sym (map-map (λ run. map (with_renumbered c.len-by.result) run) (λ run. run.items) c.others.inside.names.items)))
     (c.in_ok-push_renumbered-2.ensures
-    ∙ ap (λ l. map (λ run. run.items) c.self.inside.holders.items ++ l) (ap (map (λ run. map (with_renumbered c.len-by.result) run.items)) c.as_slice-2.ensures.value ∙ sym (map-map (λ run. map (with_renumbered c.len-by.result) run) (λ run. run.items) c.others.inside.holders.items)))
+    ∙ ap (λ l. map (λ run. run.items) c.self.inside.holders.items ++ l) (sym (map-map (λ run. map (with_renumbered c.len-by.result) run) (λ run. run.items) c.others.inside.holders.items)))
     c.self.invariant c.others.invariant

@@ -1,12 +1,25 @@
-use Rattle.std.proofs.Common.{◌∙◌}
-use Rattle.proto_resolve.specs.Files.{all_decls}
+use Rattle.std.proofs.Common.{◌∙◌, ap, filter, bytes_eq}
+use Rattle.std.proofs.Math.Nat.{mod-lt}
+use Rattle.proto_resolve.specs.declared.hashed.HashedDecls.{HashedDecls}
+use Rattle.proto_resolve.specs.Hashed.{hash_of}
 use Rattle.proto_resolve.specs.Tables.{name_at}
-use Rattle.proto_resolve.proofs.Places.{named_up, names_by_hash, names_each}
+use Rattle.proto_resolve.proofs.InBuckets.{bucket_by_hash, bucket_named}
 use Rattle.proto_resolve.proofs.name_table.NameTable.decls_named.Goals as goal
 
+pub of_text-bucket-requires : goal.of_text-bucket-requires
+of_text-bucket-requires c = let are = c.self.invariant.names_are in are.some
+
 pub with_text-requires : goal.with_text-requires
-with_text-requires c = rw c.as_slice.ensures.value (names_by_hash (name_at c.self.inside.files.items) (all_decls c.self.inside.files.items) c.self.inside.names c.self.invariant.names_are)
+with_text-requires c =
+    let are = c.self.invariant.names_are in
+    let bucket : HashedDecls = c.of_text-bucket.result.now in
+    rw (c.as_slice.ensures.value, c.of_text-bucket.ensures bucket, c.as_bytes.ensures.value)
+    (bucket_by_hash c.self.inside.files.items c.self.inside.names.list.items are c.args.full_name.now bucket (mod-lt (hash_of c.args.full_name.now) are.some))
 
 pub returns : goal.returns
-returns c = rw (← c.self.view_is) ((rw (c.as_slice.ensures.value, c.as_bytes.ensures.value) at c.with_text.ensures)
-    ∙ names_each (name_at c.self.inside.files.items) (all_decls c.self.inside.files.items) c.self.inside.names c.self.invariant.names_are c.args.full_name.now (named_up c.self.inside.files.items c.args.full_name.now))
+returns c =
+    let are = c.self.invariant.names_are in
+    let bucket : HashedDecls = c.of_text-bucket.result.now in
+    rw (← c.self.view_is) ((rw (c.as_slice.ensures.value, c.as_bytes-2.ensures.value) at c.with_text.ensures)
+    ∙ ap (λ (b : HashedDecls). filter (λ r. bytes_eq (name_at c.self.inside.files.items r) c.args.full_name.now) b.decls.items) (rw c.as_bytes.ensures.value at (c.of_text-bucket.ensures bucket))
+    ∙ bucket_named c.self.inside.files.items c.self.inside.names.list.items are c.args.full_name.now bucket (mod-lt (hash_of c.args.full_name.now) are.some))

@@ -1,29 +1,17 @@
-use Rattle.std.proofs.Common.{List}
-use Rattle.import_graph.specs.declared.paths.NamedFacts.{NamedFacts}
-use Rattle.proto_resolve.specs.Tables.{by_name, by_scope, holder_entries, name_at, name_entries}
-use Rattle.proto_resolve.proofs.ByLast.{scopes_total}
-use Rattle.proto_resolve.proofs.Entries.{each_sorted}
-use Rattle.proto_resolve.proofs.Places.{names_total}
+use Rattle.std.proofs.Common.{◌∙◌, ap, filter, length, subst, sym}
+use Rattle.std.specs.List.{flat_map}
+use Rattle.proto_resolve.specs.Buckets.{AreInBuckets}
+use Rattle.proto_resolve.specs.Tables.{by_name, by_scope, holder_entries, name_at}
+use Rattle.proto_resolve.proofs.Entries.{flat_items}
+use Rattle.proto_resolve.proofs.InBuckets.{buckets_moved}
 use Rattle.proto_resolve.proofs.name_table.NameTable.of.Goals as goal
 
-pub in_order-requires-clause-total : goal.in_order-requires-clause-total
-in_order-requires-clause-total c = names_total (name_at c.as_slice.result.now)
-
-pub in_order-requires-clause-runs : goal.in_order-requires-clause-runs
-in_order-requires-clause-runs c =
-    rw c.as_slice.ensures.value (each_sorted (λ run. run.items) (by_name (name_at c.entries.inside.files.items)) c.entries.inside.names.items c.entries.invariant.names_are.sorted)
-
-pub in_order-requires-2-clause-total : goal.in_order-requires-2-clause-total
-in_order-requires-2-clause-total c = scopes_total (name_at c.as_slice-2.result.now)
-
-pub in_order-requires-2-clause-runs : goal.in_order-requires-2-clause-runs
-in_order-requires-2-clause-runs c =
-    rw c.as_slice-2.ensures.value (each_sorted (λ run. run.items) (by_scope (name_at c.entries.inside.files.items)) c.entries.inside.holders.items c.entries.invariant.holders_are.sorted)
-
 pub invariant_of-result : goal.invariant_of-result
-invariant_of-result c =
-    let files : List NamedFacts = c.entries.inside.files.items in
-    record {
-      names_are = (rw c.as_slice.ensures.value at c.in_ok-names.ensures) (name_entries files) c.entries.invariant.names_are;
-      holders_are = (rw c.as_slice-2.ensures.value at c.in_ok-holders.ensures) (holder_entries files) c.entries.invariant.holders_are;
-    }
+invariant_of-result c = record {
+  names_are = subst (λ es. AreInBuckets (by_name (name_at c.entries.inside.files.items)) es c.in_ok-names.names.list.items)
+      (flat_items (λ run. run.items) c.entries.inside.names.items ∙ c.entries.invariant.names_are)
+      (rw (c.as_slice.ensures.value, c.as_slice-2.ensures.value) at c.in_ok-names.ensures);
+  holders_are = buckets_moved (by_scope (name_at c.entries.inside.files.items)) (flat_map (λ run. run.items) c.entries.inside.holders.items) (holder_entries c.entries.inside.files.items) c.in_ok-holders.holders.list.items
+      (λ p. c.entries.invariant.holders_are p ∙ ap (λ es. length (filter p es)) (sym (flat_items (λ run. run.items) c.entries.inside.holders.items)))
+      (rw (c.as_slice-3.ensures.value, c.as_slice-4.ensures.value) at c.in_ok-holders.ensures);
+}

@@ -1,20 +1,28 @@
-use Rattle.std.proofs.Common.{◌≡◌, ◌∙◌, List, subst, sym, ap}
+use Rattle.std.proofs.Common.{◌≡◌, ◌∙◌, ◌<◌, List, length, get_or, sym, ap}
+use Rattle.std.specs.Prelude.{option_map}
+use Rattle.std.proofs.lemmas.List.{get_or-map}
+use Rattle.file_facts.specs.declared.fact.FileFacts.{FileFacts}
+use Rattle.file_facts.specs.declared.fact.PackageFact.{PackageFact}
 use Rattle.import_graph.specs.declared.paths.NamedFacts.{NamedFacts}
-use Rattle.import_graph.specs.Imports.{graph_of}
-use Rattle.import_graph.specs.Paths.{IsInPathOrder}
-use Rattle.proto_resolve.specs.Outlines.{with_facts}
-use Rattle.proto_resolve.proofs.Outlines.{asks_alike, same_graph, stays_in_order}
+use Rattle.proto_resolve.specs.Files.{facts_at, no_facts}
 use Rattle.proto_resolve.proofs.table.Table.replace_exports.Goals as goal
 
-pub with_graph-requires-clause-ordered : goal.with_graph-requires-clause-ordered
-with_graph-requires-clause-ordered c =
-    let files : List NamedFacts = c.self.inside.names in
-    let is : c.files.result.now ≡ with_facts files c.args.file c.args.facts = c.files.ensures ∙ c.in_ok-names.ensures in
-    subst (λ (fs : List NamedFacts). IsInPathOrder fs) (sym is) (stays_in_order files c.args.file c.args.facts c.self.invariant.ordered)
-
-pub with_graph-requires-clause-graph : goal.with_graph-requires-clause-graph
-with_graph-requires-clause-graph c =
+pub changed-requires : goal.changed-requires
+changed-requires c =
     let files : List NamedFacts = c.self.inside.names in
     let seen : c.args.self ≡ files = cc in
-    let is : c.files.result.now ≡ with_facts files c.args.file c.args.facts = c.files.ensures ∙ c.in_ok-names.ensures in
-    c.self.invariant.graph ∙ same_graph files (with_facts files c.args.file c.args.facts) (asks_alike files c.args.file c.args.facts (rw seen at c.requires.within) (rw seen at c.requires.imports)) ∙ ap graph_of (sym is)
+    let there : c.args.file < length files = rw seen at c.requires.within in
+    let facts_are : c.get-2.result.now ≡ facts_at files c.args.file =
+    c.get-2.ensures ∙ ap (λ (fs : List NamedFacts). let file = get_or fs c.args.file c.index-files-file.result in file.facts) c.files.ensures
+    ∙ sym (get_or-map (λ (x : NamedFacts). x.facts) files c.args.file c.index-files-file.result no_facts there) in
+    record {
+      old = files;
+      facts = c.args.facts;
+      within = there;
+      files_are = c.files-2.ensures ∙ c.in_ok-names.ensures;
+      was = c.self.invariant;
+      imports = rw seen at c.requires.imports;
+      «package» = λ e. ap (λ (facts : FileFacts). option_map (λ (p : PackageFact). p.full_name) facts.«package») (sym c.get.ensures)
+          ∙ c.have_one_name-same_package.ensures.0 e
+          ∙ ap (λ (facts : FileFacts). option_map (λ (p : PackageFact). p.full_name) facts.«package») facts_are;
+    }
