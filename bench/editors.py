@@ -10,18 +10,18 @@ from trees import ordinary, path
 # A line behind the last one of each text.
 LAST_LINE = 1_000_000
 
-# A file that all others import.
+# A file that all others import and use.
 HUB = "hub.proto"
 HUB_TEXT = 'syntax = "proto3";\npackage shop;\nmessage Hub { }\n'
 
 
 def put_tree(folder, size, hub=False):
-    """Writes the files of a workspace, on request with one that all others import, and gives their paths."""
+    """Writes the files of a workspace, on request with one that all others import and use, and gives their paths."""
     paths = [path(n) for n in range(size)]
     for n, place in enumerate(paths):
         file = folder / place
         file.parent.mkdir(parents=True, exist_ok=True)
-        file.write_text(ordinary(n) + (f'import "{HUB}";\n' if hub else ""))
+        file.write_text(ordinary(n) + (f'import "{HUB}";\nmessage UsesHub{n} {{ .shop.Hub hub = 1; }}\n' if hub else ""))
     if hub:
         (folder / HUB).write_text(HUB_TEXT)
     return paths

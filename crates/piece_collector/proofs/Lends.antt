@@ -1,5 +1,5 @@
 -- What is taken from slots, and put back
-use Rattle.std.proofs.Common.{◌≡◌, ℕ, Bool, true, false, cond, ◌||◌, List, [], ◌∷◌, ◌++◌, Option, Some, None, refl, sym, ap, ◌∙◌, option_map, option_to_list, map, subst, is_some, IsTrue, IsSome, IfSome, unwrap_or, String, string_bytes, BTreeMap}
+use Rattle.std.proofs.Common.{◌≡◌, ℕ, Bool, true, false, cond, ◌||◌, List, [], ◌∷◌, Option, Some, None, refl, sym, ap, ◌∙◌, option_map, map, subst, is_some, IsTrue, IsSome, IfSome, unwrap_or, String, string_bytes, BTreeMap}
 use Rattle.std.specs.Str.{bytes_eq}
 use Rattle.std.specs.String.{string_cmp}
 use Rattle.std.specs.declared.alloc.Global.{Global}
@@ -8,23 +8,18 @@ use Rattle.std.specs.Map.{lookup, keys_of}
 use Rattle.std.specs.BTreeMap.{is_at, get_by_text, IsOrdered}
 use Rattle.std.specs.List.{list_any, AllByRecursion}
 use Rattle.std.specs.List.Sorted.{IsStrictlySortedBy}
-use Rattle.std.specs.Cmp.Lexicographic.{slice_cmp, nat_list_eq_equiv, bytes_decides}
+use Rattle.std.specs.Cmp.Lexicographic.{slice_cmp, bytes_decides}
 use Rattle.std.specs.Ordering.{nat_cmp, is_eq}
 use Rattle.std.proofs.lemmas.Map.Text.{is_eq-slice_cmp}
-use Rattle.piece_collector.specs.Views.{SlotView, BoardView, TextAt, text_in, as_lent, seen, slot_of, done_at, is_unheld, AreCurrent}
-use Rattle.piece_collector.specs.Lending.{emptied, piece_in, TakesAll, put_back}
+use Rattle.piece_collector.specs.Views.{SlotView, BoardView, TextAt, text_in, as_lent, seen, slot_of, AreCurrent}
+use Rattle.piece_collector.specs.Lending.{emptied, piece_in, TakesAll}
 use Rattle.piece_collector.specs.History.{Standing, stands_at}
 use Rattle.piece_collector.specs.Events.{Event}
-use Rattle.piece_collector.specs.Board.{IsAfter, slot_at, current_text, text_for, IsFull, IsTextsOf, IsTextsIn, Ascends}
+use Rattle.piece_collector.specs.Board.{IsAfter, slot_at, current_text, text_for, IsFull, IsTextsOf, IsTextsIn}
 use Rattle.piece_collector.proofs.Index.{opened, slot_lent}
-use Rattle.piece_collector.proofs.Listed.{joined}
-
-pub emptied_done : (p q : List ℕ) (s : Option SlotView) → option_map emptied (done_at p emptied q s) ≡ option_map emptied s
-emptied_done p q None = refl
-emptied_done p q (Some s) = elim (bytes_eq p q) as (λ b. Some (emptied (cond b (emptied s) s)) ≡ Some (emptied s)) [ true ↦ refl | false ↦ refl ]
 
 -- a path among those that come after k is not k
-apart : (k p : List ℕ) (ps : List (List ℕ)) → AllByRecursion (λ y. slice_cmp nat_cmp k y ≡ Less) ps → IsTrue (list_any (bytes_eq p) ps) → bytes_eq k p ≡ false
+pub apart : (k p : List ℕ) (ps : List (List ℕ)) → AllByRecursion (λ y. slice_cmp nat_cmp k y ≡ Less) ps → IsTrue (list_any (bytes_eq p) ps) → bytes_eq k p ≡ false
 apart k p [] a i = absurd (cc)
 apart k p (x ∷ ps) a i = at (bytes_eq p x) refl i (apart k p ps a.1)
   where
@@ -36,7 +31,7 @@ apart k p (x ∷ ps) a i = at (bytes_eq p x) refl i (apart k p ps a.1)
     at true e i f = ap (bytes_eq k) ((bytes_decides p x).0 e) ∙ less (bytes_eq k x) refl
     at false e i f = f i
 
-same_pieces : (A B : List ℕ → Option SlotView) (ps : List (List ℕ)) → ((p : List ℕ) → IsTrue (list_any (bytes_eq p) ps) → piece_in (B p) ≡ piece_in (A p)) → map (λ p. piece_in (B p)) ps ≡ map (λ p. piece_in (A p)) ps
+pub same_pieces : (A B : List ℕ → Option SlotView) (ps : List (List ℕ)) → ((p : List ℕ) → IsTrue (list_any (bytes_eq p) ps) → piece_in (B p) ≡ piece_in (A p)) → map (λ p. piece_in (B p)) ps ≡ map (λ p. piece_in (A p)) ps
 same_pieces A B [] h = refl
 same_pieces A B (x ∷ ps) h = λ i. h x (rw ((bytes_decides x x).1 refl) refl) i ∷ same_pieces A B ps (λ p j. h p (right (bytes_eq p x) j)) i
   where
@@ -44,31 +39,9 @@ same_pieces A B (x ∷ ps) h = λ i. h x (rw ((bytes_decides x x).1 refl) refl) 
     right true j = refl
     right false j = j
 
-in_tail : (b : Bool) {c : Bool} → IsTrue c → IsTrue (b || c)
+pub in_tail : (b : Bool) {c : Bool} → IsTrue c → IsTrue (b || c)
 in_tail true j = refl
 in_tail false j = j
-
-some_joined : (xs : List TextAt) (t : TextAt) → map {B = Option TextAt} Some (xs ++ t ∷ []) ≡ map {B = Option TextAt} Some xs ++ Some t ∷ []
-some_joined [] t = refl
-some_joined (x ∷ xs) t = ap (λ l. Some x ∷ l) (some_joined xs t)
-
--- the piece of one path more was taken
-pub take_more : (A B : List ℕ → Option SlotView) (k : List ℕ) (ps : List (List ℕ)) (old old' new : List TextAt) → ((q : List ℕ) → B q ≡ done_at k emptied q (A q)) → old' ≡ old ++ option_to_list (piece_in (A k))
-    → TakesAll B ps old' new → TakesAll A (k ∷ ps) old new
-unfolding IsStrictlySortedBy
-take_more A B k ps old old' new put is takes sorted has =
-    let stays : (p : List ℕ) → IsTrue (list_any (bytes_eq p) ps) → piece_in (B p) ≡ piece_in (A p) = λ p i. ap piece_in (put p) ∙ other p (A p) (apart k p ps sorted.0 i) in
-    let r : map {B = Option TextAt} Some new ≡ map {B = Option TextAt} Some old' ++ map (λ p. piece_in (B p)) ps = takes sorted.1 (λ p i. ap is_some (stays p i) ∙ has p (in_tail (bytes_eq p k) i)) in
-    r ∙ (at (piece_in (A k)) refl (has k (rw ((bytes_decides k k).1 refl) refl)) is ∙ ap (λ l. map {B = Option TextAt} Some old ++ piece_in (A k) ∷ l) (same_pieces A B ps stays))
-  where
-    other : (p : List ℕ) (s : Option SlotView) → bytes_eq k p ≡ false → piece_in (done_at k emptied p s) ≡ piece_in s
-    other p None e = refl
-    other p (Some s) e = rw e refl
-
-    at : (o : Option TextAt) → piece_in (A k) ≡ o → is_some o ≡ true → old' ≡ old ++ option_to_list o
-        → map {B = Option TextAt} Some old' ++ map (λ p. piece_in (B p)) ps ≡ map {B = Option TextAt} Some old ++ o ∷ map (λ p. piece_in (B p)) ps
-    at None e h is = absurd (cc)
-    at (Some t) e h is = ap (λ l. map {B = Option TextAt} Some l ++ map (λ p. piece_in (B p)) ps) is ∙ (ap (λ l. l ++ map (λ p. piece_in (B p)) ps) (some_joined old t) ∙ joined (map {B = Option TextAt} Some old) (Some t ∷ []) (map (λ p. piece_in (B p)) ps))
 
 ordered_bytes : (k : String Global) (es : List (String Global × SlotView)) → AllByRecursion (λ y. string_cmp k y ≡ Less) (keys_of es) → AllByRecursion (λ y. slice_cmp nat_cmp (string_bytes k) y ≡ Less) (map (λ e. string_bytes e.0) es)
 ordered_bytes k [] a = tt
@@ -179,63 +152,3 @@ stands_lent v w b o es is s = record { last = ap (λ x. x.last) is ∙ s.last; e
 -- nor is it anything of its texts
 pub texts_lent : (v w : BoardView) (b : Bool) (ts : List TextAt) → w ≡ record v { is_lent = b } → IsTextsIn v ts → IsTextsIn w ts
 texts_lent v w b ts is t = record { ascends = t.ascends; each = λ p. t.each p ∙ ap (λ x. option_map (text_in p) (slot_of p x)) (sym is) }
-
--- putting back
-
-no_text : (p k : List ℕ) (ts : List TextAt) → AllByRecursion (λ y. slice_cmp nat_cmp k y ≡ Less) (map (λ t. t.path) ts) → bytes_eq k p ≡ true → text_for p ts ≡ None
-no_text p k [] a e = refl
-no_text p k (t ∷ ts) a e = at (bytes_eq p t.path) refl (no_text p k ts a.1 e)
-  where
-    at : (b : Bool) → bytes_eq p t.path ≡ b → text_for p ts ≡ None → cond b (Some t) (text_for p ts) ≡ None
-    at true d r = absurd (let x : bytes_eq k t.path ≡ true = ap (bytes_eq k) (sym ((bytes_decides p t.path).0 d)) ∙ e in let y : true ≡ false = sym x ∙ (sym (is_eq-slice_cmp k t.path) ∙ ap is_eq a.0) in cc)
-    at false d r = r
-
-not_put : (p : List ℕ) (ts : List TextAt) (s : Option SlotView) → text_for p ts ≡ None → put_back ts p s ≡ s
-not_put p [] s e = refl
-not_put p (t ∷ ts) s e = at (bytes_eq p t.path) refl (nat_list_eq_equiv.symm p t.path) e (not_put p ts s)
-  where
-    stays : (s : Option SlotView) → bytes_eq t.path p ≡ false → done_at t.path (λ s. record s { piece = Some t }) p s ≡ s
-    stays None d = refl
-    stays (Some s) d = rw d refl
-
-    at : (b : Bool) → bytes_eq p t.path ≡ b → bytes_eq p t.path ≡ bytes_eq t.path p → cond (bytes_eq p t.path) (Some t) (text_for p ts) ≡ None → (text_for p ts ≡ None → put_back ts p s ≡ s) → put_back ts p (done_at t.path (λ s. record s { piece = Some t }) p s) ≡ s
-    at true d f e r = absurd (let x : Some t ≡ None = rw d at e in cc)
-    at false d f e r = ap (put_back ts p) (stays s (sym f ∙ d)) ∙ r (rw d at e)
-
--- the slot of p has the piece for p
-put : (p : List ℕ) (ts : List TextAt) (s : SlotView) (u : TextAt) → Ascends ts → text_for p ts ≡ Some u → put_back ts p (Some s) ≡ Some (record s { piece = Some u })
-unfolding IsStrictlySortedBy
-put p [] s u a e = absurd (cc)
-put p (t ∷ ts) s u a e = at (bytes_eq p t.path) refl (nat_list_eq_equiv.symm p t.path) e (put p ts s u a.1)
-  where
-    at : (b : Bool) → bytes_eq p t.path ≡ b → bytes_eq p t.path ≡ bytes_eq t.path p → cond (bytes_eq p t.path) (Some t) (text_for p ts) ≡ Some u → (text_for p ts ≡ Some u → put_back ts p (Some s) ≡ Some (record s { piece = Some u }))
-        → put_back ts p (Some (cond (bytes_eq t.path p) (record s { piece = Some t }) s)) ≡ Some (record s { piece = Some u })
-    at true d f e r =
-        let x : Some t ≡ Some u = rw d at e in
-        ap (λ b. put_back ts p (Some (cond b (record s { piece = Some t }) s))) (sym f ∙ d) ∙ (not_put p ts (Some (record s { piece = Some t })) (no_text p t.path ts a.0 (sym f ∙ d)) ∙ ap (λ w. Some (record s { piece = w })) x)
-    at false d f e r = ap (λ b. put_back ts p (Some (cond b (record s { piece = Some t }) s))) (sym f ∙ d) ∙ r (rw d at e)
-
-put_none : (p : List ℕ) (ts : List TextAt) → put_back ts p None ≡ None
-put_none p [] = refl
-put_none p (t ∷ ts) = put_none p ts
-
--- after the lent texts were put back each slot is as it was seen
-pub back_at : (m n : BTreeMap (String Global) SlotView) (last : ℕ) (l : Bool) (v : BoardView) (ts : List TextAt) → seen last m l ≡ v → v.is_lent ≡ true → IsTextsIn v ts
-    → ((q : List ℕ) → get_by_text n q ≡ put_back ts q (get_by_text m q)) → (p : List ℕ) → (get_by_text n p ≡ slot_of p v) × (is_unheld (get_by_text n p) ≡ false) × IfSome (get_by_text n p) (λ s. IfSome s.piece (λ piece. piece ≡ text_in p s))
-back_at m n last l v ts is here texts back p =
-    let seen_as : slot_of p v ≡ option_map (as_lent p) (get_by_text m p) = ap (slot_of p) (sym is) ∙ slot_lent last m l p (ap (λ b. b.is_lent) is ∙ here) in
-    let done : put_back ts p (get_by_text m p) ≡ option_map (as_lent p) (get_by_text m p) = at (get_by_text m p) (texts.each p ∙ ap (option_map (text_in p)) seen_as) in
-    let Q : Option SlotView → Type 0 = λ w. IfSome w (λ s. IfSome s.piece (λ piece. piece ≡ text_in p s)) in
-    (back p ∙ (done ∙ sym seen_as), ap is_unheld (back p ∙ done) ∙ held (get_by_text m p), subst Q (sym (back p ∙ done)) (current (get_by_text m p)))
-  where
-    at : (w : Option SlotView) → text_for p ts ≡ option_map (text_in p) (option_map (as_lent p) w) → put_back ts p w ≡ option_map (as_lent p) w
-    at None e = put_none p ts
-    at (Some s) e = put p ts s (text_in p s) texts.ascends e
-
-    held : (w : Option SlotView) → is_unheld (option_map (as_lent p) w) ≡ false
-    held None = refl
-    held (Some s) = refl
-
-    current : (w : Option SlotView) → IfSome (option_map (as_lent p) w) (λ s. IfSome s.piece (λ piece. piece ≡ text_in p s))
-    current None = tt
-    current (Some s) = refl

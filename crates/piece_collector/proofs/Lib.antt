@@ -1,10 +1,12 @@
 mod Current
+mod Emptied
 mod Histories
 mod Index
 mod Lends
 mod Listed
 mod Next
 mod Passed
+mod PutBack
 mod Same
 mod Search
 mod Standing

@@ -216,9 +216,9 @@ impl<W: Work> Board<W> {
         ensures lent { OnOk result (self.new ≡ record self.old { is_lent = true }) }
         ensures err { OnErr result (self.new ≡ self.old) }
     {
-        let paths = slots::paths(self.alloc, &self.slots)?;
-        let mut pieces = Vec::with_capacity(self.alloc, paths.len())?;
-        slots::take_all(&mut self.slots, paths, &mut pieces);
+        let mut pieces = Vec::with_capacity(self.alloc, self.slots.len())?;
+        let kept = Vec::with_capacity(self.alloc, self.slots.len())?;
+        slots::take_all(self.alloc, &mut self.slots, kept, &mut pieces);
         self.is_lent = true;
         Ok(Lent::of(pieces))
     }

@@ -1,12 +1,13 @@
 // The slots of the known paths, and what is done to one of them.
-ghost use Rattle.std.specs.Prelude.{◌≡◌, ℕ, List, Some, None, true, false, string_bytes, option_map, IfOk, IfSome, OnOk, map, vec_len, vec_capacity, ◌+◌, ◌≤◌, ◌<◌, ◌++◌, option_to_list, is_none, option_copied, IsTrue};
-ghost use Rattle.std.specs.BTreeMap.{get_by_text, keys};
+ghost use Rattle.std.specs.Prelude.{◌≡◌, ℕ, List, [], Some, None, true, false, string_bytes, option_map, IfOk, IfSome, map, vec_len, vec_capacity, ◌+◌, ◌≤◌, ◌++◌, is_none, option_copied, IsTrue};
+ghost use Rattle.std.specs.BTreeMap.{get_by_text, keys, values, btree_map_len};
 ghost use Rattle.std.specs.BTreeMap.{IsOrdered as IsOrderedMap};
 ghost use Rattle.std.specs.BTreeSet.{IsOrdered};
-ghost use Rattle.piece_collector.specs.Lending.{TakesAll, emptied, piece_in, put_back};
+ghost use Rattle.piece_collector.specs.Lending.{TakesAll, TakesNext, IsPlaced, placed, pieces_in, emptied, given};
 ghost use Rattle.std.specs.String.{string_cmp};
+ghost use Rattle.std.specs.Vec.Iter.{into_iter_items};
 ghost use Rattle.std.specs.List.{find};
-ghost use Rattle.piece_collector.specs.Views.{SlotView, done_at, is_wanting, is_unheld, failure_at, verdict_at, IsNoneWantedBefore};
+ghost use Rattle.piece_collector.specs.Views.{done_at, is_wanting, is_unheld, failure_at, verdict_at, IsNoneWantedBefore};
 ghost use Rattle.piece_collector.specs.History.{is_before};
 
 use crate::job::Job;
@@ -15,6 +16,7 @@ use crate::slot::Slot;
 use crate::verdict::Verdict;
 use std::alloc::{AllocError, Global};
 use std::collections::{BTreeMap, BTreeSet};
+use std::mem::replace;
 
 /// A job for the path is out, or isn't.
 pub fn set_out<W: Work>(slots: &mut BTreeMap<String, Slot<W>>, path: &str, is_out: bool)
@@ -34,18 +36,6 @@ pub fn keep<W: Work>(slots: &mut BTreeMap<String, Slot<W>>, piece: Piece<W>)
     if let Some(slot) = slots.get_mut(piece.path()) {
         slot.keep(piece);
     }
-}
-
-/// Takes the piece of a path.
-fn take_piece<W: Work>(slots: &mut BTreeMap<String, Slot<W>>, path: &str) -> Option<Piece<W>>
-    ensures piece { result ≡ piece_in (get_by_text slots.old path.now) }
-    ensures rest { (q : List ℕ) → get_by_text slots.new q ≡ done_at path.now (λ s. record s { piece = None }) q (get_by_text slots.old q) }
-    ensures keys { keys slots.new ≡ keys slots.old }
-{
-    let Some(slot) = slots.get_mut(path) else {
-        return None;
-    };
-    slot.take_piece()
 }
 
 /// What a failure of the path is answered.
@@ -159,67 +149,81 @@ pub fn look_back(from: &mut String, path: &str)
     }
 }
 
-/// The known paths, in order.
-pub fn paths<W: Work>(
-    alloc: Global,
-    slots: &BTreeMap<String, Slot<W>>,
-) -> Result<Vec<String>, AllocError>
-    ensures paths { IfOk result (λ paths. map string_bytes paths.items ≡ map (λ e. string_bytes e.0) slots.now.entries) }
-    ensures ordered { OnOk result (IsOrderedMap string_cmp slots.now) }
+/// Puts these slots in the places of the present ones in turn, from the first path on.
+fn set_all<W: Work>(slots: &mut BTreeMap<String, Slot<W>>, kept: Vec<Slot<W>>)
+    ensures entries { slots.new.entries ≡ placed slots.old.entries kept.items }
+    ensures ordered { IsOrderedMap string_cmp slots.new }
 {
-    let mut paths = Vec::new(alloc);
-    for (path, _) in slots {
-        paths.push(path.clone()?)?;
-    }
-    Ok(paths)
+    let mut rest = kept.into_iter();
+    slots.retain(
+        |_, slot|
+            ensures stays { result ≡ true }
+            ensures next { IsPlaced (into_iter_items rest.entry) slot.old slot.new (into_iter_items rest.exit) }
+        {
+            if let Some(own) = rest.next() {
+                *slot = own;
+            }
+            true
+        },
+    );
 }
 
-/// Takes the pieces of these paths, where there is room for them.
-pub fn take_all<W: Work>(
+/// Takes all slots out, and their pieces of them, where there is room for them.
+fn empty_all<W: Work>(
+    alloc: Global,
     slots: &mut BTreeMap<String, Slot<W>>,
-    paths: Vec<String>,
+    kept: &mut Vec<Slot<W>>,
     pieces: &mut Vec<Piece<W>>,
 )
-    requires room { vec_len pieces.old + vec_len paths ≤ vec_capacity pieces.old }
+    requires beside { vec_len kept.old + btree_map_len slots.old ≤ vec_capacity kept.old }
+    requires room { vec_len pieces.old + btree_map_len slots.old ≤ vec_capacity pieces.old }
+    ensures kept { kept.new.items ≡ kept.old.items ++ map emptied (values slots.old) }
+    ensures taken { pieces.new.items ≡ pieces.old.items ++ pieces_in (values slots.old) }
+    ensures keys { keys slots.new ≡ keys slots.old }
+{
+    for slot in slots.values_mut() {
+        let mut own = replace(slot, Slot::new(String::new(alloc), 0));
+        if let Some(piece) = own.take_piece() {
+            pieces.push_reserved(piece);
+        }
+        kept.push_reserved(own);
+    }
+}
+
+/// Takes the pieces of all slots, where there is room for them, and for the slots meanwhile.
+pub fn take_all<W: Work>(
+    alloc: Global,
+    slots: &mut BTreeMap<String, Slot<W>>,
+    kept: Vec<Slot<W>>,
+    pieces: &mut Vec<Piece<W>>,
+)
+    requires none { kept.items ≡ [] }
+    requires beside { vec_len kept + btree_map_len slots.old ≤ vec_capacity kept }
+    requires room { vec_len pieces.old + btree_map_len slots.old ≤ vec_capacity pieces.old }
     ensures rest { (q : List ℕ) → option_map emptied (get_by_text slots.new q) ≡ option_map emptied (get_by_text slots.old q) }
-    ensures taken { TakesAll (get_by_text slots.old) (map string_bytes paths.items) pieces.old.items pieces.new.items }
+    ensures taken { TakesAll (get_by_text slots.old) (map (λ e. string_bytes e.0) slots.old.entries) pieces.old.items pieces.new.items }
     ensures keys { keys slots.new ≡ keys slots.old }
 {
-    for path in paths {
-        take_one(slots, path.as_str(), pieces);
-    }
+    let mut kept = kept;
+    empty_all(alloc, slots, &mut kept, pieces);
+    set_all(slots, kept);
 }
 
-/// Takes the piece of this path, if there is one.
-fn take_one<W: Work>(slots: &mut BTreeMap<String, Slot<W>>, path: &str, pieces: &mut Vec<Piece<W>>)
-    requires { vec_len pieces.old < vec_capacity pieces.old }
-    ensures rest { (q : List ℕ) → get_by_text slots.new q ≡ done_at path.now emptied q (get_by_text slots.old q) }
-    ensures taken { pieces.new.items ≡ pieces.old.items ++ option_to_list (piece_in (get_by_text slots.old path.now)) }
-    ensures len { vec_len pieces.new ≤ vec_len pieces.old + 1 }
-    ensures capacity { vec_capacity pieces.new ≡ vec_capacity pieces.old }
-    ensures keys { keys slots.new ≡ keys slots.old }
-{
-    if let Some(piece) = take_piece(slots, path) {
-        pieces.push_reserved(piece);
-    }
-}
-
-/// Puts a piece back.
-fn restore<W: Work>(slots: &mut BTreeMap<String, Slot<W>>, piece: Piece<W>)
-    ensures each { (q : List ℕ) → get_by_text slots.new q ≡ done_at piece.path (λ s. record s { piece = Some piece }) q (get_by_text slots.old q) }
-    ensures keys { keys slots.new ≡ keys slots.old }
-{
-    if let Some(slot) = slots.get_mut(piece.path()) {
-        slot.restore(piece);
-    }
-}
-
-/// Puts these pieces back, each at its path.
+/// Puts these pieces back in turn, from the first path on.
 pub fn restore_all<W: Work>(slots: &mut BTreeMap<String, Slot<W>>, pieces: Vec<Piece<W>>)
-    ensures each { (q : List ℕ) → get_by_text slots.new q ≡ put_back pieces.items q (get_by_text slots.old q) }
-    ensures keys { keys slots.new ≡ keys slots.old }
+    ensures entries { slots.new.entries ≡ given slots.old.entries pieces.items }
+    ensures ordered { IsOrderedMap string_cmp slots.new }
 {
-    for piece in pieces {
-        restore(slots, piece);
-    }
+    let mut rest = pieces.into_iter();
+    slots.retain(
+        |_, slot|
+            ensures stays { result ≡ true }
+            ensures next { TakesNext (into_iter_items rest.entry) slot.old slot.new (into_iter_items rest.exit) }
+        {
+            if let Some(piece) = rest.next() {
+                slot.restore(piece);
+            }
+            true
+        },
+    );
 }

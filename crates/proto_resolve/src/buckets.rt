@@ -20,7 +20,7 @@ pub struct Buckets {
     pub list: Vec<HashedDecls>,
 }
 
-// For so many declarations there is a bucket.
+// For so many declarations there is a bucket, or for up to twice as many: the number of buckets is a power of two.
 const DECLS_FOR_EACH: usize = 32;
 
 // The number of the bucket to which a hash belongs, of so many.
@@ -29,7 +29,13 @@ pub fn bucket_of(hash: u64, count: usize) -> usize
     ensures value { result ≡ hash % count }
     ensures within { result < count }
 {
-    (hash % count as u64) as usize
+    // Of a power of two the remainder is the lowest bits, and no division is needed.
+    let power = 1usize << count.ilog2();
+    if power == count {
+        (hash & (power as u64 - 1)) as usize
+    } else {
+        (hash % count as u64) as usize
+    }
 }
 
 // So many lists without an entry.
@@ -66,7 +72,11 @@ fn dealt(
     ensures len { IfOk result (λ v. vec_len v ≡ count) }
     ensures each { IfOk result (λ v. (n : ℕ) → n < count → slice_index_or (map (λ list. list.items) v.items) n [] ≡ filter (is_in count n) (flat_map (λ run. run.items) runs.now)) }
 {
-    let mut lists = empty_lists(alloc, count)?;
+    let mut lists = Vec::with_capacity(alloc, count)?;
+    for _list in 0..count {
+        // Twice as many come on average at most, and a quarter more to few buckets.
+        lists.push(Vec::with_capacity(alloc, 2 * DECLS_FOR_EACH + DECLS_FOR_EACH / 2)?)?;
+    }
     for run in runs {
         deal(run.as_slice(), &mut lists)?;
     }
@@ -87,7 +97,7 @@ fn put_in_order<O: EntryOrder>(
     apart(alloc, entries.as_slice())
 }
 
-// How many buckets the entries of runs get.
+// How many buckets the entries of runs get: a power of two, so that `bucket_of` divides nothing.
 fn bucket_count(runs: &[Vec<HashedDecl>]) -> usize
     ensures { 0 < result }
 {
@@ -95,7 +105,7 @@ fn bucket_count(runs: &[Vec<HashedDecl>]) -> usize
     for run in runs {
         entries = entries.saturating_add(run.len());
     }
-    (entries / DECLS_FOR_EACH).max(1)
+    1usize << (entries / DECLS_FOR_EACH).max(1).ilog2()
 }
 
 impl Buckets {

@@ -1,5 +1,5 @@
 -- What a change of the text of one file leaves as it was.
-use Rattle.std.proofs.Common.{◌≡◌, ◌≢◌, ◌<◌, ◌≤◌, ◌+◌, ◌==◌, ℕ, zero, suc, List, [], ◌∷◌, ◌++◌, Bool, true, false, not, Option, None, Some, Vec, Global, length, get_or, set, take, drop, map, refl, sym, ap, ap₂, ◌∙◌, arith, add-one, zero-add}
+use Rattle.std.proofs.Common.{◌≡◌, ◌≢◌, ◌<◌, ◌≤◌, ◌+◌, ◌==◌, ℕ, zero, suc, List, [], ◌∷◌, ◌++◌, Bool, true, false, not, Option, None, Some, length, get_or, set, take, drop, map, refl, subst, sym, ap, ap₂, ◌∙◌, arith, add-one, zero-add}
 use Rattle.std.specs.Prelude.{All, Contains, IfSome, MatchOption}
 use Rattle.std.specs.List.{enumerate_from, range_with_len}
 use Rattle.std.specs.List.Sorted.{IsStrictlyIncreasing}
@@ -16,6 +16,7 @@ use Rattle.piece_collector.specs.Views.{TextAt}
 use Rattle.syntax_tree.specs.Read.{value_tree}
 use Rattle.file_facts.specs.declared.fact.FileFacts.{FileFacts}
 use Rattle.file_facts.specs.Facts.{facts_of}
+use Rattle.file_facts.specs.Order.{in_order}
 use Rattle.import_graph.specs.declared.imports.FileImports.{FileImports}
 use Rattle.import_graph.specs.declared.paths.NamedFacts.{NamedFacts}
 use Rattle.import_graph.specs.Closures.{seers_of, sees, view_of}
@@ -24,15 +25,24 @@ use Rattle.import_graph.proofs.ImportEdges.{filter_from, filter_to}
 use Rattle.import_graph.proofs.OneView.{in_range, rising}
 use Rattle.file_facts.specs.declared.diagnostic.Diag.{Diag}
 use Rattle.proto_resolve.specs.declared.resolve.Links.{Links}
-use Rattle.proto_resolve.specs.Files.{all_decls, facts_at}
+use Rattle.proto_resolve.specs.Files.{all_decls, decls_at, facts_at}
 use Rattle.proto_resolve.specs.Names.{is_seen}
 use Rattle.proto_resolve.specs.Outlines.{import_outline, with_facts}
 use Rattle.proto_resolve.specs.Seen.{exports, SeesTheSame, SeenLaw}
+use Rattle.proto_resolve.specs.Resolved.{sites_at}
+use Rattle.proto_resolve.specs.Sites.{names_of_file}
 use Rattle.proto_resolve.proofs.Outlines.{asking, same_graph}
-use Rattle.work_index.specs.Changes.{DifferAt, with_text}
+use Rattle.link_changes.specs.declared.asked.Asked.{Asked}
+use Rattle.link_changes.specs.declared.renumbering.Renumbering.{Renumbering}
+use Rattle.link_changes.specs.declared.touched.Touched.{Touched}
+use Rattle.link_changes.specs.Asked.{has_all, names_asked}
+use Rattle.link_changes.specs.Laws.{DifferBy, TouchedLaw}
+use Rattle.link_changes.specs.Touched.{decl_after, links_after, Tells}
+use Rattle.work_index.specs.Changes.{DifferAt, IsMoved, with_text}
+use Rattle.work_index.specs.declared.again.Told.{Told}
 use Rattle.work_index.specs.declared.again.FileChange.{FileChange}
 use Rattle.work_index.specs.Pieces.{workspace_of}
-use Rattle.work_index.specs.Workspace.{Workspace, AnalysisData, all_facts, analysis, diagnostics_of, resolution_of, merged, named_facts}
+use Rattle.work_index.specs.Workspace.{Workspace, AnalysisData, all_facts, analysis, asked_of, diagnostics_of, resolution_of, merged, named_facts}
 
 -- ---- a list that is changed from the front on
 
@@ -54,6 +64,12 @@ mixed_length [] [] (suc n) long = refl
 mixed_length [] (v ∷ b) (suc n) long = absurd (omega (arith, long))
 mixed_length (u ∷ a) [] (suc n) long = absurd (omega (arith, long))
 mixed_length (u ∷ a) (v ∷ b) (suc n) long = ap suc (mixed_length a b n (omega (arith, long)))
+
+at_seam : {X : Type 0} (a b : List X) (n : ℕ) (d : X) → n < length a → length a ≡ length b → get_or (take n a ++ drop n b) n d ≡ get_or b n d
+at_seam [] b n d there long = absurd (omega (arith, there))
+at_seam (u ∷ a) [] n d there long = absurd (omega (arith, long))
+at_seam (u ∷ a) (v ∷ b) zero d there long = refl
+at_seam (u ∷ a) (v ∷ b) (suc n) d there long = at_seam a b n d (omega (arith, there)) (omega (arith, long))
 
 -- in the end all elements are the new ones
 all_new : {X : Type 0} (a b : List X) (n : ℕ) → length a ≡ length b → length a ≤ n → take n a ++ drop n b ≡ a
@@ -108,6 +124,13 @@ module _ {X : Type 0} (f g : ℕ × (List ℕ × List ℕ) → X) (b w : Workspa
 
   pub is_there : n < length w → n < length now
   is_there there = omega (arith, there, many)
+
+  -- the next one is still the old one
+  pub still_old : n < length w → (d : X) → get_or now n d ≡ f (n, get_or b n nothing)
+  still_old there d =
+      ap (λ xs. get_or xs n d) mixed
+      ∙ at_seam (made g w) (made f b) n d (omega (arith, there, made_length g w)) (made_length g w ∙ sym long ∙ sym (made_length f b))
+      ∙ made_at f b n d (omega (arith, there, long))
 
   pub all_made : length w ≤ n → now ≡ made g w
   all_made end' = mixed ∙ all_new (made g w) (made f b) n (made_length g w ∙ sym long ∙ sym (made_length f b)) (omega (arith, end', made_length g w))
@@ -167,6 +190,12 @@ kept_count old new change differ = by change.before differ.graph
 pub kept_as : {X Y : Type 0} (of : X → Y) (o : Option X) (A B : Type 0) (old new : Y) → (A → B) → old ≡ new → MatchOption o A (λ x. of x ≡ old) → MatchOption o B (λ x. of x ≡ new)
 kept_as of None A B old new follows same h = follows h
 kept_as of (Some x) A B old new follows same h = h ∙ same
+
+-- what is told with what is touched is still so by what is equal
+pub told_as : (o : Option Told) (A B : Type 0) (before after : List ℕ) (touched : Option Touched) (Tell : Touched → Type 0) → (A → B) → before ≡ after → IfSome touched Tell
+    → MatchOption o A (λ t. (t.seers.items ≡ before) × (t.touched ≡ touched)) → MatchOption o B (λ t. (t.seers.items ≡ after) × IfSome t.touched Tell)
+told_as None A B before after touched Tell follows same tells h = follows h
+told_as (Some t) A B before after touched Tell follows same tells h = (h.0 ∙ same, subst (λ found. IfSome found Tell) (sym h.1) tells)
 
 -- ---- the files that see a changed file
 
@@ -232,14 +261,17 @@ module _ (w : Workspace) (file : ℕ) (text : List ℕ) where
   graph_kept None there imports = graph_stays there imports
   graph_kept (Some g) there is = is
 
-  pub differ : (graph : Option (List FileImports)) (seers : Option (Vec ℕ Global)) → file < length w → MatchOption graph ImportsStay (λ g. g ≡ graph_of (all_facts before))
-      → MatchOption seers (exports (facts_at (all_facts before) file) ≡ exports (facts_at (all_facts w) file)) (λ seers. seers.items ≡ seers_of (graph_of (all_facts w)) file)
-      → DifferAt (all_facts before) (all_facts w) (record { file = file; seers = seers; before = graph })
-  differ graph seers there kept told = record {
+  abbrev ToldAfter : Option Told → Type 0
+  ToldAfter told = MatchOption told (exports (facts_at (all_facts before) file) ≡ exports (facts_at (all_facts w) file)) (λ told.
+      (told.seers.items ≡ seers_of (graph_of (all_facts w)) file) × IfSome told.touched (Tells file (facts_at (all_facts before) file) (facts_at (all_facts w) file)))
+
+  pub differ : (graph : Option (List FileImports)) (told : Option Told) → file < length w → MatchOption graph ImportsStay (λ g. g ≡ graph_of (all_facts before))
+      → ToldAfter told → DifferAt (all_facts before) (all_facts w) (record { file = file; told = told; before = graph })
+  differ graph told there kept tells = record {
     files = length-map before named_facts ∙ before_length ∙ sym (length-map w named_facts);
     graph = graph_kept graph there kept;
     others = λ g apart. ap (λ files. facts_at files g) facts_before ∙ others_stay (all_facts w) file g (facts_of text) apart;
-    seers = told;
+    told = tells;
   }
 
   -- the table with the facts of the changed file is that after the change
@@ -262,6 +294,38 @@ module _ (w : Workspace) (file : ℕ) (text : List ℕ) where
 
     pub diagnostics_stay : diagnostics_of before (n, get_or before n nothing) ≡ diagnostics_of w (n, get_or w n nothing)
     diagnostics_stay = ap₂ (λ (x : List ℕ × List ℕ) links. merged (facts_of x.1) links) (other_before n apart) links_stay
+
+  -- one that is spared is linked as before but for the numbers
+  module _ (law : TouchedLaw) (change : FileChange) (is : change.file ≡ file) (differs : DifferAt (all_facts before) (all_facts w) change) (n : ℕ) (asked : Asked) (by : Renumbering)
+      (moved : IsMoved (all_facts before) (all_facts w) change n asked by) (own : facts_at (all_facts w) n ≡ facts_of (let u = get_or w n nothing in u.1))
+      (has : has_all asked (asked_of (let u = get_or w n nothing in u.1)) ≡ true) where
+    abbrev text_there : List ℕ
+    text_there = let u = get_or w n nothing in u.1
+
+    asked_same : names_asked (sites_at (all_facts w) n text_there (value_tree text_there)) (decls_at (all_facts w) n) ≡ asked_of text_there
+    asked_same = ap (λ (facts : FileFacts). let tree = value_tree text_there in names_asked (names_of_file text_there facts tree.nodes) facts.decls) own
+
+    by_law : resolution_of w (n, get_or w n nothing) ≡ links_after (decl_after by) (resolution_of before (n, get_or w n nothing))
+    by_law =
+        let touched = moved.touched in
+        let there : (let by = touched.by in by.file) ≡ change.file = (let tells = moved.tells in tells.file_is) in
+        let differ_by : DifferBy (all_facts before) (all_facts w) touched = record {
+          files = differs.files;
+          others = λ g apart. differs.others g (λ same. apart (same ∙ sym there));
+          tells = subst (λ g. Tells g (facts_at (all_facts before) g) (facts_at (all_facts w) g) touched) (sym there) moved.tells;
+        } in
+        law (all_facts before) (all_facts w) touched n asked text_there (value_tree text_there) (λ same. moved.other (same ∙ there)) differ_by moved.imports
+        (rw asked_same has) moved.untouched
+        ∙ ap (λ by. links_after (decl_after by) (resolution_of before (n, get_or w n nothing))) moved.by_is
+
+    pub links_moved : links_after (decl_after by) (resolution_of before (n, get_or before n nothing)) ≡ resolution_of w (n, get_or w n nothing)
+    links_moved = ap (λ x. links_after (decl_after by) (resolution_of before (n, x))) (other_before n (λ same. moved.other (same ∙ sym is))) ∙ sym by_law
+
+    pub moved_diagnostics_stay : diagnostics_of before (n, get_or before n nothing) ≡ diagnostics_of w (n, get_or w n nothing)
+    moved_diagnostics_stay =
+        ap₂ (λ (x : List ℕ × List ℕ) (diags : List Diag). in_order ((let facts = facts_of x.1 in facts.diags) ++ diags))
+        (other_before n (λ same. moved.other (same ∙ sym is)))
+        (ap (λ (links : Links). links.diags) links_moved)
 
 -- ---- the table of an analysis
 

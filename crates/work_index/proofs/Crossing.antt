@@ -20,6 +20,7 @@ use Rattle.syntax_tree.proofs.node.TypeName.TheSendSync as TypeName
 use Rattle.sqlite_items.proofs.boxed.Boxed.TheSendSync as Boxed
 use Rattle.sqlite_items.proofs.items.Items.TheSendSync as Items
 use Rattle.import_graph.proofs.shared_facts.SharedFacts.TheSendSync as SharedFacts
+use Rattle.link_changes.proofs.asked.Asked.TheSendSync as Asked
 use Rattle.proto_resolve.proofs.table.Table.TheSendSync as Table
 use Rattle.proto_resolve.proofs.resolve.Links.TheSendSync as Links
 use Rattle.file_facts.proofs.diagnostic.Diag.TheSendSync as Diag
@@ -39,7 +40,7 @@ tree_field_send : IsSend (FileTree.the_field).row
 tree_field_send = search (sendable, node_send, Items.the_send, Fault.the_send) depth 20
 
 out_field_send : IsSend (FileOut.the_field).row
-out_field_send = struct_send (shape FileOut.the_type) (tree_field_send, (search (sendable, SharedFacts.the_send) depth 20, tt))
+out_field_send = struct_send (shape FileOut.the_type) (tree_field_send, (search (sendable, SharedFacts.the_send) depth 20, (Asked.the_field_send, tt)))
 
 pub out_send : IsSend FileOut.the_row
 out_send = search (sendable, out_field_send) depth 20

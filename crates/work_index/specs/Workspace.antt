@@ -13,6 +13,8 @@ use Rattle.proto_resolve.specs.declared.target.DeclRef.{DeclRef}
 use Rattle.proto_resolve.specs.declared.resolve.Links.{Links}
 use Rattle.proto_resolve.specs.Files.{all_decls, no_facts, no_decl}
 use Rattle.proto_resolve.specs.Resolved.{resolved}
+use Rattle.proto_resolve.specs.Sites.{names_of_file}
+use Rattle.link_changes.specs.Asked.{names_asked}
 
 -- a workspace: the paths of its files, by their bytes, each with its text
 abbrev pub Workspace : Type 0
@@ -28,6 +30,10 @@ all_facts w = map named_facts w
 -- the uses of names in a file, given its number, and what is wrong by what it sees
 abbrev pub resolution_of : Workspace → ℕ × (List ℕ × List ℕ) → Links
 resolution_of w file = resolved (all_facts w) file.0 file.1.1 (value_tree file.1.1)
+
+-- the full names for which a file with a text asks
+abbrev pub asked_of : List ℕ → List (List ℕ)
+asked_of text = let facts = facts_of text in let tree = value_tree text in names_asked (names_of_file text facts tree.nodes) facts.decls
 
 -- what is wrong by itself and by what is seen: each once, in order
 abbrev pub merged : FileFacts → Links → List Diag

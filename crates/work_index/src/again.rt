@@ -1,5 +1,5 @@
 // The analysis of a workspace after a change of one file's text.
-ghost use Rattle.std.specs.Prelude.{◌≡◌, ◌≢◌, ◌<◌, List, All, false, length, map, slice_set, IfOk, IfSome, MatchOption, OnOk, IsTrue};
+ghost use Rattle.std.specs.Prelude.{◌≡◌, ◌<◌, List, All, Some, false, length, map, slice_index_or, slice_set, IfOk, IfSome, MatchOption, OnOk, IsTrue};
 ghost use Rattle.std.specs.List.{enumerate_from};
 ghost use Rattle.import_graph.specs.declared.paths.NamedFacts.{NamedFacts};
 ghost use Rattle.import_graph.specs.Closures.{seers_of, view_of};
@@ -7,18 +7,22 @@ ghost use Rattle.import_graph.specs.Imports.{graph_of};
 ghost use Rattle.import_graph.specs.Outlooks.{outlook};
 ghost use Rattle.proto_resolve.specs.Files.{facts_at};
 ghost use Rattle.proto_resolve.specs.Outlines.{import_outline};
-ghost use Rattle.proto_resolve.specs.Seen.{exports, SeesTheSame, SeenLaw};
-ghost use Rattle.work_index.specs.Changes.{AreBefore, AreLinkedBefore, DifferAt, IsBefore};
+ghost use Rattle.proto_resolve.specs.Seen.{exports, SeenLaw};
+ghost use Rattle.link_changes.specs.Laws.{TouchedLaw};
+ghost use Rattle.link_changes.specs.Touched.{decl_after, links_after};
+ghost use Rattle.work_index.specs.declared.again.FileChange.{FileChange};
+ghost use Rattle.work_index.specs.Changes.{AreBefore, AreLinkedBefore, DifferAt, Follows, IsBefore, IsSpared};
 ghost use Rattle.work_index.specs.Pieces.{workspace_of};
 ghost use Rattle.work_index.specs.Workspace.{Workspace, all_facts, analysis, diagnostics_of, resolution_of};
 
 use crate::analyse::{diagnostics_of, resolution_of};
 use crate::analysis::{Analysis, Resolutions};
-use crate::file_work::{FileWork, shared_in};
+use crate::file_work::{FileWork, asked_in, shared_in};
 use file_facts::FileFacts;
 use import_graph::{FileNo, Graph, SharedFacts, same_outlook};
+use link_changes::{Asked, Renumbering, Touched, moves_any, renumbered_links, touched_law};
 use piece_collector::Piece;
-use proto_resolve::{Index, Table, same_exports, same_imports, seen_law};
+use proto_resolve::{Index, Links, Table, same_exports, same_imports, seen_law};
 use std::alloc::{AllocError, Global};
 
 // What a change of one file's text may change for the other files.
@@ -26,10 +30,30 @@ use std::alloc::{AllocError, Global};
 struct FileChange {
     // The number of the file.
     file: usize,
-    // The files that see it, ascending, where it says another thing than before to them.
-    seers: Option<Vec<FileNo>>,
+    // To whom it says another thing than before, if to any.
+    told: Option<Told>,
     // The graph of imports before the change, where that may be another one than after it.
     before: Option<Graph>,
+}
+
+// The files that see a changed one, which says another thing than before to them.
+#[derive(Drop)]
+struct Told {
+    // Their numbers, ascending.
+    seers: Vec<FileNo>,
+    // What the change touches, if that is little.
+    touched: Option<Touched>,
+}
+
+// What becomes of the links of a file.
+#[derive(Clone, Copy)]
+enum Effect {
+    // They stay as they are.
+    Stay,
+    // They stay but for the numbers of the changed file's declarations.
+    Move(Renumbering),
+    // The file has to be linked again.
+    Relink,
 }
 
 // Of what a changed file may say another thing than before.
@@ -53,27 +77,47 @@ fn looks_as_before(table: &Table, change: &FileChange, file: usize) -> Result<bo
     }
 }
 
-// Whether a file sees the changed one, and that says another thing than before to it.
-fn is_told(change: &FileChange, file: usize) -> bool
-    ensures { (old new : List NamedFacts) → DifferAt old new change.now → file < length new → result ≡ false → All (λ g. exports (facts_at old g) ≡ exports (facts_at new g)) (view_of (graph_of new) file) }
+// Whether a file sees the changed one.
+fn is_seer(told: &Told, file: usize) -> bool
+    ensures { (old new : List NamedFacts) (change : FileChange) → DifferAt old new change → change.told ≡ Some told.now → file < length new → result ≡ false → All (λ g. exports (facts_at old g) ≡ exports (facts_at new g)) (view_of (graph_of new) file) }
 {
-    match &change.seers {
-        Some(seers) => seers.as_slice().binary_search(&file).is_ok(),
-        None => false,
+    told.seers.as_slice().binary_search(&file).is_ok()
+}
+
+// How numbers change in the links of a file that sees a change and asks for these names, unless it may ask for a touched one.
+fn spared_by(told: &Told, asked: &Asked) -> Option<Renumbering>
+    ensures { IfSome result (IsSpared told.now asked.now) }
+{
+    match &told.touched {
+        Some(touched) if !asked.asks_for(touched) => Some(touched.by),
+        _ => None,
     }
 }
 
-// Whether a file has to be linked again after a change.
-fn is_affected(table: &Table, change: &FileChange, file: usize) -> Result<bool, AllocError>
+// What a change makes of the links of a file that asks for these names.
+fn effect_on(
+    table: &Table,
+    change: &FileChange,
+    file: usize,
+    asked: &Asked,
+) -> Result<Effect, AllocError>
     requires file { file < length table.now }
     requires as_many { IfSome change.now.before (λ graph. length graph ≡ length table.now) }
-    ensures other { IfOk result (λ affected. affected ≡ false → file ≢ change.now.file) }
-    ensures same { (old : List NamedFacts) → DifferAt old table.now change.now → IfOk result (λ affected. affected ≡ false → SeesTheSame old table.now file) }
+    ensures { (old : List NamedFacts) → DifferAt old table.now change.now → IfOk result (Follows old table.now change.now file asked.now) }
 {
     if file == change.file || !looks_as_before(table, change, file)? {
-        return Ok(true);
+        return Ok(Effect::Relink);
     }
-    Ok(is_told(change, file))
+    let Some(told) = &change.told else {
+        return Ok(Effect::Stay);
+    };
+    if !is_seer(told, file) {
+        return Ok(Effect::Stay);
+    }
+    match spared_by(told, asked) {
+        Some(by) => Ok(Effect::Move(by)),
+        None => Ok(Effect::Relink),
+    }
 }
 
 // Links a file again.
@@ -97,7 +141,26 @@ fn set_linked(
     Ok(())
 }
 
-// Links the changed file again, and the files to which the change may make a difference.
+// Gives the links of a file the numbers that declarations have now.
+fn set_renumbered(
+    alloc: Global,
+    by: &Renumbering,
+    file: usize,
+    resolutions: &mut Resolutions,
+) -> Result<(), AllocError>
+    requires { file < length resolutions.old.links }
+    ensures links { OnOk result ((d : Links) → resolutions.new.links ≡ slice_set resolutions.old.links file (links_after (decl_after by.now) (slice_index_or resolutions.old.links file d))) }
+    ensures diagnostics { OnOk result (resolutions.new.diagnostics ≡ resolutions.old.diagnostics) }
+{
+    let links = &resolutions.links.as_slice()[file];
+    if moves_any(by, links) {
+        let found = renumbered_links(alloc, by, links)?;
+        resolutions.links.set(file, found);
+    }
+    Ok(())
+}
+
+// Brings the links of all files up to the change: those of the changed file, and of those to which it may make a difference.
 fn relink(
     alloc: Global,
     table: &Table,
@@ -107,13 +170,16 @@ fn relink(
 ) -> Result<(), AllocError>
     requires table { table.now ≡ all_facts (workspace_of pieces.now) }
     requires before { AreLinkedBefore resolutions.old (workspace_of pieces.now) change.now }
-    requires law { SeenLaw }
+    requires seen_law { SeenLaw }
+    requires touched_law { TouchedLaw }
     ensures links { OnOk result (resolutions.new.links ≡ map (resolution_of (workspace_of pieces.now)) (enumerate_from 0 (workspace_of pieces.now))) }
     ensures diagnostics { OnOk result (resolutions.new.diagnostics ≡ map (diagnostics_of (workspace_of pieces.now)) (enumerate_from 0 (workspace_of pieces.now))) }
 {
     for (file, piece) in pieces.iter().enumerate() {
-        if is_affected(table, change, file)? {
-            set_linked(alloc, table, file, piece, resolutions)?;
+        match effect_on(table, change, file, asked_in(piece))? {
+            Effect::Stay => {}
+            Effect::Move(by) => set_renumbered(alloc, &by, file, resolutions)?,
+            Effect::Relink => set_linked(alloc, table, file, piece, resolutions)?,
         }
     }
     Ok(())
@@ -147,16 +213,21 @@ fn table_after(
     Ok((table, None))
 }
 
-// The files that see the changed one, where it tells them another thing than before.
-fn told_seers(table: &Table, changed: usize, tells: bool) -> Result<Option<Vec<FileNo>>, AllocError>
+// The files that see the changed one, if it tells them another thing than before, with what the change touches.
+fn told_by(
+    table: &Table,
+    changed: usize,
+    tells: bool,
+    touched: Option<Touched>,
+) -> Result<Option<Told>, AllocError>
     requires { changed < length table.now }
-    ensures { IfOk result (λ seers. MatchOption seers (tells ≡ false) (λ found. found.items ≡ seers_of (graph_of table.now) changed)) }
+    ensures { IfOk result (λ found. MatchOption found (tells ≡ false) (λ told. (told.seers.items ≡ seers_of (graph_of table.now) changed) × (told.touched ≡ touched))) }
 {
     if !tells {
         return Ok(None);
     }
     let seers = table.graph().seen_by(changed)?;
-    Ok(Some(seers))
+    Ok(Some(Told { seers, touched }))
 }
 
 // The facts of a piece, as what shares them.
@@ -177,8 +248,8 @@ fn facts_at<'p>(pieces: &'p [Piece<FileWork>], file: usize) -> &'p FileFacts
 
 /// The analysis of the workspace of some pieces, which are in the order of their paths, no path twice, after a change of the
 /// text of one file. It is given the analysis before the change, and the file's number, from 0. Links again only that file, the
-/// files of which the imports say another thing than before, and those that see it where it declares other things than before
-/// or has another package. An `Err` comes only where memory was refused.
+/// files of which the imports say another thing than before, and of those that see it the ones that may ask for a name that the
+/// change touches: all of them if it touches many names, or the package's. An `Err` comes only where memory was refused.
 pub fn analyse_again(
     alloc: Global,
     earlier: Analysis,
@@ -189,6 +260,7 @@ pub fn analyse_again(
     ensures { IfOk result (λ found. found ≡ analysis (workspace_of pieces.now)) }
 {
     seen_law();
+    touched_law();
     let Analysis {
         table,
         paths,
@@ -197,11 +269,13 @@ pub fn analyse_again(
     let facts = facts_at(pieces, changed);
     let imports = !same_imports(facts, table.facts(changed));
     let exports = !same_exports(facts, table.facts(changed));
+    let touched = Touched::of(alloc, changed, table.facts(changed), facts)?;
     let differences = Differences { imports, exports };
     let (table, before) = table_after(alloc, table, changed, differences, pieces)?;
+    let told = told_by(&table, changed, exports, touched)?;
     let change = FileChange {
         file: changed,
-        seers: told_seers(&table, changed, exports)?,
+        told,
         before,
     };
     relink(alloc, &table, &change, pieces, &mut resolutions)?;

@@ -1,10 +1,13 @@
 // The work on one file.
-ghost use Rattle.std.specs.Prelude.{◌≡◌, IfOk};
+ghost use Rattle.std.specs.Prelude.{◌≡◌, true, IfOk};
 ghost use Rattle.file_facts.specs.Facts.{facts_of};
+ghost use Rattle.link_changes.specs.Asked.{has_all};
 ghost use Rattle.syntax_tree.specs.Read.{value_tree};
+ghost use Rattle.work_index.specs.Workspace.{asked_of};
 
 use file_facts::FileFacts;
 use import_graph::SharedFacts;
+use link_changes::Asked;
 use piece_collector::{Piece, Work};
 use proto_facts::facts;
 use proto_syntax::parse_text;
@@ -18,9 +21,11 @@ pub struct FileOut {
     pub tree: FileTree,
     /// What the text says by itself.
     pub facts: SharedFacts,
+    /// For which full names the file asks.
+    pub asked: Asked,
 }
 
-/// The work on one file: its tokens, its tree and its facts.
+/// The work on one file: its tokens, its tree and its facts, and for which names it asks.
 #[derive(Drop)]
 pub struct FileWork {
     alloc: Global,
@@ -36,18 +41,25 @@ impl FileWork {
 }
 
 impl Work for FileWork {
-    ghost use Rattle.std.specs.Prelude.{◌≡◌};
+    ghost use Rattle.std.specs.Prelude.{◌≡◌, true};
     ghost use Rattle.file_facts.specs.Facts.{facts_of};
+    ghost use Rattle.link_changes.specs.Asked.{has_all};
     ghost use Rattle.syntax_tree.specs.Read.{value_tree};
+    ghost use Rattle.work_index.specs.Workspace.{asked_of};
 
     type Out = FileOut;
 
-    ghost is_product_of = { λ out text. (out.tree ≡ value_tree text) × (out.facts ≡ facts_of text) };
+    ghost is_product_of = { λ out text. (out.tree ≡ value_tree text) × (out.facts ≡ facts_of text) × (has_all out.asked (asked_of text) ≡ true) };
 
     fn work(&self, text: &str) -> Result<FileOut, AllocError> {
         let tree = tree_of(self.alloc, text)?;
-        let facts = SharedFacts::of(self.alloc, facts(self.alloc, text, &tree)?)?;
-        Ok(FileOut { tree, facts })
+        let facts = facts(self.alloc, text, &tree)?;
+        let asked = Asked::of(self.alloc, text, &facts, &tree)?;
+        Ok(FileOut {
+            tree,
+            facts: SharedFacts::of(self.alloc, facts)?,
+            asked,
+        })
     }
 }
 
@@ -74,6 +86,13 @@ pub fn shared_in(piece: &Piece<FileWork>) -> &SharedFacts
     ensures { result.now ≡ facts_of piece.now.text }
 {
     &piece.out().facts
+}
+
+// For which full names the file of a piece asks.
+pub fn asked_in(piece: &Piece<FileWork>) -> &Asked
+    ensures { has_all result.now (asked_of piece.now.text) ≡ true }
+{
+    &piece.out().asked
 }
 
 // The facts of a piece's text.

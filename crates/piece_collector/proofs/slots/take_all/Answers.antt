@@ -1,23 +1,25 @@
-use Rattle.std.proofs.Common.{◌≡◌, ◌∷◌, ◌++◌, ◌+◌, rules, arith, ap, sym, ◌∙◌, subst, List, ℕ, map, option_map, option_to_list, string_bytes}
-use Rattle.std.specs.Vec.Iter.{into_iter_items, into_iter_len}
-use Rattle.std.specs.BTreeMap.{get_by_text}
-use Rattle.piece_collector.specs.Views.{done_at}
-use Rattle.piece_collector.specs.Lending.{TakesAll, emptied, piece_in}
-use Rattle.piece_collector.proofs.Lends.{emptied_done, take_more}
+use Rattle.std.proofs.Common.{◌≡◌, ◌++◌, ap, ◌∙◌, map, option_map, string_bytes}
+use Rattle.std.specs.BTreeMap.{is_at, values}
+use Rattle.std.specs.Map.{lookup, keys_of}
+use Rattle.std.specs.Cmp.Lexicographic.{slice_cmp}
+use Rattle.std.specs.Ordering.{nat_cmp}
+use Rattle.std.proofs.lemmas.Map.Made.{lookup-map_values, keys_of-map_values}
+use Rattle.piece_collector.specs.Lending.{emptied, placed}
+use Rattle.piece_collector.proofs.Emptied.{placed_all, takes_all, emptied_twice}
 use Rattle.piece_collector.proofs.slots.take_all.Goals as goal
 
-pub loop-path-preserved : goal.loop-path-preserved
-loop-path-preserved g c =
-    let next : into_iter_items c.loop-path.path-iterator ≡ c.in-Some.path ∷ into_iter_items c.next.new.self = search rules in
-    let count : into_iter_len c.next.new.self + 1 ≡ into_iter_len c.loop-path.path-iterator = search rules in
-    record {
-      room = omega (arith, c.take_one.ensures.len, c.take_one.ensures.capacity, c.loop-path.invariant.room, count);
-      same = c.take_one.ensures.keys ∙ c.loop-path.invariant.same;
-      rest = λ q. ap (option_map emptied) (c.take_one.ensures.rest q) ∙ (emptied_done c.as_str.result.now q (get_by_text c.loop-path.slots q) ∙ c.loop-path.invariant.rest q);
-      taken = λ new t.
-          let P : List (List ℕ) → Type 0 = λ ps. TakesAll (get_by_text c.loop-path.slots) ps c.loop-path.pieces.items new in
-          c.loop-path.invariant.taken new (subst P (sym (ap (map string_bytes) next))
-          (take_more (get_by_text c.loop-path.slots) (get_by_text c.take_one.new.slots) (string_bytes c.in-Some.path) (map string_bytes (into_iter_items c.next.new.self)) c.loop-path.pieces.items c.take_one.new.pieces.items new
-          (λ q. c.take_one.ensures.rest q ∙ ap (λ w. done_at w emptied q (get_by_text c.loop-path.slots q)) c.as_str.ensures.value)
-          (c.take_one.ensures.taken ∙ ap (λ w. c.loop-path.pieces.items ++ option_to_list (piece_in (get_by_text c.loop-path.slots w))) c.as_str.ensures.value) t));
-    }
+pub returns-clause-rest : goal.returns-clause-rest
+returns-clause-rest g c = λ q.
+    let are : c.set_all.new.slots.entries ≡ map (λ e. (e.0, emptied e.1)) c.args.slots.now.entries = c.set_all.ensures.entries
+    ∙ (ap (placed c.empty_all.new.slots.entries) (c.empty_all.ensures.kept ∙ ap (λ l. l ++ map emptied (values c.args.slots.now)) c.requires.none) ∙ placed_all c.empty_all.new.slots.entries c.args.slots.now.entries c.empty_all.ensures.keys) in
+    ap (λ es. option_map emptied (lookup (is_at (λ k. slice_cmp nat_cmp q (string_bytes k))) es)) are
+    ∙ (ap (option_map emptied) (lookup-map_values emptied (is_at (λ k. slice_cmp nat_cmp q (string_bytes k))) c.args.slots.now.entries) ∙ emptied_twice _)
+
+pub returns-clause-taken : goal.returns-clause-taken
+returns-clause-taken g c = takes_all c.args.slots.now c.args.pieces.now.items _ c.empty_all.ensures.taken
+
+pub returns-clause-keys : goal.returns-clause-keys
+returns-clause-keys g c =
+    let are : c.set_all.new.slots.entries ≡ map (λ e. (e.0, emptied e.1)) c.args.slots.now.entries = c.set_all.ensures.entries
+    ∙ (ap (placed c.empty_all.new.slots.entries) (c.empty_all.ensures.kept ∙ ap (λ l. l ++ map emptied (values c.args.slots.now)) c.requires.none) ∙ placed_all c.empty_all.new.slots.entries c.args.slots.now.entries c.empty_all.ensures.keys) in
+    ap keys_of are ∙ keys_of-map_values emptied c.args.slots.now.entries

@@ -1,14 +1,16 @@
 use Rattle.std.proofs.Common.{◌≡◌, map, sym, ap, ◌∙◌, false, not}
+use Rattle.std.specs.Prelude.{IfSome}
 use Rattle.std.proofs.lemmas.Simd.{map-map}
 use Rattle.import_graph.specs.Closures.{seers_of}
 use Rattle.import_graph.specs.Imports.{graph_of}
 use Rattle.proto_resolve.specs.Files.{facts_at}
 use Rattle.proto_resolve.specs.Outlines.{import_outline}
 use Rattle.proto_resolve.specs.Seen.{exports}
+use Rattle.link_changes.specs.Touched.{Tells}
 use Rattle.work_index.specs.Changes.{with_text}
 use Rattle.work_index.specs.Pieces.{workspace_of}
 use Rattle.work_index.specs.Workspace.{all_facts, resolution_of, diagnostics_of}
-use Rattle.work_index.proofs.Changed.{differ, kept_as, not_false, parts, paths_before}
+use Rattle.work_index.proofs.Changed.{differ, kept_as, not_false, parts, paths_before, told_as}
 use Rattle.work_index.proofs.Steps.{as_long, paths_as_long, paths_are, is_analysis}
 use Rattle.work_index.proofs.again.analyse_again.Goals as goal
 
@@ -36,14 +38,16 @@ relink-requires-clause-before c =
     let told_alike = c.same_exports-exports.result in
     let quiet : not told_alike ≡ false → exports (facts_at (all_facts b) file) ≡ exports (facts_at (all_facts w) file) =
     λ still. sym (ap exports (sym c.facts_at-facts.ensures) ∙ c.same_exports-exports.ensures.0 (not_false told_alike still) ∙ ap exports before') in
+    let old_facts : c.facts-3.result.now ≡ facts_at (all_facts b) file = c.facts-3.ensures ∙ ap (λ files. facts_at files file) of.table_is in
+    let tells : IfSome c.in_ok-touched.touched (Tells file (facts_at (all_facts b) file) (facts_at (all_facts w) file)) = rw (← old_facts, ← c.facts_at-facts.ensures) c.in_ok-touched.ensures in
     let seen_by : seers_of (graph_of c.in_ok-table.table) file ≡ seers_of (graph_of (all_facts w)) file = ap (λ files. seers_of (graph_of files) file) c.in_ok-table.ensures.table in record {
       within = was.within;
       text = was.text;
       links_are = of.links_are;
       diagnostics_are = of.diagnostics_are;
-      differ = differ w file was.text c.in_ok-table.before c.in_ok-told_seers.field-0 was.within
+      differ = differ w file was.text c.in_ok-table.before c.in_ok-told.told was.within
           (kept_as (λ g. g) c.in_ok-table.before (not alike ≡ false) _ (graph_of inside.table) (graph_of (all_facts b)) imports (ap graph_of of.table_is) c.in_ok-table.ensures.graph)
-          (kept_as (λ seers. seers.items) c.in_ok-told_seers.field-0 (not told_alike ≡ false) _ _ _ quiet seen_by c.in_ok-told_seers.ensures);
+          (told_as c.in_ok-told.told (not told_alike ≡ false) _ _ _ c.in_ok-touched.touched (Tells file (facts_at (all_facts b) file) (facts_at (all_facts w) file)) quiet seen_by tells c.in_ok-told.ensures);
     }
 
 pub invariant_of-result : goal.invariant_of-result

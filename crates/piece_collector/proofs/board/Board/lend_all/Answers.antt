@@ -1,4 +1,4 @@
-use Rattle.std.proofs.Common.{rules, sym, subst, map, List, string_bytes, true, false}
+use Rattle.std.proofs.Common.{rules, refl, sym, subst, map, List, string_bytes, true, false}
 use Rattle.std.specs.BTreeMap.{get_by_text}
 use Rattle.piece_collector.specs.Views.{TextAt}
 use Rattle.piece_collector.specs.Lending.{TakesAll}
@@ -22,18 +22,18 @@ returns-clause-lent g c =
 
 pub of-requires : goal.of-requires
 of-requires g c =
-    let Q : List TextAt → Type 0 = λ old. TakesAll (get_by_text c.self.inside.slots) (map string_bytes c.in_ok-paths.paths.items) old c.take_all.new.pieces.items in
-    let texts = lent_texts c.self.inside.slots (map string_bytes c.in_ok-paths.paths.items) c.take_all.new.pieces.items c.self.inside.last c.self.inside.is_lent _ c.self.view_is c.requires.here c.in_ok-paths.ensures.ordered c.in_ok-paths.ensures.paths
+    let Q : List TextAt → Type 0 = λ old. TakesAll (get_by_text c.self.inside.slots) (map (λ e. string_bytes e.0) c.self.inside.slots.entries) old c.take_all.new.pieces.items in
+    let texts = lent_texts c.self.inside.slots (map (λ e. string_bytes e.0) c.self.inside.slots.entries) c.take_all.new.pieces.items c.self.inside.last c.self.inside.is_lent _ c.self.view_is c.requires.here c.self.invariant.ordered refl
     (subst Q c.in_ok-pieces.ensures.items c.take_all.ensures.taken) c.requires.full c.self.invariant.current in
     (search rules, texts.ascends)
 
 pub returns-clause-back : goal.returns-clause-back
 returns-clause-back g c =
     let P : List TextAt → Type 0 = λ w. IsTextsIn c.args.self.now w in
-    let Q : List TextAt → Type 0 = λ old. TakesAll (get_by_text c.self.inside.slots) (map string_bytes c.in_ok-paths.paths.items) old c.take_all.new.pieces.items in
+    let Q : List TextAt → Type 0 = λ old. TakesAll (get_by_text c.self.inside.slots) (map (λ e. string_bytes e.0) c.self.inside.slots.entries) old c.take_all.new.pieces.items in
     texts_lent _ _ true _ (returns-clause-lent g c)
     (subst P (sym c.of.ensures)
-    (lent_texts c.self.inside.slots (map string_bytes c.in_ok-paths.paths.items) c.take_all.new.pieces.items c.self.inside.last c.self.inside.is_lent _ c.self.view_is c.requires.here c.in_ok-paths.ensures.ordered c.in_ok-paths.ensures.paths
+    (lent_texts c.self.inside.slots (map (λ e. string_bytes e.0) c.self.inside.slots.entries) c.take_all.new.pieces.items c.self.inside.last c.self.inside.is_lent _ c.self.view_is c.requires.here c.self.invariant.ordered refl
     (subst Q c.in_ok-pieces.ensures.items c.take_all.ensures.taken) c.requires.full c.self.invariant.current))
 
 pub returns-clause-is_after : goal.returns-clause-is_after

@@ -1,0 +1,5 @@
+pub mod AskedAlone
+pub mod AskedNames
+pub mod Alike
+pub mod Declared
+pub mod TouchedNames

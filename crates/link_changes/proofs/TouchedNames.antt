@@ -1,0 +1,210 @@
+-- What a change of a file's declarations leaves as it was, for a file that asks for no touched name.
+use Rattle.std.proofs.Common.{◌≡◌, ◌∙◌, sym, ap, ap₂, inl, inr, ℕ, suc, ◌+◌, ◌<◌, ◌==◌, List, [], ◌∷◌, ◌++◌, Bool, true, false, ◌||◌, filter, length, get_or, map, refl, arith}
+use Rattle.std.specs.Prelude.{All, bytes_eq, if◌then◌else◌}
+use Rattle.std.specs.List.{enumerate_from, flat_map, list_all}
+use Rattle.std.proofs.Math.ListN.{get_or-map}
+use Rattle.std.proofs.lemmas.Bool.{cases_Bool, cases_eq}
+use Rattle.std.proofs.lemmas.List.{map-append}
+use Rattle.std.proofs.lemmas.List.Elements.{All-nil, All-head, All-tail, All-cons, All-from_get_or, All-weaker, filter-append}
+use Rattle.std.proofs.lemmas.List.FromFn.{get_or-enumerate_from, length-enumerate_from}
+use Rattle.file_facts.specs.declared.fact.Decl.{Decl}
+use Rattle.file_facts.specs.declared.fact.DeclKind.{DeclKind}
+use Rattle.file_facts.specs.declared.fact.FileFacts.{FileFacts}
+use Rattle.import_graph.specs.declared.paths.NamedFacts.{NamedFacts}
+use Rattle.import_graph.specs.Closures.{view_of}
+use Rattle.import_graph.specs.Imports.{graph_of}
+use Rattle.proto_resolve.specs.declared.target.DeclRef.{DeclRef}
+use Rattle.proto_resolve.specs.Files.{all_decls, decl_at, decls_at, facts_at, no_decl, no_facts, refs_of}
+use Rattle.proto_resolve.specs.Names.{is_seen}
+use Rattle.proto_resolve.specs.Resolved.{sites_at}
+use Rattle.proto_resolve.proofs.Firsts.{agrees, differs}
+use Rattle.proto_resolve.proofs.Order.{numbered, refs}
+use Rattle.link_changes.specs.declared.renumbering.Renumbering.{Renumbering}
+use Rattle.link_changes.specs.declared.touched.Touched.{Touched}
+use Rattle.link_changes.specs.Asked.{may_ask, names_asked}
+use Rattle.link_changes.specs.Laws.{DifferBy, seen_named, TouchedLaw}
+use Rattle.link_changes.specs.Touched.{decl_after, declared_as, is_touched, package_name, renumbered}
+use Rattle.link_changes.proofs.AskedAlone.{asked_law}
+
+-- ---- lists
+
+module _ {X : Type 0} where
+  -- each element of a numbered list stands at its number
+  at_number : (xs : List X) (d : X) → All (λ e. get_or xs e.0 d ≡ e.1) (enumerate_from 0 xs)
+  at_number xs d = All-from_get_or (λ e. get_or xs e.0 d ≡ e.1) (enumerate_from 0 xs) (0, d)
+      (λ i lt. let within : i < length xs = omega (arith, lt, length-enumerate_from 0 xs) in let here : 0 + i ≡ i = omega arith in rw (get_or-enumerate_from 0 xs i (0, d) within, here) refl)
+
+  all_pass : (p : X → Bool) (xs : List X) → list_all p xs ≡ true → All (λ x. p x ≡ true) xs
+  all_pass p [] e = All-nil (λ x. p x ≡ true)
+  all_pass p (x ∷ xs) e = elim (cases_Bool (p x)) [
+    | inl passes ↦ All-cons (λ x. p x ≡ true) x xs passes (all_pass p xs (rw passes at e))
+    | inr fails ↦ let no : false ≡ true = rw fails at e in absurd (cc (no))
+  ]
+
+-- ---- the declarations of a name that a file sees, file by file
+
+abbrev Kinded : Type 0
+Kinded = DeclRef × DeclKind
+
+abbrev with_kind : List NamedFacts → DeclRef → Kinded
+with_kind files r = (r, let d = decl_at files r in d.kind)
+
+abbrev has_name : List NamedFacts → List ℕ → DeclRef → Bool
+has_name files name r = bytes_eq (let d = decl_at files r in d.full_name) name
+
+abbrev of_file : ℕ → ℕ × DeclKind → Kinded
+of_file g e = (record { file = g; number = e.0 }, e.1)
+
+abbrev is_called : List ℕ → ℕ × Decl → Bool
+is_called name e = bytes_eq (let d = e.1 in d.full_name) name
+
+abbrev no_file : NamedFacts
+no_file = record { path = []; facts = no_facts }
+
+abbrev kind_of : ℕ × Decl → ℕ × DeclKind
+kind_of e = (e.0, let d = e.1 in d.kind)
+
+module _ (near : ℕ → Bool) (name : List ℕ) where
+  abbrev is_near : DeclRef → Bool
+  is_near r = near r.file
+
+  -- those in one file
+  abbrev named_in : ℕ → FileFacts → List Kinded
+  named_in g facts = if near g then map (of_file g) (declared_as facts name) else []
+
+  module _ (files : List NamedFacts) where
+    abbrev kept : List DeclRef → List Kinded
+    kept rs = map (with_kind files) (filter is_near (filter (has_name files name) rs))
+
+    abbrev IsAt : ℕ → ℕ × Decl → Type 0
+    IsAt g e = decl_at files (numbered g e) ≡ e.1
+
+    far_kept : (g : ℕ) → near g ≡ false → (es : List (ℕ × Decl)) → kept (map (numbered g) es) ≡ []
+    far_kept g far [] = refl
+    far_kept g far (e ∷ es) = elim (cases_Bool (has_name files name (numbered g e))) [
+      | inl passes ↦ rw (passes, far) (far_kept g far es)
+      | inr fails ↦ rw fails (far_kept g far es)
+    ]
+
+    near_kept : (g : ℕ) → near g ≡ true → (es : List (ℕ × Decl)) → All (IsAt g) es
+        → kept (map (numbered g) es) ≡ map (of_file g) (map kind_of (filter (is_called name) es))
+    near_kept g here [] all = refl
+    near_kept g here (e ∷ es) all =
+        let at : decl_at files (numbered g e) ≡ e.1 = All-head (IsAt g) e es all in
+        let rest : kept (map (numbered g) es) ≡ map (of_file g) (map kind_of (filter (is_called name) es)) = near_kept g here es (All-tail (IsAt g) e es all) in
+        elim (cases_Bool (is_called name e)) [
+          | inl passes ↦ rw (at, passes, here, at, rest) refl
+          | inr fails ↦ rw (at, fails) rest
+        ]
+
+    decls_at_numbers : (g : ℕ) (facts : FileFacts) → facts_at files g ≡ facts → All (IsAt g) (enumerate_from 0 facts.decls)
+    decls_at_numbers g facts same = All-weaker (λ e. get_or facts.decls e.0 no_decl ≡ e.1) (IsAt g)
+        (λ e there. ap (λ (fs : FileFacts). get_or fs.decls e.0 no_decl) same ∙ there) (enumerate_from 0 facts.decls) (at_number facts.decls no_decl)
+
+    file_kept : (g : ℕ) (facts : FileFacts) → facts_at files g ≡ facts → kept (refs_of g facts.decls) ≡ named_in g facts
+    file_kept g facts same = elim (cases_Bool (near g)) [
+      | inl here ↦ rw here (near_kept g here (enumerate_from 0 facts.decls) (decls_at_numbers g facts same))
+      | inr far ↦ rw far (far_kept g far (enumerate_from 0 facts.decls))
+    ]
+
+    abbrev IsFile : ℕ × NamedFacts → Type 0
+    IsFile e = facts_at files e.0 ≡ (let file = e.1 in file.facts)
+
+    abbrev named_by : ℕ × NamedFacts → List Kinded
+    named_by e = named_in e.0 (let file = e.1 in file.facts)
+
+    all_kept : (es : List (ℕ × NamedFacts)) → All IsFile es → kept (flat_map refs es) ≡ flat_map named_by es
+    all_kept [] all = refl
+    all_kept (e ∷ es) all =
+        ap (λ (rs : List DeclRef). map (with_kind files) (filter is_near rs)) (filter-append (has_name files name) (refs e) (flat_map refs es))
+        ∙ ap (λ (rs : List DeclRef). map (with_kind files) rs) (filter-append is_near (filter (has_name files name) (refs e)) (filter (has_name files name) (flat_map refs es)))
+        ∙ map-append (with_kind files) (filter is_near (filter (has_name files name) (refs e))) (filter is_near (filter (has_name files name) (flat_map refs es)))
+        ∙ ap₂ (λ (us vs : List Kinded). us ++ vs)
+        (file_kept e.0 (let file = e.1 in file.facts) (All-head IsFile e es all)) (all_kept es (All-tail IsFile e es all))
+
+    files_at_numbers : All IsFile (enumerate_from 0 files)
+    files_at_numbers = All-weaker (λ e. get_or files e.0 no_file ≡ e.1) IsFile
+        (λ e there. get_or-map (λ (file : NamedFacts). file.facts) files e.0 no_file ∙ ap (λ (file : NamedFacts). file.facts) there) (enumerate_from 0 files) (at_number files no_file)
+
+    seen_kept : kept (all_decls files) ≡ flat_map named_by (enumerate_from 0 files)
+    seen_kept = all_kept (enumerate_from 0 files) files_at_numbers
+
+-- ---- the same after a change of one file
+
+module _ (old new : List NamedFacts) (touched : Touched) (differ : DifferBy old new touched) where
+  abbrev by : Renumbering
+  by = touched.by
+
+  abbrev moved : Kinded → Kinded
+  moved e = (decl_after touched.by e.0, e.1)
+
+  abbrev with_number : ℕ × DeclKind → ℕ × DeclKind
+  with_number e = (renumbered touched.by e.0, e.1)
+
+  others_moved : (g : ℕ) → (g == by.file) ≡ false → (es : List (ℕ × DeclKind)) → map moved (map (of_file g) es) ≡ map (of_file g) es
+  others_moved g other [] = refl
+  others_moved g other (e ∷ es) = rw other (ap (λ (us : List Kinded). of_file g e ∷ us) (others_moved g other es))
+
+  changed_moved : (g : ℕ) → (g == by.file) ≡ true → (es : List (ℕ × DeclKind)) → map moved (map (of_file g) es) ≡ map (of_file g) (map with_number es)
+  changed_moved g same [] = refl
+  changed_moved g same (e ∷ es) = rw same (ap (λ (us : List Kinded). of_file g (with_number e) ∷ us) (changed_moved g same es))
+
+  package_alike : (g : ℕ) → package_name (facts_at old g) ≡ package_name (facts_at new g)
+  package_alike g = elim (cases_eq g by.file) [
+    | inl same ↦ rw same (let tells = differ.tells in tells.packages)
+    | inr other ↦ ap (λ (facts : FileFacts). package_name facts) (differ.others g other)
+  ]
+
+  module _ (name : List ℕ) (untouched : is_touched touched name ≡ false) where
+    declared_alike : (g : ℕ) → g ≡ by.file → declared_as (facts_at new g) name ≡ map with_number (declared_as (facts_at old g) name)
+    declared_alike g same = rw same (let tells = differ.tells in tells.declared name untouched)
+
+    decls_alike : (g : ℕ) → map (of_file g) (declared_as (facts_at new g) name) ≡ map moved (map (of_file g) (declared_as (facts_at old g) name))
+    decls_alike g = elim (cases_eq g by.file) [
+      | inl same ↦
+          ap (λ (es : List (ℕ × DeclKind)). map (of_file g) es) (declared_alike g same)
+          ∙ sym (changed_moved g (agrees g by.file same) (declared_as (facts_at old g) name))
+      | inr other ↦
+          ap (λ (facts : FileFacts). map (of_file g) (declared_as facts name)) (sym (differ.others g other))
+          ∙ sym (others_moved g (differs g by.file other) (declared_as (facts_at old g) name))
+    ]
+
+    module _ (near : ℕ → Bool) where
+      file_alike : (g : ℕ) → named_in near name g (facts_at new g) ≡ map moved (named_in near name g (facts_at old g))
+      file_alike g = elim (cases_Bool (near g)) [
+        | inl here ↦ rw here (decls_alike g)
+        | inr far ↦ rw far refl
+      ]
+
+      files_alike : (n : ℕ) (xs ys : List NamedFacts) → length xs ≡ length ys
+          → ((k : ℕ) → named_in near name (n + k) (facts_at ys k) ≡ map moved (named_in near name (n + k) (facts_at xs k)))
+          → flat_map (named_by near name ys) (enumerate_from n ys) ≡ map moved (flat_map (named_by near name xs) (enumerate_from n xs))
+      files_alike n [] [] e alike = refl
+      files_alike n [] (y ∷ ys) e alike = absurd (omega (arith, e))
+      files_alike n (x ∷ xs) [] e alike = absurd (omega (arith, e))
+      files_alike n (x ∷ xs) (y ∷ ys) e alike =
+          let here : n + 0 ≡ n = omega arith in
+          ap₂ (λ (us vs : List Kinded). us ++ vs) (rw here at (alike 0))
+          (files_alike (n + 1) xs ys (omega (arith, e)) (λ k. let there : (n + 1) + k ≡ n + suc k = omega arith in rw there (alike (suc k))))
+          ∙ sym (map-append moved (named_in near name n x.facts) (flat_map (named_by near name xs) (enumerate_from (n + 1) xs)))
+
+    named_alike : (f : ℕ) (view : List ℕ) → seen_named new f view name ≡ map moved (seen_named old f view name)
+    named_alike f view =
+        let near : ℕ → Bool = λ g. (g == f) || is_seen view g in
+        seen_kept near name new
+        ∙ files_alike near 0 old new differ.files (λ k. let here : 0 + k ≡ k = omega arith in rw here (file_alike near k))
+        ∙ ap (λ (us : List Kinded). map moved us) (sym (seen_kept near name old))
+
+-- ---- the whole
+
+pub touched_law : TouchedLaw
+touched_law old new touched f asked text tree other differ imports has untouched =
+    let names : List (List ℕ) = names_asked (sites_at new f text tree) (decls_at new f) in
+    let view : List ℕ = view_of (graph_of new) f in
+    asked_law old new f (decl_after touched.by) text tree (λ r. refl) (record {
+      imports = imports;
+      own = differ.others f other;
+      packages = λ k d lt. package_alike old new touched differ (get_or view k d);
+      named = All-weaker (λ name. may_ask asked name ≡ true) (λ name. seen_named new f view name ≡ map (moved old new touched differ) (seen_named old f view name))
+          (λ name may. named_alike old new touched differ name (untouched name may) f view) names (all_pass (may_ask asked) names has);
+    })

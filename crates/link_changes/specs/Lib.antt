@@ -1,0 +1,4 @@
+pub mod Keys
+pub mod Asked
+pub mod Touched
+pub mod Laws
