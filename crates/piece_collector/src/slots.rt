@@ -168,7 +168,7 @@ fn set_all<W: Work>(slots: &mut BTreeMap<String, Slot<W>>, kept: Vec<Slot<W>>)
     );
 }
 
-/// Takes all slots out, and their pieces of them, where there is room for them.
+/// Takes out all slots, each without its piece, and their pieces, where there is room for both. An empty slot stays in the place of each.
 fn empty_all<W: Work>(
     alloc: Global,
     slots: &mut BTreeMap<String, Slot<W>>,
@@ -190,7 +190,7 @@ fn empty_all<W: Work>(
     }
 }
 
-/// Takes the pieces of all slots, where there is room for them, and for the slots meanwhile.
+/// Takes the pieces of all slots, where there is room for them. `kept` is an empty list with room for all slots, which go through it.
 pub fn take_all<W: Work>(
     alloc: Global,
     slots: &mut BTreeMap<String, Slot<W>>,

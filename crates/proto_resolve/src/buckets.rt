@@ -74,7 +74,7 @@ fn dealt(
 {
     let mut lists = Vec::with_capacity(alloc, count)?;
     for _list in 0..count {
-        // Twice as many come on average at most, and a quarter more to few buckets.
+        // On average a bucket gets at most twice as many, and few buckets get a quarter more than that.
         lists.push(Vec::with_capacity(alloc, 2 * DECLS_FOR_EACH + DECLS_FOR_EACH / 2)?)?;
     }
     for run in runs {
