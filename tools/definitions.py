@@ -16,7 +16,7 @@ DOCUMENT = ROOT / "docs/DEFINITIONS.md"
 BEGIN, END = "<!-- begin: written by tools/definitions.py -->", "<!-- end -->"
 
 TREE = "Lexeme Cut Parts Forms Grammar Read Names Identifiers".split()
-FACTS = "Text Numbers Tree Members Decls Messages Diags Order Checks Facts IdentifierLaws Nesting".split()
+FACTS = "Text FullNames Numbers Tree Members Decls Messages Diags Order Checks Facts IdentifierLaws Nesting".split()
 
 # The best order to read the files of a crate in, if it isn't that of its specs/Lib.antt. A file that isn't named comes last.
 ORDER = {

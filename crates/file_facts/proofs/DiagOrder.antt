@@ -1,11 +1,15 @@
 -- The order of diagnostics is total, and a list in that order is the only one.
-use Rattle.std.proofs.Common.{◌≡◌, ◌∙◌, ◌==◌, ◌&&◌, Bool, true, ap, subst, List, rules, arith}
+use Rattle.std.proofs.Common.{◌≡◌, ◌∙◌, ◌==◌, ◌&&◌, Bool, true, false, true≢false, ap, refl, sym, subst, List, [], ◌∷◌, rules, arith}
 use Rattle.std.specs.Cmp.{IsTotalOrder}
+use Rattle.std.specs.Prelude.{IsTrue}
+use Rattle.std.specs.List.{IsAllAdjacentAnswer}
+use Rattle.std.specs.List.Sorted.{IsStrictlySortedBy}
 use Rattle.std.specs.declared.cmp.Ordering.{Ordering}
-use Rattle.std.specs.declared.cmp.Ordering.TheVariants.{Equal}
-use Rattle.std.specs.Ordering.{eq_by_cmp, is_eq, nat_cmp, ordering_then}
+use Rattle.std.specs.declared.cmp.Ordering.TheVariants.{Less, Equal, Greater}
+use Rattle.std.specs.Ordering.{eq_by_cmp, is_eq, is_lt, nat_cmp, ordering_then}
 use Rattle.std.proofs.lemmas.Grind.{common_steps}
 use Rattle.std.proofs.lemmas.Bool.Decides.{nat_tests}
+use Rattle.std.proofs.lemmas.Map.Keys.{sorted_from_all_adjacent}
 use Rattle.file_facts.specs.Problems.{variant_order}
 use Rattle.file_facts.specs.Order.{order, in_order, IsListOf}
 use Rattle.file_facts.specs.declared.diagnostic.Diag.{Diag}
@@ -58,3 +62,21 @@ only_list all diags is =
     one_list order_total tied diags (in_order all) is.ordered own.ordered
     (λ z h. Among-from (in_order all) z (own.listed z (is.no_other z (Contains-from diags z h))))
     (λ z h. Among-from diags z (is.listed z (own.no_other z (Contains-from (in_order all) z h))))
+
+less : (r : Ordering) → is_lt r ≡ true → r ≡ Less
+less Less e = refl
+less Equal e = absurd (true≢false (sym e))
+less Greater e = absurd (true≢false (sym e))
+
+-- a list in which each diagnostic comes before the next one
+pub ascending : (ds : List Diag) (r : Bool) → IsAllAdjacentAnswer (λ x y b. b ≡ is_lt (derived_order x y)) ds r → IsTrue r → IsStrictlySortedBy order ds
+unfolding IsStrictlySortedBy
+ascending [] r ascends rises = tt
+ascending (d ∷ ds) false ascends rises = absurd (true≢false (sym rises))
+ascending (d ∷ ds) true ascends rises =
+    subst (λ R. IsStrictlySortedBy R (d ∷ ds)) order-is
+    (sorted_from_all_adjacent derived_total (d ∷ ds) d (λ k lt. less _ (sym (ascends k d lt))))
+
+-- which is the list in order already
+pub risen : (ds : List Diag) → IsStrictlySortedBy order ds → ds ≡ in_order ds
+risen ds up = only_list ds ds (record { ordered = up; listed = λ d h. h; no_other = λ d h. h })

@@ -1,7 +1,9 @@
 // Which pairs of neighbouring bytes stand in texts.
-ghost use Rattle.std.specs.Prelude.{◌≡◌, ◌≤◌, ◌<◌, ◌↔◌, true, List, ℕ, length, IsTrue, slice_index, slice_set};
+ghost use Rattle.std.specs.Prelude.{◌≡◌, ◌≤◌, ◌<◌, ◌-◌, ◌↔◌, true, false, List, ℕ, length, IsTrue, slice_index, slice_index_or, slice_set};
 ghost use Rattle.file_facts.specs.BytePairs.{kind_of, HasPairs};
+ghost use Rattle.file_facts.specs.Text.{joined};
 
+use crate::full_name::NameParts;
 use std::alloc::{AllocError, Global};
 use std::marker::Model;
 
@@ -71,6 +73,45 @@ impl BytePairs {
         let start = common_len(before, text).max(1);
         for next in start..text.len() {
             self.add(text[next - 1], text[next]);
+        }
+    }
+
+    // Adds the pairs of a full name, where those of the scope of the name before it were added. Where the scope is the same, its pairs
+    // aren't added again.
+    pub fn add_name(&mut self, before: &[u8], name: NameParts<'_>)
+        requires { HasPairs self.old before.now }
+        ensures scope { HasPairs self.new name.entry.scope.now }
+        ensures added { HasPairs self.new (joined name.entry.scope.now name.entry.last.now) }
+        ensures kept { (other : List ℕ) → HasPairs self.old other → HasPairs self.new other }
+    {
+        self.add_scope(before, name.scope);
+        self.add_text(&[], name.last);
+        if !name.scope.is_empty() {
+            self.add_dot(name);
+        }
+    }
+
+    // Adds the pairs of a scope, where those of the scope before it were added.
+    fn add_scope(&mut self, before: &[u8], scope: &[u8])
+        requires { HasPairs self.old before.now }
+        ensures added { HasPairs self.new scope.now }
+        ensures kept { (other : List ℕ) → HasPairs self.old other → HasPairs self.new other }
+    {
+        if scope != before {
+            self.add_text(before, scope);
+        }
+    }
+
+    // Adds the pairs of the dot between the parts of a full name.
+    fn add_dot(&mut self, name: NameParts<'_>)
+        requires { 0 < length name.scope.now }
+        ensures end { slice_index_or self.new (kind_of (slice_index name.entry.scope.now (length name.entry.scope.now - 1)) 46) false ≡ true }
+        ensures start { 0 < length name.entry.last.now → slice_index_or self.new (kind_of 46 (slice_index name.entry.last.now 0)) false ≡ true }
+        ensures kept { (other : List ℕ) → HasPairs self.old other → HasPairs self.new other }
+    {
+        self.add(name.scope[name.scope.len() - 1], b'.');
+        if !name.last.is_empty() {
+            self.add(b'.', name.last[0]);
         }
     }
 

@@ -4,12 +4,13 @@ ghost use Rattle.file_facts.specs.BytePairs.{HasNeighbours, HasPairs};
 
 use crate::byte_pairs::BytePairs;
 use crate::fact::Decl;
+use crate::lists::fitted;
 use sqlite_items::Items;
 use std::alloc::{AllocError, Global};
 use std::marker::Model;
 
 /// The declarations of a file, in the order of its text. Contracts see them as a list.
-#[derive(Debug, Drop)]
+#[derive(Drop)]
 pub struct Decls {
     items: Items<Decl>,
     // The pairs of neighbouring bytes in their full names.
@@ -34,9 +35,9 @@ fn pairs_of(alloc: Global, decls: &[Decl]) -> Result<BytePairs, AllocError>
     let mut pairs = BytePairs::none(alloc)?;
     let mut before: &[u8] = &[];
     for decl in decls {
-        let text = decl.full_name.as_str().as_bytes();
-        pairs.add_text(before, text);
-        before = text;
+        let name = decl.full_name.parts();
+        pairs.add_name(before, name);
+        before = name.scope;
     }
     Ok(pairs)
 }
@@ -47,7 +48,10 @@ impl Decls {
         ensures { IfOk result (λ decls. decls ≡ items) }
     {
         let pairs = pairs_of(alloc, items.as_slice())?;
-        Ok(Decls { items, pairs })
+        Ok(Decls {
+            items: fitted(alloc, items)?,
+            pairs,
+        })
     }
 
     /// The declarations.

@@ -1,5 +1,6 @@
 // Diagnostics, and lists of them in order.
-ghost use Rattle.std.specs.Prelude.{◌≡◌, IfOk};
+ghost use Rattle.std.specs.Prelude.{◌≡◌, IfOk, IsTrue};
+ghost use Rattle.std.specs.List.Sorted.{IsStrictlySortedBy};
 ghost use Rattle.file_facts.specs.Order as spec;
 
 use crate::problem::Problem;
@@ -26,4 +27,23 @@ pub fn in_order(alloc: Global, found: &[Diag]) -> Result<Items<Diag>, AllocError
     diags.sort()?;
     diags.dedup();
     Ok(Items::from_vec(diags))
+}
+
+// Whether each diagnostic comes before the next one.
+fn rises(diags: &[Diag]) -> bool
+    ensures { IsTrue result → IsStrictlySortedBy spec.order diags.now }
+{
+    diags.is_sorted_by(|a, b| a.cmp(b).is_lt())
+}
+
+/// The same diagnostics as `in_order` answers, from a list that the caller gives away. Where each diagnostic comes before
+/// the next one, the answer is that list, and nothing is copied. An `Err` comes only where memory was refused.
+pub fn put_in_order(alloc: Global, found: Items<Diag>) -> Result<Items<Diag>, AllocError>
+    ensures { IfOk result (λ d. d ≡ spec.in_order found) }
+{
+    if rises(found.as_slice()) {
+        Ok(found)
+    } else {
+        in_order(alloc, found.as_slice())
+    }
 }

@@ -3,6 +3,7 @@ ghost use Rattle.std.specs.Prelude.{◌≡◌, IfOk};
 
 use crate::decls::Decls;
 use crate::diagnostic::Diag;
+use crate::full_name::FullName;
 use crate::name::Name;
 use sqlite_items::Items;
 use std::alloc::{AllocError, Global};
@@ -59,13 +60,13 @@ pub enum DeclKind {
 }
 
 /// A declaration.
-#[derive(Debug, Drop)]
+#[derive(Drop)]
 pub struct Decl {
     /// What it declares.
     pub kind: DeclKind,
     /// The package, the messages or the service that hold the declaration, and its name, joined by dots. A oneof, an enum
     /// and an `extend` block add nothing, so the values of an enum are its siblings.
-    pub full_name: Name,
+    pub full_name: FullName,
     /// Where its name stands, in bytes of the text.
     pub name_span: Span,
     /// The number of the declaration whose body holds this one, counted from 0 in the file's list.

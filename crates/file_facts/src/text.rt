@@ -1,6 +1,6 @@
 // Parts of a text.
 
-ghost use Rattle.std.specs.Prelude.{◌≡◌, ◌<◌, ◌+◌, length, IfOk};
+ghost use Rattle.std.specs.Prelude.{◌≡◌, ◌<◌, ◌+◌, length, string_bytes, IfOk};
 ghost use Rattle.file_facts.specs.Text as spec;
 
 use crate::name::Name;
@@ -33,12 +33,19 @@ pub fn text_at(text: &str, span: Span) -> &str
 pub fn joined(alloc: Global, scope: &str, name: &str) -> Result<Name, AllocError>
     ensures { IfOk result (λ n. n ≡ spec.joined scope.now name.now) }
 {
+    Ok(Name::of(joined_text(alloc, scope, name)?))
+}
+
+// The same as a text.
+pub fn joined_text(alloc: Global, scope: &str, name: &str) -> Result<String, AllocError>
+    ensures { IfOk result (λ text. string_bytes text ≡ spec.joined scope.now name.now) }
+{
     if scope.is_empty() {
-        return Ok(Name::of(String::from_str(alloc, name)?));
+        return String::from_str(alloc, name);
     }
     let mut text = String::with_capacity(alloc, scope.len() + 1 + name.len())?;
     text.push_str(scope)?;
     text.push('.')?;
     text.push_str(name)?;
-    Ok(Name::of(text))
+    Ok(text)
 }

@@ -1,6 +1,7 @@
 // Facts of texts, and lists of diagnostics.
 use crate::texts::tree_of;
 use case_notation::{Answer, Trouble, field, first_word, plain};
+use file_facts::{FullName, ScopeName, hash_of};
 use proto_facts::{Diag, FileFacts, Name, Problem, facts, in_order, joined, text_at};
 use proto_syntax::Span;
 use std::alloc::{AllocError, Global};
@@ -15,6 +16,7 @@ pub fn answer(alloc: Global, line: &mut String, call: &str, fields: &[&str]) -> 
             Ok(write!(line, "<{part}>")?)
         }
         "copied name" => Ok(write_copied_name(alloc, line, field(fields, 0))?),
+        "full name" => write_full_name(alloc, line, field(fields, 0)),
         _ => Ok(write_found(line, call, &facts_in(alloc, field(fields, 0))?)?),
     }
 }
@@ -35,6 +37,17 @@ pub fn facts_in(alloc: Global, field: &str) -> Result<FileFacts, AllocError> {
 fn write_copied_name(alloc: Global, line: &mut String, field: &str) -> Result<(), AllocError> {
     let name = Name::of(plain(alloc, field)?);
     line.push_str(name.copy(alloc)?.as_str())
+}
+
+// The two parts of a full name, the name that these make up, and whether that is the same, with the hash of its text.
+fn write_full_name(alloc: Global, line: &mut String, field: &str) -> Answer<()> {
+    let name = FullName::of(alloc, plain(alloc, field)?.as_str())?;
+    let (scope, last) = (name.scope(), name.last());
+    let again = FullName::in_scope(alloc, &ScopeName::of(alloc, scope)?, last)?;
+    let text = again.to_text(alloc)?;
+    let is_same = again.equals(&name) && hash_of(text.as_str().as_bytes()) == name.hash();
+    write!(line, "<{scope}> <{last}> {text} {is_same}")?;
+    Ok(())
 }
 
 fn write_joined(alloc: Global, line: &mut String, fields: &[&str]) -> Answer<()> {
@@ -90,7 +103,8 @@ fn write_imports(line: &mut String, found: &FileFacts) -> Result<(), AllocError>
 fn write_decls(line: &mut String, found: &FileFacts) -> Result<(), AllocError> {
     for decl in found.decls.as_slice() {
         let kind = decl.kind;
-        let full_name = decl.full_name.as_str();
+        let name = decl.full_name.to_text(found.alloc)?;
+        let full_name = name.as_str();
         let start = decl.name_span.start;
         let end = decl.name_span.end;
         let parent = decl.parent;

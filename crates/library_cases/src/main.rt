@@ -40,9 +40,14 @@ fn answer<R: Threads + Wait>(
         "tokens" | "token size" | "faults" | "statements" | "depth" => texts::answer(
             alloc, line, call, fields,
         ),
-        "problems" | "facts" | "copied facts" | "in order" | "joined" | "part" | "copied name" => {
-            fact_lists::answer(alloc, line, call, fields)
-        }
+        "problems"
+        | "facts"
+        | "copied facts"
+        | "in order"
+        | "joined"
+        | "part"
+        | "copied name"
+        | "full name" => { fact_lists::answer(alloc, line, call, fields) }
         "graph" | "alike" | "ring" | "seers" => graphs::answer(alloc, line, call, fields),
         "links" | "outlines" | "replaced" | "set" => links::answer(alloc, line, call, fields),
         "board" | "piece" | "refused piece" => boards::answer(alloc, line, call, fields),

@@ -39,7 +39,10 @@ fn write_decl(line: &mut String, asked: Asked<'_>, decl: DeclRef) -> Result<(), 
     {
         Some(found) => {
             let path = asked.analysis.files()[decl.file].as_str();
-            let name = found.full_name.as_str();
+            let name = found
+                .full_name
+                .to_text(asked.analysis.facts(decl.file).alloc)?;
+            let name = name.as_str();
             write!(line, " {path} {name}")
         }
         None => line.push_str(" nowhere"),

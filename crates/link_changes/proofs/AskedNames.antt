@@ -20,10 +20,9 @@ use Rattle.file_facts.specs.Text.{joined}
 use Rattle.proto_resolve.specs.declared.site.Component.{Component}
 use Rattle.proto_resolve.specs.declared.site.NameSite.{NameSite}
 use Rattle.proto_resolve.specs.declared.site.Needs.TheVariants as needs
-use Rattle.proto_resolve.specs.Holders.{has_dot}
+use Rattle.file_facts.specs.FullNames.{has_dot, behind_dot}
 use Rattle.proto_resolve.specs.Names.{joined_all, texts_of}
 use Rattle.proto_resolve.specs.Sites.{Named, inner, names_in, names_of, names_step, site, type_names}
-use Rattle.proto_resolve.specs.Tables.{behind_dot}
 use Rattle.proto_resolve.specs.Uses.{prefixes}
 use Rattle.link_changes.specs.declared.asked.Asked.{Asked}
 use Rattle.link_changes.specs.declared.keys.NameKeys.{NameKeys}
@@ -55,7 +54,7 @@ behind_append [] p = elim (cases_Bool (has_dot p)) [
 ]
 behind_append (x ∷ a) p = rw (dot_inside a p) (behind_append a p)
 
-behind_joined : (scope name : List ℕ) → behind_dot (joined scope name) ≡ behind_dot name
+pub behind_joined : (scope name : List ℕ) → behind_dot (joined scope name) ≡ behind_dot name
 behind_joined [] name = refl
 behind_joined (c ∷ scope) name = behind_append (c ∷ scope) name
 

@@ -1,7 +1,6 @@
 -- Full names by hashes.
 use Rattle.std.specs.Prelude.{ℕ, ◌%◌, List}
-use Rattle.proto_resolve.specs.Hashed.{hash_of}
-use Rattle.proto_resolve.specs.Tables.{behind_dot}
+use Rattle.file_facts.specs.FullNames.{hash_of, behind_dot}
 
 -- the lower 32 bits of the hash of a name
 abbrev pub key : List ℕ → ℕ

@@ -6,7 +6,7 @@ ghost use Rattle.proto_resolve.specs.declared.site.Needs.{Needs};
 ghost use Rattle.link_changes.specs.Asked.{asked_by, asks_any, has_all, may_ask, names_asked};
 ghost use Rattle.link_changes.specs.Touched.{is_touched};
 
-use crate::keys::{NameKeys, key, last_key};
+use crate::keys::{NameKeys, full_key, last_key};
 use crate::touched::Touched;
 use file_facts::{Decl, FileFacts, text_at};
 use std::alloc::{AllocError, Global};
@@ -108,7 +108,7 @@ impl Asked {
         ensures kept { (name : List ℕ) → may_ask self.old name ≡ true → OnOk result (may_ask self.new name ≡ true) }
     {
         'decls: for decl in decls {
-            self.declares.push(key(decl.full_name.as_str().as_bytes()))?;
+            self.declares.push(full_key(&decl.full_name))?;
         }
         Ok(())
     }

@@ -1,9 +1,9 @@
 // Full names by hashes.
 ghost use Rattle.std.specs.Prelude.{◌≡◌};
 ghost use Rattle.link_changes.specs.Keys as spec;
-ghost use Rattle.proto_resolve.specs.Tables.{behind_dot};
+ghost use Rattle.file_facts.specs.FullNames.{behind_dot};
 
-use std::hash::{FoldHasher, Hasher};
+use file_facts::{FullName, hash_of};
 
 // What stands behind the last dot of a name, or all of it if it has none.
 fn last_component(name: &[u8]) -> &[u8]
@@ -19,9 +19,14 @@ fn last_component(name: &[u8]) -> &[u8]
 pub fn key(name: &[u8]) -> u32
     ensures { result ≡ spec.key name.now }
 {
-    let mut state = FoldHasher::default();
-    state.write(name);
-    (state.finish() & 0xFFFF_FFFF) as u32
+    (hash_of(name) & 0xFFFF_FFFF) as u32
+}
+
+// Those of a declaration's full name, whose scope isn't read again.
+pub fn full_key(name: &FullName) -> u32
+    ensures { result ≡ spec.key name.now }
+{
+    (name.hash() & 0xFFFF_FFFF) as u32
 }
 
 /// A full name by two hashes of 32 bits: what stands behind its last dot, and all of it.
@@ -38,13 +43,13 @@ pub fn last_key(name: &[u8]) -> u32
     key(last_component(name))
 }
 
-// Both keys of a name.
-pub fn keys_of(name: &[u8]) -> NameKeys
+// Both keys of a declaration's full name.
+pub fn keys_of(name: &FullName) -> NameKeys
     ensures last { result.last ≡ spec.last_key name.now }
     ensures whole { result.whole ≡ spec.key name.now }
 {
     NameKeys {
-        last: last_key(name),
-        whole: key(name),
+        last: last_key(name.last().as_bytes()),
+        whole: full_key(name),
     }
 }

@@ -1,10 +1,8 @@
 // How the numbers of a file's declarations change.
-ghost use Rattle.std.specs.Prelude.{◌≡◌, ◌↔◌, ℕ, IfOk, IsFalse, IsTrue};
-ghost use Rattle.link_changes.specs.Touched.{decl_after, links_after, renumbered, target_after, use_after};
+ghost use Rattle.std.specs.Prelude.{◌≡◌, ℕ, IsTrue, MatchOption};
+ghost use Rattle.link_changes.specs.Touched.{decl_after, links_after, renumbered, use_after};
 
 use proto_resolve::{DeclRef, Links, NameUse, Target};
-use sqlite_items::Items;
-use std::alloc::{AllocError, Global};
 
 /// How the numbers of a file's declarations change. Numbers count from 0.
 #[derive(Clone, Copy)]
@@ -42,59 +40,34 @@ impl Renumbering {
     }
 }
 
-// Whether a name refers to a declaration whose number changes.
-fn moves(by: &Renumbering, target: &Target) -> bool
-    ensures { IsFalse result ↔ (target_after (decl_after by.now) target.now ≡ target.now) }
+// A use with the number after the change, if it has a declaration whose number changes. Otherwise it stays as it is.
+fn moved_use(by: &Renumbering, name_use: &NameUse) -> Option<NameUse>
+    ensures { MatchOption result (use_after (decl_after by.now) name_use.now ≡ name_use.now) (λ u. u ≡ use_after (decl_after by.now) name_use.now) }
 {
-    match target {
-        Target::Declared(decl) => by.decl(*decl) != *decl,
-        Target::Package(_) => false,
-    }
-}
-
-/// Whether links have a declaration whose number changes. If they don't, they stay as they are.
-pub fn moves_any(by: &Renumbering, links: &Links) -> bool
-    ensures { IsFalse result ↔ (links_after (decl_after by.now) links.now ≡ links.now) }
-{
-    if by.is_still() {
-        return false;
-    }
-    links
-        .uses
-        .as_slice()
-        .iter()
-        .any(|name_use| moves(by, &name_use.target))
-}
-
-// A use with the number after the change.
-fn renumbered_use(
-    alloc: Global,
-    by: &Renumbering,
-    name_use: &NameUse,
-) -> Result<NameUse, AllocError>
-    ensures { IfOk result (λ u. u ≡ use_after (decl_after by.now) name_use.now) }
-{
-    let target = match &name_use.target {
-        Target::Declared(decl) => Target::Declared(by.decl(*decl)),
-        Target::Package(full_name) => Target::Package(full_name.copy(alloc)?),
+    let Target::Declared(decl) = &name_use.target else {
+        return None;
     };
-    Ok(NameUse {
+    let after = by.decl(*decl);
+    if after == *decl {
+        return None;
+    }
+    Some(NameUse {
         span: name_use.span,
         name: name_use.name,
-        target,
+        target: Target::Declared(after),
     })
 }
 
-/// The links with the numbers after the change. An `Err` comes only where memory was refused.
-pub fn renumbered_links(alloc: Global, by: &Renumbering, links: &Links) -> Result<Links, AllocError>
-    ensures { IfOk result (λ found. found ≡ links_after (decl_after by.now) links.now) }
+/// Gives the links the numbers after the change, in place. Links without a declaration whose number changes stay untouched.
+pub fn renumber(by: &Renumbering, links: &mut Links)
+    ensures { links.new ≡ links_after (decl_after by.now) links.old }
 {
-    let mut uses = Items::new(alloc);
-    'uses: for name_use in links.uses.as_slice() {
-        uses.push(renumbered_use(alloc, by, name_use)?)?;
+    if by.is_still() {
+        return;
     }
-    Ok(Links {
-        uses,
-        diags: Items::from_slice(alloc, links.diags.as_slice())?,
-    })
+    for at in 0..links.uses.len() {
+        if let Some(moved) = moved_use(by, &links.uses.as_slice()[at]) {
+            links.uses.set(at, moved);
+        }
+    }
 }

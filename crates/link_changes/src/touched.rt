@@ -38,7 +38,7 @@ fn same_package(old: &FileFacts, new: &FileFacts) -> bool
 fn is_alike(old: &Decl, new: &Decl) -> bool
     ensures { IsTrue result ↔ (declared old.now ≡ declared new.now) }
 {
-    old.kind == new.kind && old.full_name.as_str() == new.full_name.as_str()
+    old.kind == new.kind && old.full_name.equals(&new.full_name)
 }
 
 // How many declarations at the front agree.
@@ -71,7 +71,7 @@ fn push_keys(decls: &[Decl], names: &mut Vec<NameKeys>) -> Result<(), AllocError
     ensures { OnOk result (names.new.items ≡ names.old.items ++ map (λ d. record { last = spec.last_key d.full_name; whole = spec.key d.full_name }) decls.now) }
 {
     for decl in decls {
-        names.push(keys_of(decl.full_name.as_str().as_bytes()))?;
+        names.push(keys_of(&decl.full_name))?;
     }
     Ok(())
 }

@@ -1,5 +1,5 @@
 -- What stands side by side in a query stands side by side in each text that contains it.
-use Rattle.std.proofs.Common.{◌≡◌, ℕ, zero, suc, ◌+◌, ◌<◌, ◌≤◌, List, [], ◌∷◌, ◌++◌, Bool, true, false, Option, Some, None, inl, inr, ⊎_elim, take, length, map, slice_index, refl, sym, ap, subst, ◌∙◌, arith, length-take}
+use Rattle.std.proofs.Common.{◌≡◌, ℕ, zero, suc, ◌+◌, ◌<◌, List, [], ◌∷◌, ◌++◌, Bool, true, false, Option, inl, inr, take, length, map, slice_index, sym, ap, subst, ◌∙◌, arith, length-take}
 use Rattle.std.specs.Prelude.{All, slice_get}
 use Rattle.std.specs.Option.{option_map_or}
 use Rattle.std.proofs.lemmas.Option.{slice_get_cases}
@@ -9,7 +9,7 @@ use Rattle.std.proofs.lemmas.Bool.{false_from_ne_true, false≢true, or_cases}
 use Rattle.std.proofs.lemmas.List.{get_or-map, get_or-take, length-map}
 use Rattle.std.proofs.lemmas.Slice.Eq.{bytes_eq-Decides}
 use Rattle.std.specs.Char.{to_ascii_lowercase}
-use Rattle.file_facts.specs.BytePairs.{AreNeighbours, HasNeighbours}
+use Rattle.file_facts.specs.BytePairs.{HasNeighbours}
 use Rattle.lsp_queries.specs.Matching.{begins, contains}
 
 begins-neighbours : (query text : List ℕ) → begins query text ≡ true → HasNeighbours text query

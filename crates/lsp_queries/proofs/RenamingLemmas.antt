@@ -1,21 +1,20 @@
 -- Identifiers, and the scopes of full names.
-use Rattle.std.proofs.Common.{◌≡◌, ◌≢◌, ◌↔◌, IsTrue, ℕ, ◌<◌, List, [], ◌∷◌, ◌++◌, Bool, true, false, Some, None, cond, inl, inr, length, get_or, take, drop, refl, sym, ap, ◌∙◌, arith, take-append-drop}
+use Rattle.std.proofs.Common.{◌≡◌, ◌≢◌, ◌↔◌, IsTrue, ℕ, ◌<◌, List, [], ◌∷◌, Bool, true, false, cond, inl, inr, length, get_or, refl, sym, ◌∙◌}
 use Rattle.std.specs.Prelude.{◌==◌, Contains}
 use Rattle.std.specs.Char.{is_ascii_digit}
 use Rattle.std.specs.List.{list_any, list_all}
-use Rattle.std.specs.Str.Pattern.{RFindsChar}
-use Rattle.std.proofs.lemmas.Bool.{and_parts, and_from, or_right, cases_Bool, ne_eqb}
+use Rattle.std.proofs.lemmas.Bool.{and_parts, and_from, cases_Bool, ne_eqb}
 use Rattle.std.proofs.lemmas.List.Elements.{All-from_get_or}
-use Rattle.std.proofs.lemmas.List.Folds.{list_any-append, list_any_none}
+use Rattle.std.proofs.lemmas.List.Folds.{list_any_none}
 use Rattle.std.proofs.lemmas.List.{get_or_default}
 use Rattle.std.proofs.lemmas.List.Sums.{AllPass-from_list_all, list_all-from_AllPass}
-use Rattle.std.proofs.lemmas.Str.Pattern.{NoCharPasses-char, drop_at_char}
 use Rattle.proto_lex.specs.declared.bytes.Class.TheVariants as class
 use Rattle.proto_lex.specs.declared.token.Kind.TheVariants.{Ident}
 use Rattle.proto_lex.specs.Bytes.{class_of, is_letter, is_name_byte, is_quote, is_space, is_symbol}
 use Rattle.proto_lex.specs.Forms.{IsForm}
-use Rattle.proto_resolve.specs.Files.{dot}
-use Rattle.lsp_queries.specs.Renaming.{is_identifier, scope_of}
+use Rattle.file_facts.specs.FullNames.{dot}
+use Rattle.file_facts.proofs.ApartNames.{scope_joined}
+use Rattle.lsp_queries.specs.Renaming.{is_identifier}
 use Rattle.lsp_queries.specs.RenamingLaws.{IdentifierFormLaw, FullNameScopeLaw}
 
 -- ---- identifiers
@@ -62,32 +61,8 @@ is_dot b = b == dot
 pub no_dot : (text : List ℕ) → ((k : ℕ) → k < length text → get_or text k 0 ≢ dot) → list_any is_dot text ≡ false
 no_dot text lacks = list_any_none is_dot text (All-from_get_or (λ b. is_dot b ≡ false) text 0 (λ k lt. ne_eqb _ dot (lacks k lt)))
 
-pub scope-none : (text : List ℕ) → list_any is_dot text ≡ false → scope_of text ≡ []
-scope-none [] none = refl
-scope-none (c ∷ rest) none = elim (cases_Bool (list_any is_dot rest)) [
-  | inl some ↦ absurd (cc (none, or_right (is_dot c) (list_any is_dot rest) some))
-  | inr other ↦ rw other refl
-]
-
-pub scope-before : (before behind : List ℕ) → list_any is_dot behind ≡ false → scope_of (before ++ dot ∷ behind) ≡ before
-scope-before [] behind none = rw none refl
-scope-before (c ∷ before) behind none =
-    let some : list_any is_dot (before ++ dot ∷ behind) ≡ true = list_any-append is_dot before (dot ∷ behind) ∙ or_right (list_any is_dot before) true refl in
-    rw some (ap (λ l. c ∷ l) (scope-before before behind none))
-
--- what `rsplit_once` at a dot answers
-pub scope-found : (text : List ℕ) (i j : ℕ) → RFindsChar dot text (Some (i, j)) → take i text ≡ scope_of text
-scope-found text i j found =
-    let none = no_dot (drop j text) (λ k lt. NoCharPasses-char dot (drop j text) k found.0 (omega arith) lt) in
-    let cut : text ≡ take i text ++ dot ∷ drop j text = sym (take-append-drop i text) ∙ ap (λ l. take i text ++ l) (drop_at_char dot text i j found.1 (omega arith)) in
-    sym (ap scope_of cut ∙ scope-before (take i text) (drop j text) none)
-
-pub scope-nowhere : (text : List ℕ) → RFindsChar dot text None → [] ≡ scope_of text
-scope-nowhere text nowhere = sym (scope-none text (no_dot text (λ k lt. NoCharPasses-char dot text k nowhere (omega arith) lt)))
-
 lacks_dot : (name : List ℕ) → ¬ Contains name dot → list_any is_dot name ≡ false
 lacks_dot name none = no_dot name (λ k lt e. none (k, lt, get_or_default name k dot 0 lt ∙ e))
 
 pub full-name-scope-law : FullNameScopeLaw
-full-name-scope-law [] name none = scope-none name (lacks_dot name none)
-full-name-scope-law (c ∷ scope) name none = scope-before (c ∷ scope) name (lacks_dot name none)
+full-name-scope-law scope name none = sym (scope_joined scope name (lacks_dot name none))

@@ -5,7 +5,8 @@ use Rattle.std.specs.Option.{option_map_or}
 use Rattle.proto_lex.specs.Bytes.{is_letter, is_name_byte}
 use Rattle.file_facts.specs.Text.{joined}
 use Rattle.proto_resolve.specs.declared.target.DeclRef.{DeclRef}
-use Rattle.proto_resolve.specs.Files.{dot, is_within}
+use Rattle.proto_resolve.specs.Files.{is_within}
+use Rattle.file_facts.specs.FullNames.{scope_of}
 use Rattle.work_index.specs.Workspace.{AnalysisData, decls_named}
 use Rattle.lsp_queries.specs.Answers.{sites_of}
 use Rattle.lsp_queries.specs.Files.{decl_of, package_in, place_of}
@@ -22,11 +23,6 @@ use Rattle.lsp_queries.specs.declared.place.Place.{Place}
 abbrev pub is_identifier : List ℕ → Bool
 is_identifier [] = false
 is_identifier (b ∷ rest) = is_letter b && list_all is_name_byte rest
-
--- the scope of a full name: what stands before its last dot; nothing where it has none
-abbrev pub scope_of : List ℕ → List ℕ
-scope_of [] = []
-scope_of (c ∷ rest) = if list_any (λ b. b == dot) rest then c ∷ scope_of rest else []
 
 -- s is another declaration than r
 abbrev pub is_other : DeclRef → DeclRef → Bool

@@ -5,10 +5,10 @@ use Rattle.proto_lex.specs.Forms.{IsForm}
 use Rattle.file_facts.specs.Nesting.{IsWithin}
 use Rattle.file_facts.specs.Text.{joined}
 use Rattle.proto_resolve.specs.declared.target.DeclRef.{DeclRef}
-use Rattle.proto_resolve.specs.Files.{dot}
+use Rattle.file_facts.specs.FullNames.{dot, scope_of}
 use Rattle.work_index.specs.Workspace.{AnalysisData, decl_in}
 use Rattle.lsp_queries.specs.Files.{package_in}
-use Rattle.lsp_queries.specs.Renaming.{is_identifier, is_taken, scope_of}
+use Rattle.lsp_queries.specs.Renaming.{is_identifier, is_taken}
 
 -- an identifier is what has the form of a name from its first byte to its last
 abbrev pub IdentifierFormLaw : Type 0

@@ -1,6 +1,5 @@
 -- Which files a search may leave out.
 use Rattle.std.specs.Prelude.{◌≡◌, ℕ, List, Bool, true, false, slice_index_or}
-use Rattle.proto_resolve.specs.declared.target.DeclRef.{DeclRef}
 use Rattle.work_index.specs.Workspace.{AnalysisData}
 use Rattle.lsp_queries.specs.Answers.{is_match}
 

@@ -2,7 +2,7 @@
 ghost use Rattle.std.specs.Prelude.{◌≡◌, ◌≢◌, Ok, Err, IsTrue, IfOk, IfErr, string_bytes};
 ghost use Rattle.proto_resolve.specs.Files as files;
 ghost use Rattle.lsp_queries.specs.Files.{package_in};
-ghost use Rattle.lsp_queries.specs.Renaming.{is_identifier, scope_of, is_other, new_full_name, is_declared, is_package, is_taken, renamed_decl, renamed, TakesMemory};
+ghost use Rattle.lsp_queries.specs.Renaming.{is_identifier, is_other, new_full_name, is_declared, is_package, is_taken, renamed_decl, renamed, TakesMemory};
 
 use crate::fault::RenameFault;
 use crate::files::{decl_of, place_of};
@@ -31,16 +31,6 @@ fn is_identifier(name: &str) -> bool
     proto_lex::is_identifier(name)
 }
 
-// What stands before the last dot of a full name, nothing where there is none.
-fn scope_of(full_name: &str) -> &str
-    ensures { result.now ≡ scope_of full_name.now }
-{
-    match full_name.rsplit_once('.') {
-        Some((scope, _)) => scope,
-        None => "",
-    }
-}
-
 // The full name that a declaration gets with a new name.
 fn new_full_name(
     alloc: Global,
@@ -51,7 +41,7 @@ fn new_full_name(
     ensures { IfOk result (λ full_name. full_name ≡ new_full_name analysis.now decl new_name.now) }
 {
     let scope = match decl_of(analysis, decl) {
-        Some(decl) => scope_of(decl.full_name.as_str()),
+        Some(decl) => decl.full_name.scope(),
         None => "",
     };
     joined(alloc, scope, new_name)

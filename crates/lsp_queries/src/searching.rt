@@ -29,17 +29,22 @@ fn searched_files(alloc: Global, analysis: &Analysis, query: &str) -> Result<Vec
     Ok(searched)
 }
 
-// Whether the full name of a declaration contains the query.
+// Whether the full name of a declaration contains the query. It is written over `name`.
 fn is_match(
     alloc: Global,
     analysis: &Analysis,
     query: &str,
     decl: DeclRef,
+    name: &mut String,
 ) -> Result<bool, AllocError>
     ensures { IfOk result (λ found. found ≡ is_match analysis.now query.now decl) }
 {
     match decl_of(analysis, decl) {
-        Some(decl) => contains(alloc, decl.full_name.as_str(), query),
+        Some(decl) => {
+            name.clear();
+            decl.full_name.write_to(name)?;
+            contains(alloc, name.as_str(), query)
+        }
         None => Ok(false),
     }
 }
@@ -51,13 +56,14 @@ fn is_found(
     query: &str,
     searched: &[bool],
     decl: DeclRef,
+    name: &mut String,
 ) -> Result<bool, AllocError>
     requires { LeavesOut analysis.now query.now searched.now }
     ensures { IfOk result (λ found. found ≡ is_match analysis.now query.now decl) }
 {
     match searched.get(decl.file) {
         Some(false) => Ok(false),
-        _ => is_match(alloc, analysis, query, decl),
+        _ => is_match(alloc, analysis, query, decl, name),
     }
 }
 
@@ -67,9 +73,17 @@ pub fn symbols(alloc: Global, analysis: &Analysis, query: &str) -> Result<Vec<De
     ensures { IfOk result (λ found. found.items ≡ symbols analysis.now query.now) }
 {
     let searched = searched_files(alloc, analysis, query)?;
+    let mut name = String::new(alloc);
     let mut found = Vec::new(alloc);
     for decl in analysis.decls() {
-        if is_found(alloc, analysis, query, searched.as_slice(), *decl)? {
+        if is_found(
+            alloc,
+            analysis,
+            query,
+            searched.as_slice(),
+            *decl,
+            &mut name,
+        )? {
             found.push(*decl)?;
         }
     }

@@ -16,38 +16,10 @@ use Rattle.lsp_rpc.specs.Symbol.{symbol_view}
 use Rattle.lsp_rpc.specs.declared.symbol.Symbol.{Symbol}
 use Rattle.lsp_workspace.specs.Files.{Files}
 use Rattle.work_index.specs.Workspace.{Workspace}
-use Rattle.lsp_session.specs.Answers.{last_dot, name_behind, scope_before, kind_of, file_of, range_of, uri_at, location_of, symbol_with, symbol_of}
+use Rattle.lsp_session.specs.Answers.{kind_of, file_of, range_of, uri_at, location_of, symbol_with, symbol_of}
+use Rattle.file_facts.specs.FullNames.{last_of, scope_of}
 use Rattle.lsp_session.specs.AnswerViews.{found_view}
 use Rattle.lsp_session.specs.declared.answers.FoundDecl.{FoundDecl}
-
--- ---- the last dot
-
-last_dot-dot : (xs : List ℕ) (c : ℕ) → (c == 46) ≡ true → last_dot (xs ++ c ∷ []) ≡ Some (length xs)
-last_dot-dot [] c e = ap (λ b. if b then Some 0 else None) e
-last_dot-dot (x ∷ xs) c e =
-    let count : length xs + 1 ≡ suc (length xs) = omega arith in
-    ap (λ o. option_or (option_map (λ n. n + 1) o) (if x == 46 then Some 0 else None)) (last_dot-dot xs c e) ∙ ap Some count
-
-last_dot-other : (xs : List ℕ) (c : ℕ) → (c == 46) ≡ false → last_dot (xs ++ c ∷ []) ≡ last_dot xs
-last_dot-other [] c e = ap (λ b. if b then Some 0 else None) e
-last_dot-other (x ∷ xs) c e = ap (λ o. option_or (option_map (λ n. n + 1) o) (if x == 46 then Some 0 else None)) (last_dot-other xs c e)
-
--- one more byte
-pub last_dot-more : (xs : List ℕ) (i c : ℕ) → i < length xs → last_dot (take (i + 1) xs) ≡ (if get_or xs i c == 46 then Some i else last_dot (take i xs))
-last_dot-more xs i c lt =
-    let front = take i xs in
-    let byte = get_or xs i c in
-    let whole : last_dot (take (i + 1) xs) ≡ last_dot (front ++ byte ∷ []) = ap last_dot (take_more xs i c lt) in
-    let is : Bool → Option ℕ = λ b. if b then Some i else last_dot front in
-    ⊎_elim
-    (λ yes. whole ∙ last_dot-dot front byte yes ∙ ap Some (length-take-le i xs (omega (arith, lt))) ∙ sym (ap is yes))
-    (λ none. whole ∙ last_dot-other front byte none ∙ sym (ap is none))
-    (cases_Bool (byte == 46))
-
-pub dot-within : (b : Bool) (n : ℕ) (o r : Option ℕ) → r ≡ (if b then Some n else o) → IfSome o (λ k. k < n) → IfSome r (λ k. k < n + 1)
-dot-within true n o r e h = subst (λ x. IfSome x (λ k. k < n + 1)) (sym e) (omega arith)
-dot-within false n None r e h = subst (λ x. IfSome x (λ k. k < n + 1)) (sym e) tt
-dot-within false n (Some m) r e h = subst (λ x. IfSome x (λ k. k < n + 1)) (sym e) (omega (arith, h))
 
 -- ---- ranges
 
@@ -89,7 +61,7 @@ module _ (root : List ℕ) (files : Files) (w : Workspace) where
       ap₂ ◌∷◌ (ap (λ g. symbol_with (uri_at root files w g) (file_of w g).1 (found_view f)) (sym here)) (symbols-located file fs (λ k d lt. all (suc k) d (omega (arith, lt))))
 
 -- a declaration with its range
-pub symbol-is : (uri text : List ℕ) (s : Symbol) (f : FoundDecl) → s.name.now ≡ name_behind f.decl.now.full_name (last_dot f.decl.now.full_name) → s.container.now ≡ scope_before f.decl.now.full_name (last_dot f.decl.now.full_name)
+pub symbol-is : (uri text : List ℕ) (s : Symbol) (f : FoundDecl) → s.name.now ≡ last_of f.decl.now.full_name → s.container.now ≡ scope_of f.decl.now.full_name
     → s.kind ≡ kind_of f.decl.now.kind → s.range ≡ range_of text f.place → symbol_view uri s ≡ symbol_with uri text (found_view f)
 symbol-is uri text s f name container kind range = rw (name, container, kind, range) refl
 
@@ -101,7 +73,7 @@ range-at text (f ∷ fs) (suc i) d r lt = range-at text fs i d r (omega (arith, 
 -- one more declaration
 pub symbols-more : (uri text : List ℕ) (fs : List FoundDecl) (ranges : List Range) (before after : List Symbol) (s : Symbol) (f : FoundDecl) (i : ℕ) (r : Range) → i < length fs → f ≡ get_or fs i f
     → ranges ≡ map (range_of text) (map (λ g. g.place) fs) → map (symbol_view uri) before ≡ map (symbol_with uri text) (map found_view (take i fs))
-    → s.name.now ≡ name_behind f.decl.now.full_name (last_dot f.decl.now.full_name) → s.container.now ≡ scope_before f.decl.now.full_name (last_dot f.decl.now.full_name)
+    → s.name.now ≡ last_of f.decl.now.full_name → s.container.now ≡ scope_of f.decl.now.full_name
     → s.kind ≡ kind_of f.decl.now.kind → s.range ≡ get_or ranges i r → after ≡ before ++ s ∷ []
     → map (symbol_view uri) after ≡ map (symbol_with uri text) (map found_view (take (i + 1) fs))
 symbols-more uri text fs ranges before after s f i r lt is rs b name container kind range a =

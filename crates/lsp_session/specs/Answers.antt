@@ -23,6 +23,7 @@ use Rattle.lsp_rpc.specs.WorkspaceEdit.{workspace_edit_value}
 use Rattle.lsp_rpc.specs.declared.error_code.ErrorCode.TheVariants.{RenameRefused}
 use Rattle.lsp_rpc.specs.declared.error_code.RenameRefusal.{RenameRefusal}
 use Rattle.lsp_rpc.specs.declared.error_code.RenameRefusal.TheVariants as refusal
+use Rattle.file_facts.specs.FullNames.{last_of, scope_of}
 use Rattle.lsp_rpc.specs.Symbol.{SymbolData}
 use Rattle.lsp_rpc.specs.declared.symbol.SymbolKind.{SymbolKind}
 use Rattle.lsp_rpc.specs.declared.symbol.SymbolKind.TheVariants as kind
@@ -36,22 +37,7 @@ pub record DocumentPlaceData : Type 0 where
   pub path : List ℕ
   pub offset : ℕ
 
--- ---- names and kinds
-
--- how many bytes stand before the last dot of a full name, if there is one
-abbrev pub last_dot : List ℕ → Option ℕ
-last_dot [] = None
-last_dot (c ∷ rest) = option_or (option_map (λ n. n + 1) (last_dot rest)) (if c == 46 then Some 0 else None)
-
--- the last component: what stands behind the last dot
-abbrev pub name_behind : List ℕ → Option ℕ → List ℕ
-name_behind full_name None = full_name
-name_behind full_name (Some dot) = text_at full_name (record { start = dot + 1; end = length full_name })
-
--- the scope: what stands before it
-abbrev pub scope_before : List ℕ → Option ℕ → List ℕ
-scope_before full_name None = []
-scope_before full_name (Some dot) = text_at full_name (record { start = 0; end = dot })
+-- ---- kinds
 
 -- what a declaration is in the protocol's words
 abbrev pub kind_of : DeclKind → SymbolKind
@@ -94,11 +80,11 @@ abbrev pub by_file : List Place → List (ℕ × List Place)
 by_file [] = []
 by_file (p ∷ ps) = (p.file, p ∷ behind p.file (by_file ps)) ∷ later p.file (by_file ps)
 
--- a declaration at its place in a text, in the document with a URI
+-- a declaration at its place in a text, in the document with a URI: the last component of its full name, and what stands before that
 abbrev pub symbol_with : List ℕ → List ℕ → Place × Decl → SymbolData
 symbol_with uri text d = record {
-  name = name_behind d.1.full_name (last_dot d.1.full_name);
-  container = scope_before d.1.full_name (last_dot d.1.full_name);
+  name = last_of d.1.full_name;
+  container = scope_of d.1.full_name;
   kind = kind_of d.1.kind;
   location = record { range = range_of text d.0; uri = uri };
 }

@@ -2,6 +2,7 @@
 ghost use Rattle.std.specs.Prelude.{◌≡◌, ◌≢◌, ◌≤◌, ◌<◌, All, false, length, map, take, drop, option_map, position, bytes_eq, Some, string_bytes, ◌==◌, ◌++◌, ◌+◌, if◌then◌else◌, ℕ, List, Ok, Err, IfOk, IfErr, IfSome, OnOk};
 ghost use Rattle.std.specs.List.{slice_get};
 ghost use Rattle.doc_text.specs.Positions.{position_of};
+ghost use Rattle.file_facts.specs.FullNames.{last_of, scope_of};
 ghost use Rattle.lsp_queries.specs.Answers as answers;
 ghost use Rattle.lsp_queries.specs.Files.{place, decl_of};
 ghost use Rattle.serde_json.specs.Written.{compact_text};
@@ -19,7 +20,7 @@ ghost use Rattle.lsp_session.specs.AnswerViews.{found_view, place_view};
 
 use crate::reports::uri_of;
 use doc_text::{Encoding, Position, Range, positions_of};
-use file_facts::{Decl, DeclKind, text_at};
+use file_facts::{Decl, DeclKind};
 use lsp_queries::{Place, RenameFault, decl_of, definition, references, rename, symbols};
 use lsp_rpc::{
     DocumentRanges, DocumentSymbols, ErrorCode, Id, RenameRefusal, Symbol, SymbolKind, error_reply,
@@ -28,7 +29,6 @@ use lsp_rpc::{
 use lsp_workspace::{self as files, Files, Snapshot};
 use proto_resolve::DeclRef;
 use std::alloc::{AllocError, Global};
-use syntax_tree::Span;
 use work_index::Analysis;
 use workspace_uri::Root;
 
@@ -48,53 +48,7 @@ pub struct Known<'s> {
     pub snapshot: &'s Snapshot<'s>,
 }
 
-// ---- names and kinds
-
-// How many bytes stand before the last dot of a full name, if there is one.
-fn last_dot(full_name: &[u8]) -> Option<usize>
-    ensures dot { result ≡ spec.last_dot full_name.now }
-    ensures within { IfSome result (λ n. n < length full_name.now) }
-{
-    let mut found = None;
-    for (number, byte) in full_name.iter().enumerate() {
-        found = dot_or(*byte, number, found);
-    }
-    found
-}
-
-// The number of a byte that is a dot, else what was found before.
-fn dot_or(byte: u8, number: usize, found: Option<usize>) -> Option<usize>
-    ensures { result ≡ (if byte == 46 then Some number else found) }
-{
-    if byte == b'.' { Some(number) } else { found }
-}
-
-// The last component of a full name with a dot there.
-fn name_behind(full_name: &str, dot: Option<usize>) -> &str
-    requires { IfSome dot (λ n. n < length full_name.now) }
-    ensures { result.now ≡ spec.name_behind full_name.now dot }
-{
-    match dot {
-        None => full_name,
-        Some(dot) => {
-            let span = Span {
-                start: dot + 1,
-                end: full_name.len(),
-            };
-            text_at(full_name, span)
-        }
-    }
-}
-
-// Its scope.
-fn scope_before(full_name: &str, dot: Option<usize>) -> &str
-    ensures { result.now ≡ spec.scope_before full_name.now dot }
-{
-    match dot {
-        None => "",
-        Some(dot) => text_at(full_name, Span { start: 0, end: dot }),
-    }
-}
+// ---- kinds
 
 fn kind_of(kind: DeclKind) -> SymbolKind
     ensures { result ≡ spec.kind_of kind }
@@ -212,16 +166,14 @@ fn found_in(found: &[FoundDecl<'_>], file: usize) -> usize
 
 // The name, the scope and the kind of a declaration, and a range.
 fn symbol_at(decl: &Decl, range: Range) -> Symbol<'_>
-    ensures name { result.name.now ≡ spec.name_behind decl.now.full_name (spec.last_dot decl.now.full_name) }
-    ensures container { result.container.now ≡ spec.scope_before decl.now.full_name (spec.last_dot decl.now.full_name) }
+    ensures name { result.name.now ≡ last_of decl.now.full_name }
+    ensures container { result.container.now ≡ scope_of decl.now.full_name }
     ensures kind { result.kind ≡ spec.kind_of decl.now.kind }
     ensures range { result.range ≡ range }
 {
-    let full_name = decl.full_name.as_str();
-    let dot = last_dot(full_name.as_bytes());
     Symbol {
-        name: name_behind(full_name, dot),
-        container: scope_before(full_name, dot),
+        name: decl.full_name.last(),
+        container: decl.full_name.scope(),
         kind: kind_of(decl.kind),
         range,
     }

@@ -1,5 +1,5 @@
 -- Names whose hashes differ are not the same.
-use Rattle.std.proofs.Common.{◌≡◌, Bool, true, false, ◌||◌, ℕ, zero, suc, ◌+◌, ◌<◌, ◌≤◌, List, [], ◌∷◌, Option, None, length, map, take, drop, get_or, refl, sym, ap, ◌∙◌, arith, ⊎_elim, true≢false}
+use Rattle.std.proofs.Common.{◌≡◌, Bool, true, false, ◌&&◌, ◌||◌, ℕ, zero, suc, ◌+◌, ◌<◌, ◌≤◌, List, [], ◌∷◌, Option, None, length, map, take, drop, get_or, refl, sym, ap, ◌∙◌, arith, ⊎_elim, true≢false}
 use Rattle.std.specs.Prelude.{nat_lt, IsTrue}
 use Rattle.std.specs.List.{list_any, filter_map, enumerate_from, IsAllAdjacentAnswer, AllByRecursion}
 use Rattle.std.specs.List.Sorted.{IsPermutation}
@@ -15,7 +15,9 @@ use Rattle.std.proofs.lemmas.Map.Keys.{sorted_from_all_adjacent, IsDistinct-from
 use Rattle.std.proofs.lemmas.List.Sorted.{IsPermutation-sym}
 use Rattle.file_facts.specs.declared.diagnostic.Diag.{Diag}
 use Rattle.file_facts.specs.Checks.{judged, judged_at}
-use Rattle.proto_facts.specs.Twice.{hash_of, AreDistinct}
+use Rattle.file_facts.specs.FullNames.{hash_of, last_of, scope_of}
+use Rattle.file_facts.proofs.ApartNames.{same_parts}
+use Rattle.proto_facts.specs.Twice.{AreDistinct}
 use Rattle.proto_facts.proofs.Places.{diags-next, judged-end}
 
 -- numbers that ascend once they are sorted
@@ -31,6 +33,15 @@ apart a b differ =
     (λ y. absurd (true≢false (sym ((eq_by_cmp_equiv nat_cmp_total).refl (hash_of a)) ∙ ap (λ n. eq_by_cmp nat_cmp (hash_of a) (hash_of n)) ((bytes_eq-Decides a b).0 y) ∙ differ)))
     (λ n. n)
     (cases_Bool (bytes_eq a b))
+
+-- names are the same where their hashes and both parts are
+pub same_hashed : (a b : List ℕ) → ((eq_by_cmp nat_cmp (hash_of a) (hash_of b) && bytes_eq (last_of a) (last_of b)) && bytes_eq (scope_of a) (scope_of b)) ≡ bytes_eq a b
+same_hashed a b =
+    let parts = λ (h : Bool). (h && bytes_eq (last_of a) (last_of b)) && bytes_eq (scope_of a) (scope_of b) in
+    ⊎_elim
+    (λ same. ap parts same ∙ same_parts a b)
+    (λ differ. ap parts differ ∙ sym (apart a b differ))
+    (cases_Bool (eq_by_cmp nat_cmp (hash_of a) (hash_of b)))
 
 at-place : {X : Type 0} (P : ℕ → Type 0) (f : X → ℕ) (xs : List X) (k : ℕ) (d : X) → k < length xs → AllByRecursion P (map f xs) → P (f (get_or xs k d))
 at-place P f [] k d lt all = absurd (omega arith)

@@ -3,12 +3,13 @@ use Rattle.std.specs.Prelude.{◌≡◌, ℕ, ◌≤◌, Bool, false, String, Li
 use Rattle.std.specs.List.{list_any}
 use Rattle.std.specs.Str.{bytes_eq}
 use Rattle.std.specs.BTreeSet.{BTreeSet, contains, contains_by, contains_text}
-use Rattle.std.specs.Ordering.{nat_cmp}
+use Rattle.std.specs.Ordering.{nat_cmp, ordering_then}
 use Rattle.std.specs.Cmp.Lexicographic.{slice_cmp}
 use Rattle.std.specs.declared.alloc.Global.{Global}
 use Rattle.file_facts.specs.declared.part.Member.{Member}
 use Rattle.file_facts.specs.declared.part.ReservedName.{ReservedName}
 use Rattle.file_facts.specs.Checks.{is_value, has_value}
+use Rattle.file_facts.specs.FullNames.{hash_of, last_of, scope_of}
 use denote.Ref.{Bor}
 
 abbrev pub has : BTreeSet ℕ → Option ℕ → Bool
@@ -26,6 +27,10 @@ AreNames names s = (q : List ℕ) → contains_text s q ≡ list_any (λ e. byte
 -- the set has a name of these bytes
 abbrev pub has_name : BTreeSet (Bor (List ℕ)) → List ℕ → Bool
 has_name s name = contains_by (λ k. slice_cmp nat_cmp name k.now) s
+
+-- the set has the hash, the last component and the scope of a full name of these bytes
+abbrev pub has_full_name : BTreeSet (ℕ × Bor (List ℕ) × Bor (List ℕ)) → List ℕ → Bool
+has_full_name s name = contains_by (λ k. ordering_then (ordering_then (nat_cmp (hash_of name) k.0) (slice_cmp nat_cmp (last_of name) k.1.now)) (slice_cmp nat_cmp (scope_of name) k.2.now)) s
 
 -- none of these fields or values has a number from here on
 abbrev pub AreBelow : List Member → ℕ → Type 0

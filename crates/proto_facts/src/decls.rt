@@ -5,7 +5,7 @@ ghost use Rattle.file_facts.specs.Decls as spec;
 ghost use Rattle.file_facts.specs.declared.fact.DeclKind.TheVariants as kinds;
 
 use crate::text::Source;
-use file_facts::{Decl, DeclKind, joined, text_at};
+use file_facts::{Decl, DeclKind, FullName, ScopeName, text_at};
 use sqlite_items::Items;
 use std::alloc::AllocError;
 use syntax_tree::{Node, Span};
@@ -18,7 +18,7 @@ pub struct Enclosing<'a> {
     // What a field is declared as there: as a field or as an extension.
     pub members: DeclKind,
     // What full names begin with there; empty at the top of a file without a package.
-    pub scope: &'a str,
+    pub scope: &'a ScopeName,
     // The number of the declaration whose body it is, if any.
     pub parent: Option<usize>,
 }
@@ -30,7 +30,7 @@ fn declared(kind: DeclKind, name: Span, place: Enclosing<'_>) -> Result<Decl, Al
     let Source { alloc, text } = place.source;
     Ok(Decl {
         kind,
-        full_name: joined(alloc, place.scope, text_at(text, name))?,
+        full_name: FullName::in_scope(alloc, place.scope, text_at(text, name))?,
         name_span: name,
         parent: place.parent,
     })
@@ -63,7 +63,8 @@ fn add_own(
     found.push(declared(kind, name, place)?)
 }
 
-// Adds a message or a service, and what is declared inside it: its full name is the scope of that.
+// Adds a message or a service, and what is declared inside it: its full name is the scope of that. The text of this scope is
+// written only where there is anything inside.
 #[cycle(decls)]
 fn add_scope(
     kind: DeclKind,
@@ -74,14 +75,17 @@ fn add_scope(
 ) -> Result<(), AllocError>
     ensures { OnOk result (found.new ≡ found.old ++ spec.scope_decls place.entry.source.text.now kind name items.now place.entry.scope.now place.entry.parent (length found.old)) }
 {
+    if items.is_empty() {
+        return add_own(kind, name, place, found);
+    }
     let own = found.len();
     let decl = declared(kind, name, place)?;
-    let inner = decl.full_name.copy(place.source.alloc)?;
+    let inner = decl.full_name.to_scope(place.source.alloc)?;
     found.push(decl)?;
     let inside = Enclosing {
         source: place.source,
         members: DeclKind::Field,
-        scope: inner.as_str(),
+        scope: &inner,
         parent: Some(own),
     };
     add_decls(items, inside, found)

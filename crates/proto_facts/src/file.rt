@@ -1,6 +1,6 @@
 // The statements of a file itself, and what is wrong with them.
 
-ghost use Rattle.std.specs.Prelude.{◌≡◌, ◌<◌, ◌^◌, ◌++◌, [], ◌∷◌, OnOk, IfOk, ℕ, List, map, nat_lt};
+ghost use Rattle.std.specs.Prelude.{◌≡◌, ◌<◌, ◌^◌, ◌++◌, [], ◌∷◌, OnOk, IfOk, ℕ, List, map, nat_lt, ◌||◌};
 ghost use Rattle.std.specs.List.{list_any, filter_map};
 ghost use Rattle.std.specs.Option.{option_to_list};
 ghost use Rattle.syntax_tree.specs.declared.node.Node.{out-Node};
@@ -15,7 +15,7 @@ use file_facts::{Diag, ImportFact, PackageFact, Problem, StatedPackage, StatedSy
 use proto_lex::Reason;
 use sqlite_items::Items;
 use std::alloc::{AllocError, Global};
-use syntax_tree::{Fault, Literal, Node, Span, SyntaxProblem, is_too_long};
+use syntax_tree::{Fault, FileTree, Literal, Node, Span, SyntaxProblem, is_too_long};
 
 // ---- bad tokens and statements
 
@@ -142,54 +142,43 @@ fn bad_start(problem: SyntaxProblem, span: Span) -> Option<usize>
     }
 }
 
-fn add_start(start: Option<usize>, found: &mut Items<usize>) -> Result<(), AllocError>
-    ensures { OnOk result (found.new ≡ found.old ++ option_to_list start) }
+// The less of a start and another, where there is one.
+fn earlier(least: usize, start: Option<usize>) -> usize
+    ensures { (x : ℕ) → nat_lt result x ≡ (nat_lt least x || list_any (λ s. nat_lt s x) (option_to_list start)) }
 {
     match start {
-        Some(start) => found.push(start),
-        None => Ok(()),
+        Some(start) => least.min(start),
+        None => least,
     }
 }
 
-fn add_bad_starts(faults: &[Fault], found: &mut Items<usize>) -> Result<(), AllocError>
-    ensures { OnOk result (found.new ≡ found.old ++ filter_map (λ f. spec.bad_start f.problem f.span) faults.now) }
-{
-    'faults: for fault in faults {
-        add_start(bad_start(fault.problem, fault.span), found)?;
-    }
-    Ok(())
-}
-
-fn add_node_starts(nodes: &[Node], found: &mut Items<usize>) -> Result<(), AllocError>
-    ensures { OnOk result (found.new ≡ found.old ++ map (λ n. spec.start_of (out-Node n)) nodes.now) }
-{
-    'nodes: for node in nodes {
-        found.push(start_of(node))?;
-    }
-    Ok(())
-}
-
-// Adds where the statements of a file start.
-pub fn add_starts(
-    nodes: &[Node],
-    faults: &[Fault],
-    found: &mut Items<usize>,
-) -> Result<(), AllocError>
-    ensures { OnOk result (found.new ≡ found.old ++ (map (λ n. spec.start_of (out-Node n)) nodes.now ++ filter_map (λ f. spec.bad_start f.problem f.span) faults.now)) }
-{
-    add_node_starts(nodes, found)?;
-    add_bad_starts(faults, found)
-}
-
-// The least of the starts.
-fn earliest(starts: &[usize]) -> usize
-    ensures { (x : ℕ) → x < 2 ^ 64 → nat_lt result x ≡ list_any (λ start. nat_lt start x) starts.now }
+// The least of the starts of nodes.
+fn earliest_node(nodes: &[Node]) -> usize
+    ensures { (x : ℕ) → x < 2 ^ 64 → nat_lt result x ≡ list_any (λ start. nat_lt start x) (map (λ n. spec.start_of (out-Node n)) nodes.now) }
 {
     let mut least = usize::MAX;
-    'starts: for start in starts {
-        least = least.min(*start);
+    'nodes: for node in nodes {
+        least = least.min(start_of(node));
     }
     least
+}
+
+// The least of a start and those of bad statements.
+fn earliest_bad(start: usize, faults: &[Fault]) -> usize
+    ensures { (x : ℕ) → nat_lt result x ≡ (nat_lt start x || list_any (λ s. nat_lt s x) (filter_map (λ f. spec.bad_start f.problem f.span) faults.now)) }
+{
+    let mut least = start;
+    'faults: for fault in faults {
+        least = earlier(least, bad_start(fault.problem, fault.span));
+    }
+    least
+}
+
+// Where the first statement of a file starts.
+fn earliest(tree: &FileTree) -> usize
+    ensures { (x : ℕ) → x < 2 ^ 64 → nat_lt result x ≡ list_any (λ start. nat_lt start x) (spec.starts tree.now) }
+{
+    earliest_bad(earliest_node(tree.nodes.as_slice()), tree.faults.as_slice())
 }
 
 fn syntax_late(earliest: usize, stated: StatedSyntax) -> Option<Diag>
@@ -204,13 +193,13 @@ fn syntax_late(earliest: usize, stated: StatedSyntax) -> Option<Diag>
 
 // Adds the `syntax` statements that another statement starts before.
 pub fn add_syntax_late(
-    starts: &[usize],
+    tree: &FileTree,
     stated: &[StatedSyntax],
     diags: &mut Items<Diag>,
 ) -> Result<(), AllocError>
-    ensures { OnOk result (diags.new ≡ diags.old ++ filter_map (spec.syntax_late starts.now) stated.now) }
+    ensures { OnOk result (diags.new ≡ diags.old ++ filter_map (spec.syntax_late (spec.starts tree.now)) stated.now) }
 {
-    let earliest = earliest(starts);
+    let earliest = earliest(tree);
     'stated: for found in stated {
         add(syntax_late(earliest, *found), diags)?;
     }

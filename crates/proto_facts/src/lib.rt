@@ -20,7 +20,7 @@ mod twice;
 mod walk;
 
 pub use file_facts::{
-    Decl, DeclKind, Diag, FileFacts, ImportFact, Name, PackageFact, Problem, SyntaxFact, in_order,
-    joined, text_at,
+    Decl, DeclKind, Diag, FileFacts, FullName, ImportFact, Name, PackageFact, Problem, SyntaxFact,
+    in_order, joined, text_at,
 };
 pub use report::facts;

@@ -1,19 +1,19 @@
 // The facts of a text and its tree.
 
 ghost use Rattle.std.specs.Prelude.{◌≡◌, ◌++◌, [], ◌∷◌, OnOk, IfOk, None, Some, List};
-ghost use Rattle.std.specs.List.{filter_map};
 ghost use Rattle.file_facts.specs.Facts as spec;
 ghost use Rattle.syntax_tree.specs.Read.{value_tree};
 
 use crate::file::{
-    add_faults, add_imports, add_package_diags, add_packages, add_starts, add_stated,
-    add_syntax_late, first_package, opaque,
+    add_faults, add_imports, add_package_diags, add_packages, add_stated, add_syntax_late,
+    first_package, opaque,
 };
 use crate::text::Source;
 use crate::twice::{add_declared_twice, add_imported_twice};
 use crate::walk::add_statements;
 use file_facts::{
-    Decl, Decls, Diag, FileFacts, ImportFact, StatedPackage, StatedSyntax, SyntaxFact, in_order,
+    Decl, Decls, Diag, FileFacts, ImportFact, ScopeName, StatedPackage, StatedSyntax, SyntaxFact,
+    put_in_order,
 };
 use sqlite_items::Items;
 use std::alloc::{AllocError, Global};
@@ -63,24 +63,12 @@ fn add_tree_diags(
     ensures decls { IfOk result (λ d. d ≡ spec.decls_with source.entry.text.now «package».now tree.now.nodes) }
     ensures diags { OnOk result (diags.new ≡ diags.old ++ spec.tree_diags source.entry.text.now tree.now) }
 {
+    let scope = ScopeName::of(source.alloc, package)?;
     let mut decls = Items::new(source.alloc);
     add_faults(tree.faults.as_slice(), diags)?;
     let nodes = tree.nodes.as_slice();
-    add_statements(source, nodes, package, &mut decls, diags)?;
+    add_statements(source, nodes, &scope, &mut decls, diags)?;
     Ok(decls)
-}
-
-fn add_late_diags(
-    alloc: Global,
-    tree: &FileTree,
-    stated: &[StatedSyntax],
-    diags: &mut Items<Diag>,
-) -> Result<(), AllocError>
-    ensures { OnOk result (diags.new ≡ diags.old ++ filter_map (spec.syntax_late (spec.starts tree.now)) stated.now) }
-{
-    let mut starts = Items::new(alloc);
-    add_starts(tree.nodes.as_slice(), tree.faults.as_slice(), &mut starts)?;
-    add_syntax_late(starts.as_slice(), stated, diags)
 }
 
 fn add_file_diags(
@@ -108,7 +96,7 @@ fn add_analysed(
     ensures diags { IfOk result (λ d. diags.new ≡ diags.old ++ spec.diags_of source.entry.text.now tree.now own.entry.stated.now own.entry.packages.now own.entry.imports.now d) }
 {
     let decls = add_tree_diags(source, tree, package_name(own.packages), diags)?;
-    add_late_diags(source.alloc, tree, own.stated, diags)?;
+    add_syntax_late(tree, own.stated, diags)?;
     add_file_diags(
         source.alloc,
         own.packages,
@@ -139,7 +127,7 @@ fn analysed_facts(
     };
     let mut found = Items::new(alloc);
     let decls = add_analysed(Source { alloc, text }, tree, own, &mut found)?;
-    let diags = in_order(alloc, found.as_slice())?;
+    let diags = put_in_order(alloc, found)?;
     let package = first_package(packages);
     Ok(FileFacts {
         syntax: SyntaxFact::Proto3,

@@ -7,6 +7,7 @@ ghost use Rattle.std.specs.Str.{bytes_eq};
 ghost use Rattle.file_facts.specs.Checks as checks;
 ghost use Rattle.proto_facts.specs.Seen as spec;
 
+use file_facts::FullName;
 use std::alloc::{AllocError, Global};
 use std::collections::BTreeSet;
 
@@ -36,4 +37,16 @@ pub fn note_name<'a>(seen: &mut BTreeSet<&'a str>, name: &'a str) -> Result<bool
     ensures more { OnOk result ((q : List ℕ) → spec.has_name seen.new q ≡ (bytes_eq name.now q || spec.has_name seen.old q)) }
 {
     Ok(!seen.insert(name)?)
+}
+
+// Adds a full name, and answers whether an equal one was there. The set only borrows its last component and its scope, and compares
+// the texts of two names only where their hashes are equal: many names may have one long scope.
+pub fn note_full_name<'a>(
+    seen: &mut BTreeSet<(u64, &'a str, &'a str)>,
+    name: &'a FullName,
+) -> Result<bool, AllocError>
+    ensures found { IfOk result (λ found. found ≡ spec.has_full_name seen.old name.now) }
+    ensures more { OnOk result ((q : List ℕ) → spec.has_full_name seen.new q ≡ (bytes_eq name.now q || spec.has_full_name seen.old q)) }
+{
+    Ok(!seen.insert((name.hash(), name.last(), name.scope()))?)
 }

@@ -6,24 +6,15 @@
 ghost use Rattle.std.specs.Prelude.{◌≡◌, ◌++◌, IfOk, IsTrue, OnOk, map};
 ghost use Rattle.file_facts.specs.Checks as checks;
 ghost use Rattle.file_facts.specs.Facts as facts;
+ghost use Rattle.file_facts.specs.FullNames.{hash_of};
 ghost use Rattle.proto_facts.specs.Twice as spec;
 
 use crate::checks::{add, diag_if};
-use crate::seen::note_name;
-use file_facts::{Decl, Diag, ImportFact, Problem};
+use crate::seen::{note_full_name, note_name};
+use file_facts::{Decl, Diag, ImportFact, Problem, hash_of};
 use sqlite_items::Items;
 use std::alloc::{AllocError, Global};
 use std::collections::BTreeSet;
-use std::hash::{FoldHasher, Hasher};
-
-// The hash of a name. Equal names have equal hashes.
-fn hash_of(name: &str) -> u64
-    ensures { result ≡ spec.hash_of name.now }
-{
-    let mut state = FoldHasher::default();
-    state.write(name.as_bytes());
-    state.finish()
-}
 
 // Whether each number is there only once.
 fn are_distinct(numbers: Vec<u64>) -> bool
@@ -37,11 +28,11 @@ fn are_distinct(numbers: Vec<u64>) -> bool
 // ---- imports
 
 fn path_hashes(alloc: Global, imports: &[ImportFact]) -> Result<Vec<u64>, AllocError>
-    ensures { IfOk result (λ v. v.items ≡ map (λ i. spec.hash_of i.path) imports.now) }
+    ensures { IfOk result (λ v. v.items ≡ map (λ i. hash_of i.path) imports.now) }
 {
     imports
         .iter()
-        .map(|import| hash_of(import.path.as_str()))
+        .map(|import| hash_of(import.path.as_str().as_bytes()))
         .collect(alloc)
 }
 
@@ -79,11 +70,11 @@ pub fn add_imported_twice(
 // ---- declarations
 
 fn name_hashes(alloc: Global, decls: &[Decl]) -> Result<Vec<u64>, AllocError>
-    ensures { IfOk result (λ v. v.items ≡ map (λ d. spec.hash_of d.full_name) decls.now) }
+    ensures { IfOk result (λ v. v.items ≡ map (λ d. hash_of d.full_name) decls.now) }
 {
     decls
         .iter()
-        .map(|decl| hash_of(decl.full_name.as_str()))
+        .map(|decl| decl.full_name.hash())
         .collect(alloc)
 }
 
@@ -97,7 +88,7 @@ fn add_declared_again(
 {
     let mut seen = BTreeSet::new(alloc);
     'names: for name in decls {
-        let again = note_name(&mut seen, name.full_name.as_str())?;
+        let again = note_full_name(&mut seen, &name.full_name)?;
         add(
             diag_if(again, Problem::DeclaredTwice, name.name_span),
             diags,

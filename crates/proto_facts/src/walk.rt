@@ -10,7 +10,7 @@ ghost use Rattle.file_facts.specs.Tree as spec;
 use crate::bodies::add_statement_diags;
 use crate::decls::{Enclosing, add_decl};
 use crate::text::Source;
-use file_facts::{Decl, DeclKind, Diag};
+use file_facts::{Decl, DeclKind, Diag, ScopeName};
 use sqlite_items::Items;
 use std::alloc::AllocError;
 use syntax_tree::Node;
@@ -36,7 +36,7 @@ pub fn add_all_diags(
 pub fn add_statements(
     source: Source<'_>,
     nodes: &[Node],
-    scope: &str,
+    scope: &ScopeName,
     decls: &mut Items<Decl>,
     diags: &mut Items<Diag>,
 ) -> Result<(), AllocError>

@@ -4,6 +4,7 @@
 mod fault;
 mod found;
 mod reading;
+mod room;
 mod skipping;
 mod walk;
 

@@ -2,6 +2,7 @@
 
 use crate::fault::FolderFault;
 use crate::found::{FoundFile, MetFile, ReadFile};
+use crate::room::make_room;
 use crate::skipping::skip_unread;
 use std::alloc::{AllocError, Global};
 use std::fs;
@@ -62,7 +63,8 @@ fn read_run<T: TextReader>(
     run: Vec<MetFile>,
 ) -> Result<Vec<ReadFile>, AllocError> {
     let mut found = Vec::with_capacity(alloc, run.len())?;
-    for file in run {
+    for (number, file) in run.into_iter().enumerate() {
+        make_room(alloc, number);
         let text = text_of(reader, alloc, dir, &file);
         found.push(ReadFile {
             path: file.path,

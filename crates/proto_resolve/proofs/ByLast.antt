@@ -20,11 +20,11 @@ use Rattle.file_facts.specs.Text.{joined}
 use Rattle.proto_resolve.specs.declared.hashed.HashedDecl.{HashedDecl}
 use Rattle.proto_resolve.specs.declared.hashed.HashedDecls.{HashedDecls}
 use Rattle.proto_resolve.specs.declared.target.DeclRef.{DeclRef}
-use Rattle.proto_resolve.specs.Hashed.{hash_of, hashed, AreByHash}
-use Rattle.proto_resolve.specs.Holders.{has_dot}
-use Rattle.proto_resolve.specs.Tables.{by_scope, last_of, scope_before, scope_of, stands_in, AreInOrder, IsByScope}
+use Rattle.proto_resolve.specs.Hashed.{hashed, AreByHash}
+use Rattle.file_facts.specs.FullNames.{hash_of, has_dot, last_of, scope_of}
+use Rattle.proto_resolve.specs.Tables.{by_scope, stands_in, AreInOrder, IsByScope}
 use Rattle.proto_resolve.proofs.Hashes.{all_fit, decls_back, is_before, keeps_mapped, put_fitting, Fits}
-use Rattle.proto_resolve.proofs.LastParts.{parts_of_any}
+use Rattle.file_facts.proofs.LastParts.{parts_of_any}
 use Rattle.proto_resolve.proofs.Same.{fits_so, fitting, same_all, same_any, same_mapped}
 
 -- the declarations of one last component
@@ -35,8 +35,8 @@ of_last name decls last = filter (λ r. bytes_eq (last_of (name r)) last) decls
 -- name passes the test
 pub record AreByLast (name : DeclRef → List ℕ) (test : List ℕ → Bool) (hashes : List ℕ) (decls : List DeclRef) : Type 0 where
   pub hashed : AreByHash (λ r. last_of (name r)) hashes decls
-  pub all : (scope last : List ℕ) → has_dot last ≡ false → stands_in name (length last) (of_last name decls last) scope ≡ test (joined scope last)
-  pub ordered : (last : List ℕ) → IsByScope name (length last) (of_last name decls last)
+  pub all : (scope last : List ℕ) → has_dot last ≡ false → stands_in name (of_last name decls last) scope ≡ test (joined scope last)
+  pub ordered : (last : List ℕ) → IsByScope name (of_last name decls last)
 
 pub any_kept : {X : Type 0} (p g : X → Bool) (xs : List X) → list_any g (filter p xs) ≡ list_any (λ x. p x && g x) xs
 any_kept p g [] = refl
@@ -97,7 +97,7 @@ module _ (name : DeclRef → List ℕ) where
     hashed_so k d lt = keeps_fits (Fits (λ (k : HashedDecl). k.hash) (λ k. k.decl) last_at) has_it gs fits k d lt ∙ ap hash_of (itself k d lt)
 
     neighbours : (k : ℕ) (d : HashedDecl) → k + 1 < length (filter has_it gs)
-        → is_lt (slice_cmp nat_cmp (scope_before (length q) (name (let h = get_or (filter has_it gs) (k + 1) d in h.decl))) (scope_before (length q) (name (let h = get_or (filter has_it gs) k d in h.decl)))) ≡ false
+        → is_lt (slice_cmp nat_cmp (scope_of (name (let h = get_or (filter has_it gs) (k + 1) d in h.decl))) (scope_of (name (let h = get_or (filter has_it gs) k d in h.decl)))) ≡ false
     neighbours k d lt =
         let a = get_or (filter has_it gs) (k + 1) d in
         let b = get_or (filter has_it gs) k d in
@@ -107,37 +107,28 @@ module _ (name : DeclRef → List ℕ) where
         ap₂ (λ (h : ℕ) (l : List ℕ). h ∷ l) (hashed_so (k + 1) d lt ∙ sym (hashed_so k d (omega (arith, lt)))) (first ∙ sym second) in
         let tied : slice_cmp nat_cmp (a.hash ∷ last_at a.decl) (b.hash ∷ last_at b.decl) ≡ Equal =
         ap (λ l. slice_cmp nat_cmp l (b.hash ∷ last_at b.decl)) equal ∙ tied_itself nat_list_cmp_total (b.hash ∷ last_at b.decl) in
-        let up : is_lt (slice_cmp nat_cmp (scope_of (name a.decl)) (scope_of (name b.decl))) ≡ false =
-        second_of_two (slice_cmp nat_cmp (a.hash ∷ last_at a.decl) (b.hash ∷ last_at b.decl)) (slice_cmp nat_cmp (scope_of (name a.decl)) (scope_of (name b.decl))) tied (kept_sorted k d (omega arith) lt) in
-        let here : scope_of (name a.decl) ≡ scope_before (length q) (name a.decl) = ap (λ l. scope_before (length l) (name a.decl)) first in
-        let there : scope_of (name b.decl) ≡ scope_before (length q) (name b.decl) = ap (λ l. scope_before (length l) (name b.decl)) second in
-        ap₂ (λ (x y : List ℕ). is_lt (slice_cmp nat_cmp x y)) (sym here) (sym there) ∙ up
+        second_of_two (slice_cmp nat_cmp (a.hash ∷ last_at a.decl) (b.hash ∷ last_at b.decl)) (slice_cmp nat_cmp (scope_of (name a.decl)) (scope_of (name b.decl))) tied (kept_sorted k d (omega arith) lt)
 
     abbrev decl_of : HashedDecl → DeclRef
     decl_of k = k.decl
 
     abbrev AreNeighbours : List HashedDecl → Type 0
     AreNeighbours hs = (k : ℕ) (d : HashedDecl) → k + 1 < length hs
-        → is_lt (slice_cmp nat_cmp (scope_before (length q) (name (decl_of (get_or hs (k + 1) d)))) (scope_before (length q) (name (decl_of (get_or hs k d))))) ≡ false
+        → is_lt (slice_cmp nat_cmp (scope_of (name (decl_of (get_or hs (k + 1) d)))) (scope_of (name (decl_of (get_or hs k d))))) ≡ false
 
-    into_decls : (hs : List HashedDecl) → AreNeighbours hs → IsByScope name (length q) (map decl_of hs)
+    into_decls : (hs : List HashedDecl) → AreNeighbours hs → IsByScope name (map decl_of hs)
     into_decls [] pairs k d from lt = absurd (omega (arith, lt))
     into_decls (h ∷ hs) pairs k d from lt =
         let long : k + 1 < length (h ∷ hs) = rw (length-map (h ∷ hs) decl_of) at lt in
         rw (get_or-map decl_of (h ∷ hs) k h d (omega (arith, long)), get_or-map decl_of (h ∷ hs) (k + 1) h d long) (pairs k h long)
 
-    pub of_one_last : IsByScope name (length q) (of_last name (map decl_of gs) q)
-    of_one_last = subst (IsByScope name (length q)) (sym (keeps_mapped (λ r. bytes_eq (last_at r) q) decl_of gs)) (into_decls (filter has_it gs) neighbours)
+    pub of_one_last : IsByScope name (of_last name (map decl_of gs) q)
+    of_one_last = subst (IsByScope name) (sym (keeps_mapped (λ r. bytes_eq (last_at r) q) decl_of gs)) (into_decls (filter has_it gs) neighbours)
 
   -- ---- which there are
 
-  pub both_parts : (s q : List ℕ) → has_dot q ≡ false → (n : List ℕ) → (bytes_eq (last_of n) q && bytes_eq (scope_before (length q) n) s) ≡ bytes_eq n (joined s q)
-  both_parts s q plain n = elim (cases_Bool (bytes_eq (last_of n) q)) [
-    | inl holds ↦
-        let is : last_of n ≡ q = (bytes_eq-Decides (last_of n) q).0 holds in
-        ap (λ l. bytes_eq (last_of n) q && bytes_eq (scope_before (length l) n) s) (sym is) ∙ (parts_of_any n).only s q plain
-    | inr fails ↦ rw fails (rw fails at ((parts_of_any n).only s q plain))
-  ]
+  pub both_parts : (s q : List ℕ) → has_dot q ≡ false → (n : List ℕ) → (bytes_eq (last_of n) q && bytes_eq (scope_of n) s) ≡ bytes_eq n (joined s q)
+  both_parts s q plain n = (parts_of_any n).only s q plain
 
   other_way : (a b c : Bool) → b ≡ c → (a && b) ≡ (c && a)
   other_way true b true e = e
@@ -146,12 +137,12 @@ module _ (name : DeclRef → List ℕ) where
   other_way false b false e = refl
 
   stands_alike : (holder : DeclRef → Bool) (decls ds : List DeclRef) → ((p : DeclRef → Bool) → length (filter p (filter holder decls)) ≡ length (filter p ds)) → (s q : List ℕ) → has_dot q ≡ false
-      → stands_in name (length q) (of_last name ds q) s ≡ list_any (λ r. bytes_eq (name r) (joined s q) && holder r) decls
+      → stands_in name (of_last name ds q) s ≡ list_any (λ r. bytes_eq (name r) (joined s q) && holder r) decls
   stands_alike holder decls ds same s q plain =
-      any_kept (λ r. bytes_eq (last_of (name r)) q) (λ r. bytes_eq (scope_before (length q) (name r)) s) ds
-      ∙ sym (same_any (filter holder decls) ds same (λ r. bytes_eq (last_of (name r)) q && bytes_eq (scope_before (length q) (name r)) s))
-      ∙ any_kept holder (λ r. bytes_eq (last_of (name r)) q && bytes_eq (scope_before (length q) (name r)) s) decls
-      ∙ ap (λ (test : DeclRef → Bool). list_any test decls) (fun_ext (λ r. other_way (holder r) (bytes_eq (last_of (name r)) q && bytes_eq (scope_before (length q) (name r)) s) (bytes_eq (name r) (joined s q)) (both_parts s q plain (name r))))
+      any_kept (λ r. bytes_eq (last_of (name r)) q) (λ r. bytes_eq (scope_of (name r)) s) ds
+      ∙ sym (same_any (filter holder decls) ds same (λ r. bytes_eq (last_of (name r)) q && bytes_eq (scope_of (name r)) s))
+      ∙ any_kept holder (λ r. bytes_eq (last_of (name r)) q && bytes_eq (scope_of (name r)) s) decls
+      ∙ ap (λ (test : DeclRef → Bool). list_any test decls) (fun_ext (λ r. other_way (holder r) (bytes_eq (last_of (name r)) q && bytes_eq (scope_of (name r)) s) (bytes_eq (name r) (joined s q)) (both_parts s q plain (name r))))
 
   -- what may settle a scope, by the last components
   pub holders_by_last : (holder : DeclRef → Bool) (decls : List DeclRef) (found : HashedDecls) → AreInOrder (by_scope name) (map (hashed last_at) (filter holder decls)) found

@@ -1,5 +1,5 @@
 -- Entries for the names of files, of some files and of others that follow.
-use Rattle.std.proofs.Common.{◌≡◌, ◌∙◌, sym, ap, ap₂, refl, inl, inr, ◌<◌, ◌≤◌, ◌+◌, ◌-◌, ℕ, List, [], ◌∷◌, ◌++◌, Bool, true, false, not, map, filter, take, drop, get_or, set, length, arith}
+use Rattle.std.proofs.Common.{◌≡◌, ◌∙◌, sym, ap, ap₂, refl, inl, inr, ◌<◌, ◌≤◌, ◌+◌, ◌-◌, ℕ, List, [], ◌∷◌, ◌++◌, Bool, false, not, map, filter, take, drop, get_or, set, length, arith}
 use Rattle.std.specs.Prelude.{All, nat_lt}
 use Rattle.std.specs.List.{enumerate_from, flat_map}
 use Rattle.std.specs.List.Sorted.{IsSorted}
@@ -18,9 +18,10 @@ use Rattle.proto_resolve.specs.declared.hashed.HashedDecl.{HashedDecl}
 use Rattle.proto_resolve.specs.declared.target.DeclRef.{DeclRef}
 use Rattle.proto_resolve.specs.Entries.{renumbered, with_renumbered, AreEntriesOf}
 use Rattle.proto_resolve.specs.Files.{all_decls, decl_at, facts_at, no_decl, no_facts}
-use Rattle.proto_resolve.specs.Hashed.{hash_of, hashed}
+use Rattle.proto_resolve.specs.Hashed.{hashed}
+use Rattle.file_facts.specs.FullNames.{hash_of, last_of}
 use Rattle.proto_resolve.specs.Names.{is_holder}
-use Rattle.proto_resolve.specs.Tables.{by_name, by_scope, holder_entries, last_of, name_at, name_entries, AreRearranged}
+use Rattle.proto_resolve.specs.Tables.{by_name, by_scope, holder_entries, name_at, name_entries, AreRearranged}
 use Rattle.proto_resolve.proofs.ByLast.{keeps_fits}
 use Rattle.proto_resolve.proofs.Hashes.{keeps_mapped}
 use Rattle.proto_resolve.proofs.Order.{numbered, refs, refs_from, IsFrom}
@@ -149,7 +150,7 @@ lasts files r = last_of (name_at files r)
 abbrev holds : List NamedFacts → DeclRef → Bool
 holds files r = is_holder (let d = decl_at files r in d.kind)
 
-map_alike : (name name' : DeclRef → List ℕ) (ds : List DeclRef) → All (λ r. name r ≡ name' r) ds → map (hashed name) ds ≡ map (hashed name') ds
+pub map_alike : (name name' : DeclRef → List ℕ) (ds : List DeclRef) → All (λ r. name r ≡ name' r) ds → map (hashed name) ds ≡ map (hashed name') ds
 map_alike name name' [] same_are = refl
 map_alike name name' (r ∷ rs) same_are =
     ap₂ (λ (t : List ℕ) (es : List HashedDecl). record { hash = hash_of t; decl = r } ∷ es) (All-head (λ r. name r ≡ name' r) r rs same_are)
@@ -188,10 +189,6 @@ lower_so a b e = grind (arith, nat_tests)
 
 lower_is : (a b : ℕ) → a < b → not (nat_lt a b) ≡ false
 lower_is a b lt = grind (arith, nat_tests)
-
-pub keeps_any : {X : Type 0} (xs : List X) → filter (λ x. true) xs ≡ xs
-keeps_any [] = refl
-keeps_any {X} (x ∷ xs) = ap (λ (ys : List X). x ∷ ys) (keeps_any xs)
 
 abbrev pub IsWithin : List NamedFacts → HashedDecl → Type 0
 IsWithin files k = (let r = decl_of k in r.file) < length files

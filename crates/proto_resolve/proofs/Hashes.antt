@@ -18,7 +18,8 @@ use Rattle.std.proofs.lemmas.Map.Text.{is_eq-slice_cmp}
 use Rattle.std.proofs.lemmas.Slice.Eq.{bytes_eq-Decides}
 use Rattle.proto_resolve.specs.declared.hashed.HashedDecl.{HashedDecl}
 use Rattle.proto_resolve.specs.declared.target.DeclRef.{DeclRef}
-use Rattle.proto_resolve.specs.Hashed.{hash_of, hashed, with_hash, AreByHash}
+use Rattle.proto_resolve.specs.Hashed.{hashed, with_hash, AreByHash}
+use Rattle.file_facts.specs.FullNames.{hash_of}
 use Rattle.proto_resolve.proofs.Search.{below, same}
 
 -- ---- the order

@@ -14,10 +14,11 @@ use Rattle.proto_resolve.specs.declared.hashed.HashedDecls.{HashedDecls}
 use Rattle.proto_resolve.specs.declared.target.DeclRef.{DeclRef}
 use Rattle.proto_resolve.specs.Buckets.{is_in, AreInBuckets}
 use Rattle.proto_resolve.specs.Files.{all_decls, all_named, decl_at}
-use Rattle.proto_resolve.specs.Hashed.{hash_of, hashed, AreByHash}
-use Rattle.proto_resolve.specs.Holders.{has_dot, is_held}
+use Rattle.proto_resolve.specs.Hashed.{hashed, AreByHash}
+use Rattle.file_facts.specs.FullNames.{hash_of, has_dot, last_of}
+use Rattle.proto_resolve.specs.Holders.{is_held}
 use Rattle.proto_resolve.specs.Names.{is_holder}
-use Rattle.proto_resolve.specs.Tables.{by_name, by_scope, holder_entries, last_of, name_at, name_entries, stands_in, AreInOrder, AreRearranged, IsByScope}
+use Rattle.proto_resolve.specs.Tables.{by_name, by_scope, holder_entries, name_at, name_entries, stands_in, AreInOrder, AreRearranged, IsByScope}
 use Rattle.proto_resolve.proofs.ByLast.{any_kept, both_parts, holders_by_last, of_last, AreByLast}
 use Rattle.proto_resolve.proofs.Hashes.{keeps_mapped}
 use Rattle.proto_resolve.proofs.Places.{named_up, names_by_hash, names_each, AtMost}
@@ -110,7 +111,7 @@ module _ (files : List NamedFacts) (buckets : List HashedDecls) (are : AreInBuck
   pub last_by_hash : AreByHash last_at of_hash.hashes.items of_hash.decls.items
   last_by_hash = by_last.hashed
 
-  pub last_ordered : IsByScope (name_at files) (length last) (of_last (name_at files) of_hash.decls.items last)
+  pub last_ordered : IsByScope (name_at files) (of_last (name_at files) of_hash.decls.items last)
   last_ordered = by_last.ordered last
 
   there_too : (scope : List ℕ) (r : DeclRef) → (bytes_eq (name_at files r) (joined scope last) && (holds r && last_belongs r)) ≡ (bytes_eq (name_at files r) (joined scope last) && holds r)
@@ -122,7 +123,7 @@ module _ (files : List NamedFacts) (buckets : List HashedDecls) (are : AreInBuck
     | inr other ↦ rw other refl
   ]
 
-  pub last_held : (scope : List ℕ) → stands_in (name_at files) (length last) (of_last (name_at files) of_hash.decls.items last) scope ≡ is_held files (joined scope last)
+  pub last_held : (scope : List ℕ) → stands_in (name_at files) (of_last (name_at files) of_hash.decls.items last) scope ≡ is_held files (joined scope last)
   last_held scope =
       by_last.all scope last plain
       ∙ ap (λ (test : DeclRef → Bool). list_any test (all_decls files)) (fun_ext (there_too scope))

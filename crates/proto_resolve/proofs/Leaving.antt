@@ -1,153 +1,218 @@
--- Entries in order of which some go, and to which others come, in their buckets.
-use Rattle.std.proofs.Common.{◌≡◌, ◌∙◌, sym, ap, ap₂, subst, refl, inl, inr, ◌==◌, ◌&&◌, ◌<◌, ◌≤◌, ◌+◌, ℕ, List, [], ◌∷◌, ◌++◌, Bool, true, false, not, map, filter, take, get_or, set, length, arith}
-use Rattle.std.specs.Cmp.{IsTotalOrder}
-use Rattle.std.specs.List.Sorted.{IsPermutation, IsSorted}
+-- Entries in order of which one goes, or to which one comes, in their buckets.
+use Rattle.std.proofs.Common.{◌≡◌, ◌≢◌, ◌∙◌, sym, ap, ap₂, subst, refl, inl, inr, ◌==◌, ◌&&◌, ◌<◌, ◌≤◌, ◌+◌, ◌%◌, ℕ, zero, suc, List, [], ◌∷◌, ◌++◌, append-nil, Bool, true, false, map, filter, take, drop, get_or, set, length, arith}
+use Rattle.std.specs.Prelude.{All}
+use Rattle.std.specs.Cmp.{IsStrictWeakOrder, IsTotalOrder}
+use Rattle.std.specs.List.{insert, remove}
+use Rattle.std.specs.List.Sorted.{IsSortedBy}
 use Rattle.std.specs.Ordering.{is_lt}
 use Rattle.std.specs.declared.cmp.Ordering.{Ordering}
-use Rattle.std.proofs.Math.Path.{fun_ext}
-use Rattle.std.proofs.lemmas.Bool.{cases_Bool, cases_eq}
+use Rattle.std.proofs.lemmas.Bool.{cases_Bool, cases_eq, cases_lt}
 use Rattle.std.proofs.lemmas.Bool.Decides.{nat_tests}
-use Rattle.std.proofs.lemmas.List.{get_or_default, get_or-map, get_or-set_other, get_or-set_same, length-map, length-set, take_more}
+use Rattle.std.proofs.lemmas.List.{append_assoc, drop-map, take_more, get_or_push, get_or-set_other, get_or-set_same, length-map, length_push, length-set, map-append, take-map}
+use Rattle.std.proofs.lemmas.List.Edits.{get_or-insert_above, get_or-insert_at, get_or-insert_below, get_or-remove_above, get_or-remove_below, length-insert, length-remove}
 use Rattle.std.proofs.lemmas.List.Elements.{filter-append}
-use Rattle.std.proofs.lemmas.List.Kept.{IsSortedBy-filter}
-use Rattle.std.proofs.lemmas.List.Sorted.{ranks_by}
+use Rattle.std.proofs.lemmas.List.Sorted.{ranks_by, sorted_far, IsPermutation-insert, IsPermutation-remove}
 use Rattle.proto_resolve.specs.declared.hashed.HashedDecl.{HashedDecl}
 use Rattle.proto_resolve.specs.declared.hashed.HashedDecls.{HashedDecls}
 use Rattle.proto_resolve.specs.declared.target.DeclRef.{DeclRef}
-use Rattle.proto_resolve.specs.Buckets.{is_in, AreDealt, AreInBuckets}
-use Rattle.proto_resolve.specs.Tables.{is_of_another, AreInOrder}
-use Rattle.proto_resolve.proofs.Same.{kept_twice, same_both, same_kept, same_moved}
+use Rattle.proto_resolve.specs.Buckets.{is_in, AreInBuckets}
+use Rattle.proto_resolve.specs.Replaced.{GoesBetween, StandIn}
+use Rattle.proto_resolve.specs.Tables.{AreInOrder}
+use Rattle.proto_resolve.proofs.Same.{counted_both, same_all, same_moved}
 
--- ---- what a test keeps
+-- ---- one element in a sorted list
 
--- where a test fails on none, it keeps all
-pub keeps_whole : {X : Type 0} (p : X → Bool) (xs : List X) → filter (λ x. not (p x)) xs ≡ [] → filter p xs ≡ xs
-keeps_whole p [] none = refl
-keeps_whole p (x ∷ xs) none = elim (cases_Bool (p x)) [
-  | inl passes ↦ rw passes (ap (λ ys. x ∷ ys) (keeps_whole p xs (rw passes at none)))
-  | inr fails ↦ absurd (cc (rw fails at none))
+module _ {X : Type 0} (lt : X → X → Bool) (o : IsStrictWeakOrder lt) (xs : List X) (sorted : IsSortedBy lt xs) (place : ℕ) where
+  behind_inserted : (one : X) → place ≤ length xs → (k : ℕ) (d : X) → place < k → k < length xs → lt (get_or xs k d) (get_or (insert xs place one) k d) ≡ false
+  behind_inserted one within zero d later inside = absurd (omega (arith, later))
+  behind_inserted one within (suc k) d later inside =
+      let next : suc k ≡ k + 1 = omega arith in
+      let from : place ≤ k = omega (arith, later) in
+      rw (next, get_or-insert_above xs place one d k from within) (sorted k d (omega arith) (omega (arith, inside)))
+
+  -- put between one that doesn't come behind it and one that does
+  pub inserted_sorted : (one : X) → place ≤ length xs → ((n : ℕ) (d : X) → n + 1 ≡ place → lt one (get_or xs n d) ≡ false) → ((d : X) → place < length xs → lt one (get_or xs place d) ≡ true) → IsSortedBy lt (insert xs place one)
+  inserted_sorted one within before behind k d from inside =
+      let long : k + 1 < length xs + 1 = omega (arith, inside, length-insert xs place one within) in
+      elim (cases_lt (k + 1) place) [
+        | inl below ↦
+            let first : k < place = omega (arith, below) in
+            let here : k + 1 < length xs = omega (arith, below, within) in
+            rw (get_or-insert_below xs place one d (k + 1) below within, get_or-insert_below xs place one d k first within) (sorted k d from here)
+        | inr above ↦ elim (cases_eq (k + 1) place) [
+          | inl at ↦
+              let first : k < place = omega (arith, at) in
+              let second : get_or (insert xs place one) (k + 1) d ≡ one = subst (λ i. get_or (insert xs place one) i d ≡ one) (sym at) (get_or-insert_at xs place one d within) in
+              rw (second, get_or-insert_below xs place one d k first within) (before k d at)
+          | inr behind_it ↦
+              let later : place ≤ k = omega (arith, above, behind_it) in
+              rw (get_or-insert_above xs place one d k later within) (elim (cases_eq place k) [
+                | inl at ↦
+                    let here : place < length xs = omega (arith, at, long) in
+                    subst (λ i. lt (get_or xs i d) (get_or (insert xs place one) i d) ≡ false) at
+                    (rw (get_or-insert_at xs place one d within) (o.one_way one (get_or xs place d) (behind d here)))
+                | inr other ↦ behind_inserted one within k d (omega (arith, later, other)) (omega (arith, long))
+              ])
+        ]
+      ]
+
+  pub removed_sorted : place < length xs → IsSortedBy lt (remove xs place)
+  removed_sorted within k d from inside =
+      let long : k + 2 < length xs = omega (arith, inside, length-remove xs place within) in
+      let near : k + 1 < length xs = omega (arith, long) in
+      let twice : k + 1 + 1 < length xs = omega (arith, long) in
+      elim (cases_lt (k + 1) place) [
+        | inl below ↦
+            let first : k < place = omega (arith, below) in
+            rw (get_or-remove_below xs place d (k + 1) below within, get_or-remove_below xs place d k first within) (sorted k d from near)
+        | inr above ↦ rw (get_or-remove_above xs place d (k + 1) above within) (elim (cases_lt k place) [
+          | inl first ↦ rw (get_or-remove_below xs place d k first within) (sorted_far lt o xs sorted k (k + 1 + 1) d (omega arith) twice)
+          | inr later ↦ rw (get_or-remove_above xs place d k later within) (sorted (k + 1) d (omega arith) twice)
+        ])
+      ]
+
+module _ {X Y : Type 0} (f : X → Y) (xs : List X) (place : ℕ) where
+  map_removed : remove (map f xs) place ≡ map f (remove xs place)
+  map_removed = ap₂ (λ (front back : List Y). front ++ back) (take-map f place xs) (drop-map f (suc place) xs) ∙ sym (map-append f (take place xs) (drop (suc place) xs))
+
+  map_inserted : (one : X) → insert (map f xs) place (f one) ≡ map f (insert xs place one)
+  map_inserted one = ap₂ (λ (front back : List Y). front ++ f one ∷ back) (take-map f place xs) (drop-map f place xs) ∙ sym (map-append f (take place xs) (one ∷ drop place xs))
+
+-- ---- one entry
+
+abbrev is_one : HashedDecl → HashedDecl → Bool
+is_one a b = (a.hash == b.hash) && (((let r = a.decl in r.file) == (let r = b.decl in r.file)) && ((let r = a.decl in r.number) == (let r = b.decl in r.number)))
+
+eq_so : (a b : ℕ) → (a == b) ≡ true → a ≡ b
+eq_so a b e = grind (arith, nat_tests)
+
+eq_itself : (a : ℕ) → (a == a) ≡ true
+eq_itself a = grind (arith, nat_tests)
+
+first_so : (a b : Bool) → (a && b) ≡ true → a ≡ true
+first_so true b e = refl
+first_so false b e = e
+
+second_so : (a b : Bool) → (a && b) ≡ true → b ≡ true
+second_so true b e = e
+second_so false b e = absurd (cc (e))
+
+is_same : (a b : HashedDecl) → is_one a b ≡ true → a ≡ b
+is_same a b e =
+    let hash : a.hash ≡ b.hash = eq_so a.hash b.hash (first_so (a.hash == b.hash) _ e) in
+    let decl = second_so (a.hash == b.hash) _ e in
+    let file : (let r = a.decl in r.file) ≡ (let r = b.decl in r.file) = eq_so (let r = a.decl in r.file) (let r = b.decl in r.file) (first_so ((let r = a.decl in r.file) == (let r = b.decl in r.file)) _ decl) in
+    let number : (let r = a.decl in r.number) ≡ (let r = b.decl in r.number) = eq_so (let r = a.decl in r.number) (let r = b.decl in r.number) (second_so ((let r = a.decl in r.file) == (let r = b.decl in r.file)) _ decl) in
+    ap₂ (λ (h : ℕ) (r : DeclRef). record { hash = h; decl = r }) hash (ap₂ (λ (f n : ℕ). record { file = f; number = n }) file number)
+
+is_itself : (a : HashedDecl) → is_one a a ≡ true
+is_itself a = rw (eq_itself a.hash, eq_itself (let r = a.decl in r.file), eq_itself (let r = a.decl in r.number)) refl
+
+differs : (a b : HashedDecl) → is_one a b ≡ false → a ≢ b
+differs a b e same = absurd (cc (e, subst (λ c. is_one a c ≡ true) same (is_itself a)))
+
+is_another : (a b : HashedDecl) → a ≢ b → is_one a b ≡ false
+is_another a b other = elim (cases_Bool (is_one a b)) [
+  | inl same ↦ absurd (other (is_same a b same))
+  | inr differ ↦ differ
 ]
-
-either_way : (a b : Bool) → (a && b) ≡ (b && a)
-either_way true true = refl
-either_way true false = refl
-either_way false true = refl
-either_way false false = refl
-
--- two tests keep the same in either order
-pub keeps_either_way : {X : Type 0} (p q : X → Bool) (xs : List X) → filter p (filter q xs) ≡ filter q (filter p xs)
-keeps_either_way p q xs = kept_twice p q xs ∙ ap (λ (test : _). filter test xs) (fun_ext (λ x. either_way (q x) (p x))) ∙ sym (kept_twice q p xs)
-
-pub none_there : {X : Type 0} (xs : List X) → (length xs == 0) ≡ true → xs ≡ []
-none_there [] e = refl
-none_there (x ∷ xs) e = absurd (grind (arith, nat_tests))
-
--- ---- two lists, put together
-
-module _ (sorted : List HashedDecl) (hashes : List ℕ) (decls : List DeclRef) (hashes_are : hashes ≡ map (λ k. k.hash) sorted) (decls_are : decls ≡ map (λ k. k.decl) sorted) where
-  pub next_together : (i h : ℕ) (r : DeclRef) → i < length hashes → ((d : ℕ) → h ≡ get_or hashes i d) → ((d : DeclRef) → r ≡ get_or decls i d) → take i sorted ++ record { hash = h; decl = r } ∷ [] ≡ take (i + 1) sorted
-  next_together i h r lt at_hash at_decl =
-      let long : i < length sorted = rw (hashes_are, length-map sorted (λ (k : HashedDecl). k.hash)) at lt in
-      let one : HashedDecl = record { hash = h; decl = r } in
-      let is : record { hash = h; decl = r } ≡ get_or sorted i one =
-      ap₂ (λ (k : ℕ) (s : DeclRef). record { hash = k; decl = s })
-      (at_hash 0 ∙ ap (λ ks. get_or ks i 0) hashes_are ∙ get_or-map (λ (k : HashedDecl). k.hash) sorted i one 0 long)
-      (at_decl r ∙ ap (λ rs. get_or rs i r) decls_are ∙ get_or-map (λ (k : HashedDecl). k.decl) sorted i one r long) in
-      ap (λ (k : HashedDecl). take i sorted ++ k ∷ []) is ∙ sym (take_more sorted i one long)
 
 -- ---- one bucket
 
-module _ (order : HashedDecl → HashedDecl → Ordering) (entries : List HashedDecl) (before after : HashedDecls) (are : AreInOrder order entries before) where
-  -- those that a test keeps stay in order
-  pub kept_in_order : IsTotalOrder order → (p : HashedDecl → Bool) → after.hashes.items ≡ map (λ k. k.hash) (filter p are.sorted) → after.decls.items ≡ map (λ k. k.decl) (filter p are.sorted)
-      → AreInOrder order (filter p entries) after
-  kept_in_order total p hashes decls = record {
-    sorted = filter p are.sorted;
-    same = λ q. same_kept entries are.sorted are.same p q;
-    ordered = IsSortedBy-filter (λ a b. is_lt (order a b)) (ranks_by total (λ k. k)) p are.sorted are.ordered;
-    hashes_are = hashes;
-    decls_are = decls;
-  }
+-- it has as many hashes as declarations
+pub in_both : (order : HashedDecl → HashedDecl → Ordering) (es : List HashedDecl) (bucket : HashedDecls) → AreInOrder order es bucket → length bucket.hashes.items ≡ length bucket.decls.items
+in_both order es bucket are = ap length are.hashes_are ∙ length-map are.sorted (λ (k : HashedDecl). k.hash) ∙ sym (length-map are.sorted (λ (k : HashedDecl). k.decl)) ∙ sym (ap length are.decls_are)
 
-  -- more of them, put in order and merged with these
-  pub merged_in_order : (more own all : List HashedDecl) → IsPermutation more own → IsPermutation (are.sorted ++ own) all → IsSorted order all
-      → after.hashes.items ≡ map (λ k. k.hash) all → after.decls.items ≡ map (λ k. k.decl) all → AreInOrder order (entries ++ more) after
-  merged_in_order more own all moved both ordered hashes decls = record {
-    sorted = all;
-    same = λ p. same_both entries more are.sorted own are.same (λ q. same_moved more own moved q) p ∙ same_moved (are.sorted ++ own) all both p;
-    ordered = ordered;
-    hashes_are = hashes;
-    decls_are = decls;
-  }
+module _ (order : HashedDecl → HashedDecl → Ordering) (total : IsTotalOrder order) (entries : List HashedDecl) (one : HashedDecl) (before after : HashedDecls) where
+  pub must_stand : AreInOrder order (entries ++ one ∷ []) before → ((es : List HashedDecl) → StandIn es before → All (λ k. k ≢ one) es) → AreInOrder order entries after
+  must_stand are none =
+      let standing : StandIn are.sorted before = record { hashes_are = are.hashes_are; decls_are = are.decls_are } in
+      let all : All (λ k. k ≢ one) (entries ++ one ∷ []) =
+      same_all (λ k. k ≢ one) (λ k. is_one k one) (λ k e. differs k one e) (λ k other. is_another k one other) are.sorted (entries ++ one ∷ []) (λ q. sym (are.same q)) (none are.sorted standing) in
+      absurd (all (length entries) one (omega (arith, length_push entries one)) (get_or_push entries one one (length entries) refl))
 
--- ---- what is read at a place
+  pub taken_out : AreInOrder order (entries ++ one ∷ []) before → (place : ℕ) → place < length before.hashes.items → ((es : List HashedDecl) → StandIn es before → (d : HashedDecl) → get_or es place d ≡ one)
+      → after.hashes.items ≡ remove before.hashes.items place → after.decls.items ≡ remove before.decls.items place → AreInOrder order entries after
+  taken_out are place inside stands hashes decls =
+      let standing : StandIn are.sorted before = record { hashes_are = are.hashes_are; decls_are = are.decls_are } in
+      let within : place < length are.sorted = omega (arith, inside, ap length are.hashes_are, length-map are.sorted (λ (k : HashedDecl). k.hash)) in
+      record {
+        sorted = remove are.sorted place;
+        same = λ p. omega (arith, are.same p, counted_both p entries (one ∷ []), counted_both p (one ∷ []) (remove are.sorted place), same_moved are.sorted (one ∷ remove are.sorted place) (IsPermutation-remove are.sorted place one within (sym (stands are.sorted standing one))) p);
+        ordered = removed_sorted (λ a b. is_lt (order a b)) (ranks_by total (λ k. k)) are.sorted are.ordered place within;
+        hashes_are = hashes ∙ ap (λ es. remove es place) are.hashes_are ∙ map_removed (λ (k : HashedDecl). k.hash) are.sorted place;
+        decls_are = decls ∙ ap (λ es. remove es place) are.decls_are ∙ map_removed (λ (k : HashedDecl). k.decl) are.sorted place;
+      }
 
-read_at : {X : Type 0} (xs : List X) (i : ℕ) (x d : X) → i < length xs → x ≡ get_or xs i x → x ≡ get_or xs i d
-read_at xs i x d lt there = there ∙ get_or_default xs i x d lt
-
-pub items_at : {V X : Type 0} (items : V → List X) (vs : List V) (i : ℕ) (v : V) → i < length vs → v ≡ get_or vs i v → items v ≡ get_or (map items vs) i []
-items_at items vs i v lt there = ap items there ∙ sym (get_or-map items vs i v [] lt)
+  pub put_into : AreInOrder order entries before → (place : ℕ) → place ≤ length before.hashes.items → ((es : List HashedDecl) → StandIn es before → GoesBetween order one es place)
+      → after.hashes.items ≡ insert before.hashes.items place one.hash → after.decls.items ≡ insert before.decls.items place one.decl → AreInOrder order (entries ++ one ∷ []) after
+  put_into are place inside between hashes decls =
+      let standing : StandIn are.sorted before = record { hashes_are = are.hashes_are; decls_are = are.decls_are } in
+      let within : place ≤ length are.sorted = omega (arith, inside, ap length are.hashes_are, length-map are.sorted (λ (k : HashedDecl). k.hash)) in
+      let goes = between are.sorted standing in
+      record {
+        sorted = insert are.sorted place one;
+        same = λ p. omega (arith, are.same p, counted_both p entries (one ∷ []), counted_both p (one ∷ []) are.sorted, same_moved (one ∷ are.sorted) (insert are.sorted place one) (IsPermutation-insert are.sorted place one) p);
+        ordered = inserted_sorted (λ a b. is_lt (order a b)) (ranks_by total (λ k. k)) are.sorted are.ordered place one within goes.before goes.behind;
+        hashes_are = hashes ∙ ap (λ es. insert es place one.hash) are.hashes_are ∙ map_inserted (λ (k : HashedDecl). k.hash) are.sorted place one;
+        decls_are = decls ∙ ap (λ es. insert es place one.decl) are.decls_are ∙ map_inserted (λ (k : HashedDecl). k.decl) are.sorted place one;
+      }
 
 -- ---- all buckets
 
--- up to a number each bucket was changed by a step, and from there on none was
-pub record AreChanged (Step : ℕ → HashedDecls → HashedDecls → Type 0) (old new : List HashedDecls) (number : ℕ) : Type 0 where
-  pub as_many : length new ≡ length old
-  pub later : (n : ℕ) (d : HashedDecls) → number ≤ n → get_or new n d ≡ get_or old n d
-  pub so_far : (n : ℕ) (d : HashedDecls) → n < number → Step n (get_or old n d) (get_or new n d)
+belongs : (count n : ℕ) (k : HashedDecl) → k.hash % count ≡ n → is_in count n k ≡ true
+belongs count n k e = grind (arith, nat_tests)
 
-module _ (Step : ℕ → HashedDecls → HashedDecls → Type 0) (old new : List HashedDecls) (number : ℕ) (are : AreChanged Step old new number) where
-  pub one_changed : (was next : HashedDecls) → number < length old → was ≡ get_or new number was → Step number was next → AreChanged Step old (set new number next) (number + 1)
-  one_changed was next lt there step =
-      let within : number < length new = omega (arith, lt, are.as_many) in
-      record {
-        as_many = length-set new number next ∙ are.as_many;
-        later = λ n d from. get_or-set_other new number n next d (λ e. omega (arith, from, e)) ∙ are.later n d (omega (arith, from));
-        so_far = λ n d below. elim (cases_eq n number) [
-          | inl here ↦ subst (λ m. Step m (get_or old m d) (get_or (set new number next) m d)) (sym here)
-              (subst (Step number (get_or old number d)) (sym (get_or-set_same new number next d within))
-              (subst (λ one. Step number one next) (read_at new number was d within there ∙ are.later number d (omega arith)) step))
-          | inr other ↦ subst (Step n (get_or old n d)) (sym (get_or-set_other new number n next d other)) (are.so_far n d (omega (arith, below, other)))
-        ];
-      }
+stands_elsewhere : (count n : ℕ) (k : HashedDecl) → (k.hash % count ≡ n → ⊥) → is_in count n k ≡ false
+stands_elsewhere count n k other = grind (arith, nat_tests)
 
--- a bucket that loses the entries of a file, which stand in the lists
-abbrev pub Loses : ℕ → List (List HashedDecl) → ℕ → HashedDecls → HashedDecls → Type 0
-Loses file lists n before after =
-    (order : HashedDecl → HashedDecl → Ordering) (entries : List HashedDecl) → IsTotalOrder order → filter (λ k. not (is_of_another file k.decl)) entries ≡ get_or lists n [] → AreInOrder order entries before
-    → AreInOrder order (filter (λ k. is_of_another file k.decl) entries) after
+module _ (es : List HashedDecl) (one : HashedDecl) (count n : ℕ) where
+  in_its_bucket : one.hash % count ≡ n → filter (is_in count n) (es ++ one ∷ []) ≡ filter (is_in count n) es ++ one ∷ []
+  in_its_bucket e =
+      let there : filter (is_in count n) (one ∷ []) ≡ one ∷ [] = rw (belongs count n one e) refl in
+      filter-append (is_in count n) es (one ∷ []) ∙ ap (λ (fs : List HashedDecl). filter (is_in count n) es ++ fs) there
 
--- a bucket that gets the entries of the lists
-abbrev pub Gets : (HashedDecl → HashedDecl → Ordering) → List (List HashedDecl) → ℕ → HashedDecls → HashedDecls → Type 0
-Gets order lists n before after = (entries : List HashedDecl) → AreInOrder order entries before → AreInOrder order (entries ++ get_or lists n []) after
+  in_no_other : (one.hash % count ≡ n → ⊥) → filter (is_in count n) (es ++ one ∷ []) ≡ filter (is_in count n) es
+  in_no_other other =
+      let none : filter (is_in count n) (one ∷ []) ≡ [] = rw (stands_elsewhere count n one other) refl in
+      filter-append (is_in count n) es (one ∷ []) ∙ ap (λ (fs : List HashedDecl). filter (is_in count n) es ++ fs) none ∙ append-nil (filter (is_in count n) es)
 
-module _ (old new : List HashedDecls) (number : ℕ) (whole : number ≡ length old) (empty lists : List (List HashedDecl)) (as_many : length empty ≡ length old) (none : (n : ℕ) → get_or empty n [] ≡ []) where
-  listed : (entries : List HashedDecl) → AreDealt entries empty lists → (n : ℕ) → n < length old → get_or lists n [] ≡ filter (is_in (length old) n) entries
-  listed entries dealt n lt =
-      subst (λ m. get_or lists n [] ≡ get_or empty n [] ++ filter (is_in m n) entries) as_many (dealt.each n (omega (arith, lt, as_many)))
-      ∙ ap (λ es. es ++ filter (is_in (length old) n) entries) (none n)
+module _ (order : HashedDecl → HashedDecl → Ordering) (es : List HashedDecl) (one : HashedDecl) (buckets : List HashedDecls) (number : ℕ) (at : one.hash % length buckets ≡ number) (within : number < length buckets) (was next : HashedDecls)
+    (there : was ≡ get_or buckets number was) where
+  -- the entries of the bucket that changes, where one more is there
+  pub bucket_with : AreInBuckets order (es ++ one ∷ []) buckets → AreInOrder order (filter (is_in (length buckets) number) es ++ one ∷ []) was
+  bucket_with are =
+      subst (λ b. AreInOrder order (filter (is_in (length buckets) number) es ++ one ∷ []) b) (sym there)
+      (subst (λ fs. AreInOrder order fs (get_or buckets number was)) (in_its_bucket es one (length buckets) number at) (are.each number was within))
 
-  module _ (order : HashedDecl → HashedDecl → Ordering) (entries : List HashedDecl) (are : AreInBuckets order entries old) where
-    pub all_lost : (file : ℕ) (gone : List HashedDecl) → AreDealt gone empty lists → AreChanged (Loses file lists) old new number → IsTotalOrder order → filter (λ k. not (is_of_another file k.decl)) entries ≡ gone
-        → AreInBuckets order (filter (λ k. is_of_another file k.decl) entries) new
-    all_lost file gone dealt changed total those = record {
-      some = rw (changed.as_many) (are.some);
-      each = λ n d lt.
-          let within : n < length old = rw changed.as_many at lt in
-          let gone_here : filter (λ k. not (is_of_another file k.decl)) (filter (is_in (length old) n) entries) ≡ get_or lists n [] =
-          keeps_either_way (λ k. not (is_of_another file k.decl)) (is_in (length old) n) entries ∙ ap (filter (is_in (length old) n)) those ∙ sym (listed gone dealt n within) in
-          subst (λ m. AreInOrder order (filter (is_in m n) (filter (λ k. is_of_another file k.decl) entries)) (get_or new n d)) (sym changed.as_many)
-          (subst (λ es. AreInOrder order es (get_or new n d)) (keeps_either_way (λ k. is_of_another file k.decl) (is_in (length old) n) entries)
-          (changed.so_far n d (omega (arith, within, whole)) order (filter (is_in (length old) n) entries) total gone_here (are.each n d within)));
-    }
+  pub bucket_without : AreInBuckets order es buckets → AreInOrder order (filter (is_in (length buckets) number) es) was
+  bucket_without are = subst (λ b. AreInOrder order (filter (is_in (length buckets) number) es) b) (sym there) (are.each number was within)
 
-    pub all_got : (more : List HashedDecl) → AreDealt more empty lists → AreChanged (Gets order lists) old new number → AreInBuckets order (entries ++ more) new
-    all_got more dealt changed = record {
-      some = rw (changed.as_many) (are.some);
-      each = λ n d lt.
-          let within : n < length old = rw changed.as_many at lt in
-          let here : filter (is_in (length old) n) entries ++ get_or lists n [] ≡ filter (is_in (length old) n) (entries ++ more) =
-          ap (λ es. filter (is_in (length old) n) entries ++ es) (listed more dealt n within) ∙ sym (filter-append (is_in (length old) n) entries more) in
-          subst (λ m. AreInOrder order (filter (is_in m n) (entries ++ more)) (get_or new n d)) (sym changed.as_many)
-          (subst (λ es. AreInOrder order es (get_or new n d)) here (changed.so_far n d (omega (arith, within, whole)) (filter (is_in (length old) n) entries) (are.each n d within)));
-    }
+  one_changed : (fs gs : List HashedDecl) → AreInBuckets order fs buckets → ((n : ℕ) → n ≢ number → filter (is_in (length buckets) n) fs ≡ filter (is_in (length buckets) n) gs)
+      → AreInOrder order (filter (is_in (length buckets) number) gs) next → AreInBuckets order gs (set buckets number next)
+  one_changed fs gs are others changed = record {
+    some = rw (length-set buckets number next) are.some;
+    each = λ n d lt.
+        let inside : n < length buckets = rw (length-set buckets number next) at lt in
+        subst (λ m. AreInOrder order (filter (is_in m n) gs) (get_or (set buckets number next) n d)) (sym (length-set buckets number next)) (elim (cases_eq n number) [
+          | inl here ↦ rw here (rw (get_or-set_same buckets number next d within) changed)
+          | inr other ↦ rw (get_or-set_other buckets number n next d other) (subst (λ hs. AreInOrder order hs (get_or buckets n d)) (others n other) (are.each n d inside))
+        ]);
+  }
+
+  pub one_left : AreInBuckets order (es ++ one ∷ []) buckets → AreInOrder order (filter (is_in (length buckets) number) es) next → AreInBuckets order es (set buckets number next)
+  one_left are changed = one_changed (es ++ one ∷ []) es are (λ n other. in_no_other es one (length buckets) n (λ e. other (sym e ∙ at))) changed
+
+  pub one_came : AreInBuckets order es buckets → AreInOrder order (filter (is_in (length buckets) number) es ++ one ∷ []) next → AreInBuckets order (es ++ one ∷ []) (set buckets number next)
+  one_came are changed =
+      one_changed es (es ++ one ∷ []) are (λ n other. sym (in_no_other es one (length buckets) n (λ e. other (sym e ∙ at))))
+      (subst (λ fs. AreInOrder order fs next) (sym (in_its_bucket es one (length buckets) number at)) changed)
+
+-- ---- entries that go or come one by one
+
+module _ (order : HashedDecl → HashedDecl → Ordering) (es more : List HashedDecl) (buckets : List HashedDecls) (i : ℕ) (d : HashedDecl) (lt : i < length more) where
+  pub last_leaves : AreInBuckets order (es ++ take (i + 1) more) buckets → AreInBuckets order ((es ++ take i more) ++ get_or more i d ∷ []) buckets
+  last_leaves are = subst (λ fs. AreInBuckets order fs buckets) (ap (λ (fs : List HashedDecl). es ++ fs) (take_more more i d lt) ∙ sym (append_assoc es (take i more) (get_or more i d ∷ []))) are
+
+  pub next_came : AreInBuckets order ((es ++ take i more) ++ get_or more i d ∷ []) buckets → AreInBuckets order (es ++ take (i + 1) more) buckets
+  next_came are = subst (λ fs. AreInBuckets order fs buckets) (append_assoc es (take i more) (get_or more i d ∷ []) ∙ ap (λ (fs : List HashedDecl). es ++ fs) (sym (take_more more i d lt))) are

@@ -11,7 +11,7 @@ pub mod Nesting
 pub mod Outers
 pub mod LastUse
 pub mod ScopeChains
-pub mod LastParts
+pub mod Apart
 pub mod NextScopes
 pub mod Ahead
 pub mod Fronts
@@ -21,7 +21,6 @@ pub mod Same
 pub mod Dealing
 pub mod InBuckets
 pub mod Places
-pub mod Merges
 pub mod Leaving
 pub mod Entries
 pub mod PackageFronts

@@ -19,7 +19,8 @@ use Rattle.import_graph.specs.Laws.{ViewLaw}
 use Rattle.proto_resolve.specs.declared.target.DeclRef.{DeclRef}
 use Rattle.proto_resolve.specs.declared.target.Target.{Target}
 use Rattle.proto_resolve.specs.declared.target.Target.TheVariants.{Declared, Package}
-use Rattle.proto_resolve.specs.Files.{all_decls, all_named, begins, decl_at, decls_at, dot, ends_component, facts_at, has_package, is_within}
+use Rattle.proto_resolve.specs.Files.{all_decls, all_named, begins, decl_at, decls_at, ends_component, facts_at, has_package, is_within}
+use Rattle.file_facts.specs.FullNames.{dot}
 use Rattle.proto_resolve.specs.Names.{first_declared, found, is_seen, package_found}
 use Rattle.proto_resolve.specs.Finding.{ComesBefore, Finds, HasPackage, IsFirst, IsSeenAs, IsUndeclared}
 use Rattle.proto_resolve.specs.Finding.ComesBefore.{own_file, by_path, by_offset}

@@ -9,7 +9,7 @@ use Rattle.std.proofs.Math.Seq.{get_or-append_seam}
 use Rattle.file_facts.specs.Text.{joined}
 use Rattle.proto_resolve.specs.Holders.{earlier, IsNext, IsPast}
 use Rattle.proto_resolve.specs.ScopeChains.{front_parts}
-use Rattle.proto_resolve.proofs.LastParts.{front_is}
+use Rattle.file_facts.proofs.LastParts.{front_is}
 use Rattle.proto_resolve.proofs.ScopeChains.{as_many, part_at}
 
 pub one_rises : (n : ℕ) → IsNonDecreasing (n ∷ [])

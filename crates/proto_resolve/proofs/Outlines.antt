@@ -19,13 +19,14 @@ use Rattle.import_graph.specs.Imports.{graph_of, imports_of, edge_of}
 use Rattle.import_graph.specs.Paths.{IsInPathOrder, slash}
 use Rattle.proto_resolve.specs.declared.target.DeclRef.{DeclRef}
 use Rattle.proto_resolve.specs.Buckets.{AreByName, AreInBuckets}
-use Rattle.proto_resolve.specs.Files.{all_decls, all_named, decl_at, dot, facts_at, no_decl, no_facts}
+use Rattle.proto_resolve.specs.Files.{all_decls, all_named, decl_at, facts_at, no_decl, no_facts}
+use Rattle.file_facts.specs.FullNames.{dot, last_of}
 use Rattle.proto_resolve.specs.Hashed.{hashed}
 use Rattle.proto_resolve.specs.Names.{is_holder}
 use Rattle.proto_resolve.specs.Outlines.{declared, imported, import_outline, with_facts}
 use Rattle.proto_resolve.specs.Packages.{packaged, ArePackaged}
 use Rattle.proto_resolve.specs.Seen.{exports}
-use Rattle.proto_resolve.specs.Tables.{all_holders, by_name, by_scope, last_of, name_at}
+use Rattle.proto_resolve.specs.Tables.{all_holders, by_name, by_scope, name_at}
 use Rattle.proto_resolve.specs.declared.buckets.Buckets.{Buckets}
 use Rattle.proto_resolve.specs.declared.packages.PackagedFile.{PackagedFile}
 use Rattle.proto_resolve.proofs.Order.{numbered, refs}

@@ -11,7 +11,8 @@ use Rattle.std.proofs.lemmas.List.Sorted.{list_any-IsPermutation}
 use Rattle.file_facts.specs.declared.fact.PackageFact.{PackageFact}
 use Rattle.import_graph.specs.declared.paths.NamedFacts.{NamedFacts}
 use Rattle.proto_resolve.specs.declared.packages.PackagedFile.{PackagedFile}
-use Rattle.proto_resolve.specs.Files.{begins, dot, has_package, is_within}
+use Rattle.proto_resolve.specs.Files.{begins, has_package, is_within}
+use Rattle.file_facts.specs.FullNames.{dot}
 use Rattle.proto_resolve.specs.Names.{is_seen}
 use Rattle.proto_resolve.specs.Packages.{all_packaged, packaged, AreNoLonger, ArePackaged, AreThoseWith}
 use Rattle.proto_resolve.proofs.Alike.{any_agree}

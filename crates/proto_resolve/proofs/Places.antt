@@ -20,7 +20,8 @@ use Rattle.proto_resolve.specs.declared.hashed.HashedDecl.{HashedDecl}
 use Rattle.proto_resolve.specs.declared.hashed.HashedDecls.{HashedDecls}
 use Rattle.proto_resolve.specs.declared.target.DeclRef.{DeclRef}
 use Rattle.proto_resolve.specs.Files.{all_named}
-use Rattle.proto_resolve.specs.Hashed.{hash_of, hashed, AreByHash}
+use Rattle.proto_resolve.specs.Hashed.{hashed, AreByHash}
+use Rattle.file_facts.specs.FullNames.{hash_of}
 use Rattle.proto_resolve.specs.Tables.{by_name, by_place, AreInOrder, AreRearranged}
 use Rattle.proto_resolve.proofs.ByLast.{first_of_two, keeps_fits, second_of_two}
 use Rattle.proto_resolve.proofs.Hashes.{all_fit, decls_back, is_before, keeps_mapped, put_fitting, Fits}

@@ -13,7 +13,8 @@ use Rattle.std.proofs.lemmas.Cmp.{nat_list_cmp_total}
 use Rattle.std.proofs.lemmas.List.{get_or_default, get_or-drop, get_or-take, length-drop, length-take, take-append-drop}
 use Rattle.std.proofs.lemmas.List.Folds.{list_any-append, list_any_none}
 use Rattle.std.proofs.lemmas.List.Sorted.{searchable_from_sorted, sorted_far, ranks_by}
-use Rattle.proto_resolve.specs.Files.{dot, ends_component, begins as components_begin}
+use Rattle.proto_resolve.specs.Files.{ends_component, begins as components_begin}
+use Rattle.file_facts.specs.FullNames.{dot}
 use Rattle.proto_resolve.proofs.Alike.{any_agree}
 use Rattle.proto_resolve.proofs.Search.{below, same}
 

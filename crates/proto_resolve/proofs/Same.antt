@@ -49,6 +49,10 @@ module _ {X : Type 0} where
   pub same_kept : (xs ys : List X) → ((p : X → Bool) → length (filter p xs) ≡ length (filter p ys)) → (q p : X → Bool) → length (filter p (filter q xs)) ≡ length (filter p (filter q ys))
   same_kept xs ys same q p = ap length (kept_twice p q xs) ∙ same (λ x. q x && p x) ∙ sym (ap length (kept_twice p q ys))
 
+  -- of two lists it keeps as many as of each
+  pub counted_both : (p : X → Bool) (xs ys : List X) → length (filter p (xs ++ ys)) ≡ length (filter p xs) + length (filter p ys)
+  counted_both p xs ys = ap length (filter-append p xs ys) ∙ length-append (filter p xs) (filter p ys)
+
   pub same_both : (xs ys us vs : List X) → ((p : X → Bool) → length (filter p xs) ≡ length (filter p us)) → ((p : X → Bool) → length (filter p ys) ≡ length (filter p vs))
       → (p : X → Bool) → length (filter p (xs ++ ys)) ≡ length (filter p (us ++ vs))
   same_both xs ys us vs front back p =

@@ -8,6 +8,7 @@ use Rattle.file_facts.specs.declared.fact.DeclKind.TheVariants.{Field}
 use Rattle.file_facts.specs.declared.problem.Problem.TheVariants.{NotProto3}
 use Rattle.file_facts.specs.Diags.{diag, nowhere}
 use Rattle.file_facts.specs.Facts.{opaque_facts}
+use Rattle.file_facts.specs.FullNames.{dot}
 use Rattle.import_graph.specs.declared.paths.NamedFacts.{NamedFacts}
 use Rattle.proto_resolve.specs.declared.target.DeclRef.{DeclRef}
 
@@ -39,10 +40,6 @@ all_decls files = flat_map (λ e. refs_of e.0 (let facts = e.1.facts in facts.de
 -- those of a full name
 abbrev pub all_named : List NamedFacts → List ℕ → List DeclRef
 all_named files name = filter (λ r. bytes_eq (let d = decl_at files r in d.full_name) name) (all_decls files)
-
--- the byte of `.`
-abbrev pub dot : ℕ
-dot = 46
 
 -- whether a component of a name ends here
 abbrev pub ends_component : List ℕ → Bool

@@ -7,7 +7,8 @@ use Rattle.import_graph.specs.Views.{Sees}
 use Rattle.proto_resolve.specs.declared.target.DeclRef.{DeclRef}
 use Rattle.proto_resolve.specs.declared.target.Target.{Target}
 use Rattle.proto_resolve.specs.declared.target.Target.TheVariants.{Declared, Package}
-use Rattle.proto_resolve.specs.Files.{facts_at, decls_at, decl_at, dot}
+use Rattle.proto_resolve.specs.Files.{facts_at, decls_at, decl_at}
+use Rattle.file_facts.specs.FullNames.{dot}
 
 -- a declaration of the name in a file that f sees
 pub record IsSeenAs (files : List NamedFacts) (f : ℕ) (name : List ℕ) (r : DeclRef) : Type 0 where

@@ -3,14 +3,10 @@
 use Rattle.std.specs.Prelude.{◌≡◌, ℕ, ◌∷◌, List, map}
 use Rattle.std.specs.List.Sorted.{IsSorted}
 use Rattle.std.specs.Cmp.Lexicographic.{slice_cmp}
-use Rattle.std.specs.Hash.FoldHasher.{initial, write, finish}
+use Rattle.file_facts.specs.FullNames.{hash_of}
 use Rattle.std.specs.Ordering.{nat_cmp}
 use Rattle.proto_resolve.specs.declared.hashed.HashedDecl.{HashedDecl}
 use Rattle.proto_resolve.specs.declared.target.DeclRef.{DeclRef}
-
--- the hash of a text
-abbrev pub hash_of : List ℕ → ℕ
-hash_of text = finish (write initial text)
 
 -- a text behind its hash
 abbrev pub with_hash : List ℕ → List ℕ

@@ -1,12 +1,9 @@
 -- What may hold the rest of a name, or be a type, found from a scope by the last component of its full name.
-use Rattle.std.specs.Prelude.{◌≡◌, ℕ, ◌<◌, ◌≤◌, ◌==◌, List, [], Bool, true, false, Option, Some, None, length, max, min, slice_index_or}
+use Rattle.std.specs.Prelude.{◌≡◌, ℕ, ◌<◌, ◌≤◌, List, [], Bool, true, false, Option, Some, None, length, max, min, slice_index_or}
 use Rattle.std.specs.List.{list_any}
 use Rattle.import_graph.specs.declared.paths.NamedFacts.{NamedFacts}
-use Rattle.proto_resolve.specs.Files.{all_named, decl_at, dot}
+use Rattle.proto_resolve.specs.Files.{all_named, decl_at}
 use Rattle.proto_resolve.specs.Names.{is_holder}
-
-abbrev pub has_dot : List ℕ → Bool
-has_dot name = list_any (λ c. c == dot) name
 
 -- whether a message, an enum or a service has the full name
 abbrev pub is_held : List NamedFacts → List ℕ → Bool

@@ -7,7 +7,8 @@ use Rattle.std.specs.Ordering.{nat_cmp}
 use Rattle.file_facts.specs.declared.fact.PackageFact.{PackageFact}
 use Rattle.import_graph.specs.declared.paths.NamedFacts.{NamedFacts}
 use Rattle.proto_resolve.specs.declared.packages.PackagedFile.{PackagedFile}
-use Rattle.proto_resolve.specs.Files.{dot, has_package}
+use Rattle.proto_resolve.specs.Files.{has_package}
+use Rattle.file_facts.specs.FullNames.{dot}
 use Rattle.proto_resolve.specs.Names.{is_seen}
 
 -- a file is listed where it has the package

@@ -1,17 +1,16 @@
 -- Declarations by name.
-use Rattle.std.specs.Prelude.{◌≡◌, ℕ, ◌-◌, ◌==◌, ◌&&◌, if◌then◌else◌, List, [], ◌∷◌, Bool, false, not, length, take, map, filter, bytes_eq}
+use Rattle.std.specs.Prelude.{◌≡◌, ℕ, ◌==◌, List, ◌∷◌, Bool, not, length, map, filter, bytes_eq}
 use Rattle.std.specs.List.{list_any}
 use Rattle.std.specs.List.Sorted.{IsSorted, IsSortedBy}
 use Rattle.std.specs.Cmp.Lexicographic.{slice_cmp}
 use Rattle.std.specs.Ordering.{is_lt, nat_cmp, ordering_then}
 use Rattle.std.specs.declared.cmp.Ordering.{Ordering}
 use Rattle.import_graph.specs.declared.paths.NamedFacts.{NamedFacts}
-use Rattle.file_facts.specs.Text.{joined}
 use Rattle.proto_resolve.specs.declared.hashed.HashedDecl.{HashedDecl}
 use Rattle.proto_resolve.specs.declared.hashed.HashedDecls.{HashedDecls}
 use Rattle.proto_resolve.specs.declared.target.DeclRef.{DeclRef}
-use Rattle.proto_resolve.specs.Files.{all_decls, decl_at, dot}
-use Rattle.proto_resolve.specs.Holders.{has_dot}
+use Rattle.proto_resolve.specs.Files.{all_decls, decl_at}
+use Rattle.file_facts.specs.FullNames.{last_of, scope_of}
 use Rattle.proto_resolve.specs.Hashed.{hashed}
 use Rattle.proto_resolve.specs.Names.{is_holder}
 
@@ -19,31 +18,13 @@ use Rattle.proto_resolve.specs.Names.{is_holder}
 abbrev pub name_at : List NamedFacts → DeclRef → List ℕ
 name_at files r = let d = decl_at files r in d.full_name
 
--- what stands before the last component of a full name, where that has so many bytes
-abbrev pub scope_before : ℕ → List ℕ → List ℕ
-scope_before last full_name = take (length full_name - last - 1) full_name
-
--- declarations by what stands before their last components, which have so many bytes
-abbrev pub IsByScope : (DeclRef → List ℕ) → ℕ → List DeclRef → Type 0
-IsByScope name last decls = IsSortedBy (λ r s. is_lt (slice_cmp nat_cmp (scope_before last (name r)) (scope_before last (name s)))) decls
+-- declarations by what stands before their last components
+abbrev pub IsByScope : (DeclRef → List ℕ) → List DeclRef → Type 0
+IsByScope name decls = IsSortedBy (λ r s. is_lt (slice_cmp nat_cmp (scope_of (name r)) (scope_of (name s)))) decls
 
 -- whether one of the declarations stands in the scope
-abbrev pub stands_in : (DeclRef → List ℕ) → ℕ → List DeclRef → List ℕ → Bool
-stands_in name last decls scope = list_any (λ r. bytes_eq (scope_before last (name r)) scope) decls
-
--- what stands behind the last dot of a text, or all of it where there is none
-abbrev pub behind_dot : List ℕ → List ℕ
-behind_dot [] = []
-behind_dot (c ∷ cs) = if has_dot cs then behind_dot cs else if c == dot then cs else c ∷ cs
-
--- the last component of a full name; a dot at its front parts nothing
-abbrev pub last_of : List ℕ → List ℕ
-last_of [] = []
-last_of (c ∷ cs) = if has_dot cs then behind_dot cs else c ∷ cs
-
--- what stands before the last component of a full name, without the dot
-abbrev pub scope_of : List ℕ → List ℕ
-scope_of full_name = scope_before (length (last_of full_name)) full_name
+abbrev pub stands_in : (DeclRef → List ℕ) → List DeclRef → List ℕ → Bool
+stands_in name decls scope = list_any (λ r. bytes_eq (scope_of (name r)) scope) decls
 
 -- by file, then by number
 abbrev pub by_place : DeclRef → DeclRef → Ordering
@@ -57,11 +38,6 @@ by_name name a b = ordering_then (slice_cmp nat_cmp (a.hash ∷ name a.decl) (b.
 abbrev pub by_scope : (DeclRef → List ℕ) → HashedDecl → HashedDecl → Ordering
 by_scope name a b =
     ordering_then (slice_cmp nat_cmp (a.hash ∷ last_of (name a.decl)) (b.hash ∷ last_of (name b.decl))) (slice_cmp nat_cmp (scope_of (name a.decl)) (scope_of (name b.decl)))
-
--- the parts are those into which a full name comes apart at its last dot
-pub record AreParts (scope last full_name : List ℕ) : Type 0 where
-  pub only : (s q : List ℕ) → has_dot q ≡ false → (bytes_eq last q && bytes_eq scope s) ≡ bytes_eq full_name (joined s q)
-  pub before : scope ≡ scope_before (length last) full_name
 
 -- whether a declaration stands in another file
 abbrev pub is_of_another : ℕ → DeclRef → Bool

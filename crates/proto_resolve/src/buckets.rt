@@ -5,11 +5,10 @@ ghost use Rattle.std.specs.Cmp.{IsTotalOrder};
 ghost use Rattle.std.specs.List.{flat_map};
 ghost use Rattle.proto_resolve.specs.declared.hashed.HashedDecls.{HashedDecls};
 ghost use Rattle.proto_resolve.specs.Buckets.{is_in, AreDealt, AreInBuckets};
-ghost use Rattle.proto_resolve.specs.Hashed.{hash_of};
 ghost use Rattle.proto_resolve.specs.Tables.{AreInOrder};
 
 use crate::entry_order::{EntryOrder, sort_entries};
-use crate::hashed::{HashedDecl, HashedDecls, apart, hash_of};
+use crate::hashed::{HashedDecl, HashedDecls, apart};
 use import_graph::NamedFacts;
 use std::alloc::{AllocError, Global};
 
@@ -38,20 +37,8 @@ pub fn bucket_of(hash: u64, count: usize) -> usize
     }
 }
 
-// So many lists without an entry.
-pub fn empty_lists(alloc: Global, count: usize) -> Result<Vec<Vec<HashedDecl>>, AllocError>
-    ensures len { IfOk result (λ v. vec_len v ≡ count) }
-    ensures each { IfOk result (λ v. (n : ℕ) → slice_index_or (map (λ list. list.items) v.items) n [] ≡ []) }
-{
-    let mut lists = Vec::with_capacity(alloc, count)?;
-    for _list in 0..count {
-        lists.push(Vec::new(alloc))?;
-    }
-    Ok(lists)
-}
-
 // Adds each of the entries to the list of its bucket.
-pub fn deal(entries: &[HashedDecl], lists: &mut Vec<Vec<HashedDecl>>) -> Result<(), AllocError>
+fn deal(entries: &[HashedDecl], lists: &mut Vec<Vec<HashedDecl>>) -> Result<(), AllocError>
     requires { 0 < vec_len lists.old }
     ensures { OnOk result (AreDealt entries.now (map (λ list. list.items) lists.old.items) (map (λ list. list.items) lists.new.items)) }
 {
@@ -126,12 +113,12 @@ impl Buckets {
         Ok(Buckets { list })
     }
 
-    // The bucket in which the declarations of a text are.
-    pub fn of_text(&self, text: &[u8]) -> &HashedDecls
+    // The bucket in which the declarations of a hash are.
+    pub fn of_hash(&self, hash: u64) -> &HashedDecls
         requires { 0 < length self.now.list.items }
-        ensures { (d : HashedDecls) → result.now ≡ slice_index_or self.now.list.items (hash_of text.now % length self.now.list.items) d }
+        ensures { (d : HashedDecls) → result.now ≡ slice_index_or self.now.list.items (hash % length self.now.list.items) d }
     {
         let list = self.list.as_slice();
-        &list[bucket_of(hash_of(text), list.len())]
+        &list[bucket_of(hash, list.len())]
     }
 }

@@ -4,6 +4,7 @@ ghost use Rattle.std.specs.List.{splice};
 ghost use Rattle.proto_resolve.specs.declared.target.DeclRef.{DeclRef};
 ghost use Rattle.proto_resolve.specs.Bases.{HadDecls};
 ghost use Rattle.proto_resolve.specs.Files.{all_decls, decls_at, refs_of};
+ghost use Rattle.proto_resolve.specs.Replaced.{refs_between};
 
 use crate::target::DeclRef;
 use file_facts::Decl;
@@ -30,6 +31,23 @@ pub fn decls_of(
 {
     let mut found = Vec::new(alloc);
     push_decls(file, files[file].facts.get().decls.as_slice(), &mut found)?;
+    Ok(found)
+}
+
+// Those of a file from one number up to another.
+pub fn decls_between(
+    alloc: Global,
+    file: usize,
+    start: usize,
+    end: usize,
+) -> Result<Vec<DeclRef>, AllocError>
+    requires { start ≤ end }
+    ensures { IfOk result (λ d. d.items ≡ refs_between file start end) }
+{
+    let mut found = Vec::with_capacity(alloc, end - start)?;
+    for number in start..end {
+        found.push(DeclRef { file, number })?;
+    }
     Ok(found)
 }
 

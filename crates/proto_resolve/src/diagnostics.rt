@@ -18,7 +18,7 @@ use crate::site::{NameSite, Needs};
 use crate::target::{DeclRef, Target};
 use crate::view::View;
 use crate::views::sees_package;
-use file_facts::{Decl, Diag, ImportFact, Problem};
+use file_facts::{Decl, Diag, FullName, ImportFact, Problem};
 use sqlite_items::Items;
 use std::alloc::{AllocError, Global};
 use syntax_tree::Span;
@@ -158,6 +158,14 @@ fn push_decl_diagnostics<I: Index>(
     Ok(())
 }
 
+// Whether a file of the view has the package of a declaration's full name.
+fn is_package<I: Index>(index: &I, view: &View, name: &FullName) -> bool
+    requires { IsView (I.files index.now) view.now }
+    ensures { result ≡ list_any (has_package (I.files index.now) name.now) view.now.files }
+{
+    sees_package(index, view, name.parts())
+}
+
 fn push_diagnostics_of<I: Index>(
     index: &I,
     view: &View,
@@ -167,11 +175,11 @@ fn push_diagnostics_of<I: Index>(
     requires { IsView (I.files index.now) view.now }
     ensures { OnOk result (found.new ≡ found.old ++ spec.decl_diagnostics (I.files index.now) view.now.file view.now.files decl.now) }
 {
-    let name = decl.full_name.as_str();
-    if is_elsewhere(index.named(name), view) {
+    let name = &decl.full_name;
+    if is_elsewhere(index.declared_as(name), view) {
         found.push(diag(Problem::DeclaredElsewhere, decl.name_span))?;
     }
-    if sees_package(index, view, name) {
+    if is_package(index, view, name) {
         found.push(diag(Problem::NameIsPackage, decl.name_span))?;
     }
     Ok(())

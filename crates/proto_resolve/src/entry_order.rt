@@ -7,8 +7,9 @@ ghost use Rattle.std.specs.Ordering.{nat_cmp, ordering_then};
 ghost use Rattle.proto_resolve.specs.Tables.{by_place, name_at};
 
 use crate::hashed::HashedDecl;
-use crate::naming::{Parts, name_of, parts_of};
+use crate::naming::parts_at;
 use crate::target::DeclRef;
+use file_facts::NameParts;
 use import_graph::NamedFacts;
 use std::alloc::AllocError;
 use std::cmp::Ordering;
@@ -53,10 +54,7 @@ impl EntryOrder for ByScope {
 
     fn compare(files: &[NamedFacts], a: HashedDecl, b: HashedDecl) -> Ordering {
         match a.hash.cmp(&b.hash) {
-            Ordering::Equal => compare_parts(
-                parts_of(name_of(files, a.decl)),
-                parts_of(name_of(files, b.decl)),
-            ),
+            Ordering::Equal => { compare_parts(parts_at(files, a.decl), parts_at(files, b.decl)) }
             other => other,
         }
     }
@@ -76,14 +74,14 @@ fn compare_places(a: DeclRef, b: DeclRef) -> Ordering
 fn compare_names(files: &[NamedFacts], a: DeclRef, b: DeclRef) -> Ordering
     ensures { result ≡ ordering_then (slice_cmp nat_cmp (name_at files.now a) (name_at files.now b)) (by_place a b) }
 {
-    match name_of(files, a).cmp(name_of(files, b)) {
+    match parts_at(files, a).compare(parts_at(files, b)) {
         Ordering::Equal => compare_places(a, b),
         other => other,
     }
 }
 
 // By last component, then by scope.
-fn compare_parts(a: Parts<'_>, b: Parts<'_>) -> Ordering
+fn compare_parts(a: NameParts<'_>, b: NameParts<'_>) -> Ordering
     ensures { result ≡ ordering_then (slice_cmp nat_cmp a.entry.last.now b.entry.last.now) (slice_cmp nat_cmp a.entry.scope.now b.entry.scope.now) }
 {
     match a.last.cmp(b.last) {

@@ -6,6 +6,7 @@ ghost use Rattle.proto_resolve.specs.Views.{IsView};
 ghost use Rattle.proto_resolve.specs.Names.{found, first_declared, is_seen, package_found, IsThere};
 
 use crate::index::Index;
+use crate::packages::unsplit;
 use crate::target::{DeclRef, Target};
 use crate::view::View;
 use crate::views::sees_package;
@@ -94,7 +95,7 @@ fn package_found<I: Index>(
     ensures value { IfOk result (λ r. r ≡ package_found (I.files index.now) view.now.files name.now) }
     ensures within { IfOk result (λ r. IfSome r (IsThere (I.files index.now))) }
 {
-    if !sees_package(index, view, name) {
+    if !sees_package(index, view, unsplit(name.as_bytes())) {
         return Ok(None);
     }
     let name = String::from_str(alloc, name)?;

@@ -4,17 +4,18 @@ ghost use Rattle.std.specs.Prelude.{◌≡◌, ◌≤◌, ◌==◌, ℕ, true, f
 ghost use Rattle.std.specs.Cmp.Lexicographic.{slice_cmp};
 ghost use Rattle.std.specs.List.Sorted.{IsNonDecreasing, IsPartitionPoint, IsPartitionedBy, IsSorted};
 ghost use Rattle.std.specs.Ordering.{is_lt, nat_cmp};
-ghost use Rattle.proto_resolve.specs.Hashed as spec;
+ghost use Rattle.file_facts.specs.FullNames.{hash_of, AreNameParts};
+ghost use Rattle.file_facts.specs.Text.{joined};
 ghost use Rattle.proto_resolve.specs.Hashed.{AreByHash, hashed};
 
 use crate::naming::Naming;
 use crate::target::DeclRef;
+use file_facts::NameParts;
 use import_graph::NamedFacts;
 use std::alloc::{AllocError, Global};
-use std::hash::{FoldHasher, Hasher};
 
 /// A declaration with the hash of the text by which it is looked up: its full name, or a part of it.
-#[derive(Clone, Copy)]
+#[derive(Clone, Copy, PartialEq, Eq)]
 pub struct HashedDecl {
     /// The hash.
     pub hash: u64,
@@ -31,15 +32,6 @@ pub struct HashedDecls {
     pub decls: Vec<DeclRef>,
 }
 
-// The hash of a text. Equal texts have equal hashes.
-pub fn hash_of(text: &[u8]) -> u64
-    ensures { result ≡ spec.hash_of text.now }
-{
-    let mut state = FoldHasher::default();
-    state.write(text);
-    state.finish()
-}
-
 // The declarations with their hashes.
 pub fn hashed_decls<N: Naming>(
     alloc: Global,
@@ -50,8 +42,10 @@ pub fn hashed_decls<N: Naming>(
 {
     let mut found = Vec::with_capacity(alloc, decls.len())?;
     for decl in decls {
-        let hash = hash_of(N::part(files, *decl));
-        found.push(HashedDecl { hash, decl: *decl })?;
+        found.push(HashedDecl {
+            hash: N::hash(files, *decl),
+            decl: *decl,
+        })?;
     }
     Ok(found)
 }
@@ -121,22 +115,28 @@ fn of_hash<'a>(hashed: &'a HashedDecls, hash: u64) -> &'a [DeclRef]
     &rest[..count]
 }
 
-fn is_before_text<N: Naming>(files: &[NamedFacts], decl: DeclRef, text: &[u8]) -> bool
-    ensures { result ≡ is_lt (slice_cmp nat_cmp (N.part files.now decl) text.now) }
+fn is_before_text<N: Naming>(files: &[NamedFacts], decl: DeclRef, text: NameParts<'_>) -> bool
+    ensures { result ≡ is_lt (slice_cmp nat_cmp (N.part files.now decl) (joined text.entry.scope.now text.entry.last.now)) }
 {
-    N::part(files, decl).cmp(text).is_lt()
+    N::part(files, decl).compare(text).is_lt()
 }
 
-fn has_text<N: Naming>(files: &[NamedFacts], decl: DeclRef, text: &[u8]) -> bool
-    ensures { result ≡ bytes_eq (N.part files.now decl) text.now }
+fn has_text<N: Naming>(files: &[NamedFacts], decl: DeclRef, text: NameParts<'_>) -> bool
+    requires { AreNameParts text.scope.now text.last.now }
+    ensures { result ≡ bytes_eq (N.part files.now decl) (joined text.entry.scope.now text.entry.last.now) }
 {
-    N::part(files, decl) == text
+    N::part(files, decl).equals(text)
 }
 
 // Of declarations in the order of their texts, those of one text. Mostly all have it.
-fn of_text<'a, N: Naming>(files: &[NamedFacts], decls: &'a [DeclRef], text: &[u8]) -> &'a [DeclRef]
-    requires { IsSorted (λ r s. slice_cmp nat_cmp (N.part files.now r) (N.part files.now s)) decls.now }
-    ensures { result.now ≡ filter (λ r. bytes_eq (N.part files.now r) text.now) decls.now }
+fn of_text<'a, N: Naming>(
+    files: &[NamedFacts],
+    decls: &'a [DeclRef],
+    text: NameParts<'_>,
+) -> &'a [DeclRef]
+    requires sorted { IsSorted (λ r s. slice_cmp nat_cmp (N.part files.now r) (N.part files.now s)) decls.now }
+    requires apart { AreNameParts text.scope.now text.last.now }
+    ensures { result.now ≡ filter (λ r. bytes_eq (N.part files.now r) (joined text.entry.scope.now text.entry.last.now)) decls.now }
 {
     if decls.is_empty() {
         return decls;
@@ -153,16 +153,18 @@ fn of_text<'a, N: Naming>(files: &[NamedFacts], decls: &'a [DeclRef], text: &[u8
     &rest[..count]
 }
 
-/// Those whose full name, or whose part of it, is a text, in their order.
+/// Those whose full name, or whose part of it, is a text, which is given by its hash and split at its last dot; in their order.
 pub fn with_text<'a, N: Naming>(
     files: &[NamedFacts],
     hashed: &'a HashedDecls,
-    text: &[u8],
+    hash: u64,
+    text: NameParts<'_>,
 ) -> &'a [DeclRef]
-    requires { AreByHash (N.part files.now) hashed.now.hashes.items hashed.now.decls.items }
-    ensures { result.now ≡ filter (λ r. bytes_eq (N.part files.now r) text.now) hashed.now.decls.items }
+    requires by_hash { AreByHash (N.part files.now) hashed.now.hashes.items hashed.now.decls.items }
+    requires apart { AreNameParts text.scope.now text.last.now }
+    requires hash { hash ≡ hash_of (joined text.scope.now text.last.now) }
+    ensures { result.now ≡ filter (λ r. bytes_eq (N.part files.now r) (joined text.entry.scope.now text.entry.last.now)) hashed.now.decls.items }
 {
-    let hash = hash_of(text);
     let tied = of_hash(hashed, hash);
     of_text::<N>(files, tied, text)
 }

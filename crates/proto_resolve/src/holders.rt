@@ -5,9 +5,10 @@ ghost use Rattle.std.specs.List.Sorted.{IsNonDecreasing};
 ghost use Rattle.proto_resolve.specs.Files.{decl_at};
 ghost use Rattle.proto_resolve.specs.Holders.{IsLast};
 ghost use Rattle.proto_resolve.specs.Names.{is_holder};
-ghost use Rattle.proto_resolve.specs.Tables.{name_at, scope_before, stands_in, IsByScope};
+ghost use Rattle.proto_resolve.specs.Tables.{name_at, stands_in, IsByScope};
+ghost use Rattle.file_facts.specs.FullNames.{scope_of};
 
-use crate::naming::name_of;
+use crate::naming::parts_at;
 use crate::scopes::is_holder;
 use crate::target::DeclRef;
 use file_facts::DeclKind;
@@ -43,12 +44,11 @@ pub fn holders_of(
     Ok(found)
 }
 
-// What stands before the last component of a full name, where that has so many bytes.
-fn scope_before(files: &[NamedFacts], last: usize, decl: DeclRef) -> &[u8]
-    ensures { result.now ≡ scope_before last (name_at files.now decl) }
+// What stands before the last component of a declaration's full name.
+fn scope_at(files: &[NamedFacts], decl: DeclRef) -> &[u8]
+    ensures { result.now ≡ scope_of (name_at files.now decl) }
 {
-    let name = name_of(files, decl);
-    &name[..name.len().saturating_sub(last).saturating_sub(1)]
+    parts_at(files, decl).scope
 }
 
 // How many bytes at the front of two texts are the same: a text doesn't begin with a longer front part of the other one.
@@ -65,18 +65,18 @@ pub fn common_len(a: &[u8], b: &[u8]) -> usize
 }
 
 // `None` if one of the declarations stands in this scope. If none does, a length from which on no front part of the scope has one.
-fn bound_of(files: &[NamedFacts], decls: &[DeclRef], last: usize, scope: &[u8]) -> Option<usize>
-    requires { IsByScope (name_at files.now) last decls.now }
-    ensures there { result ≡ None → stands_in (name_at files.now) last decls.now scope.now ≡ true }
-    ensures bound { IfSome result (λ b. (stands_in (name_at files.now) last decls.now scope.now ≡ false) × ((l : ℕ) → b ≤ l → l ≤ length scope.now → stands_in (name_at files.now) last decls.now (take l scope.now) ≡ false)) }
+fn bound_of(files: &[NamedFacts], decls: &[DeclRef], scope: &[u8]) -> Option<usize>
+    requires { IsByScope (name_at files.now) decls.now }
+    ensures there { result ≡ None → stands_in (name_at files.now) decls.now scope.now ≡ true }
+    ensures bound { IfSome result (λ b. (stands_in (name_at files.now) decls.now scope.now ≡ false) × ((l : ℕ) → b ≤ l → l ≤ length scope.now → stands_in (name_at files.now) decls.now (take l scope.now) ≡ false)) }
 {
-    match decls.binary_search_by(|decl| scope_before(files, last, *decl).cmp(scope)) {
+    match decls.binary_search_by(|decl| scope_at(files, *decl).cmp(scope)) {
         Ok(_) => None,
         Err(place) => {
             if place == 0 {
                 return Some(0);
             }
-            let before = scope_before(files, last, decls[place - 1]);
+            let before = scope_at(files, decls[place - 1]);
             Some(common_len(before, scope) + 1)
         }
     }
@@ -86,19 +86,18 @@ fn bound_of(files: &[NamedFacts], decls: &[DeclRef], last: usize, scope: &[u8]) 
 pub fn last_place(
     files: &[NamedFacts],
     decls: &[DeclRef],
-    last: usize,
     scope: &[u8],
     lengths: &[usize],
 ) -> Option<usize>
-    requires sorted { IsByScope (name_at files.now) last decls.now }
+    requires sorted { IsByScope (name_at files.now) decls.now }
     requires ascending { IsNonDecreasing lengths.now }
     requires within { All (λ l. l ≤ length scope.now) lengths.now }
-    ensures { IsLast (λ l. stands_in (name_at files.now) last decls.now (take l scope.now)) lengths.now result }
+    ensures { IsLast (λ l. stands_in (name_at files.now) decls.now (take l scope.now)) lengths.now result }
 {
     let mut left = lengths.len();
     while left > 0 {
         left -= 1;
-        match bound_of(files, decls, last, &scope[..lengths[left]]) {
+        match bound_of(files, decls, &scope[..lengths[left]]) {
             None => return Some(left),
             Some(bound) => left = lengths[..left].partition_point(|length| *length < bound),
         }

@@ -1,7 +1,7 @@
 // What has to be known of all files.
 use crate::packages::PackagedFile;
 use crate::target::DeclRef;
-use file_facts::FileFacts;
+use file_facts::{FileFacts, FullName, NameParts};
 use import_graph::Graph;
 use std::marker::Sync;
 
@@ -14,7 +14,8 @@ pub trait Index: Sync {
     ghost use Rattle.import_graph.specs.declared.paths.NamedFacts.{NamedFacts};
     ghost use Rattle.import_graph.specs.Imports.{graph_of};
     ghost use Rattle.proto_resolve.specs.Files.{facts_at, all_named};
-    ghost use Rattle.proto_resolve.specs.Holders.{has_dot, is_held, IsLast};
+    ghost use Rattle.proto_resolve.specs.Holders.{is_held, IsLast};
+    ghost use Rattle.file_facts.specs.FullNames.{has_dot};
     ghost use Rattle.proto_resolve.specs.Packages.{AreThoseWith};
 
     /// The files, by path.
@@ -33,9 +34,13 @@ pub trait Index: Sync {
     fn named(&self, full_name: &str) -> &[DeclRef]
         ensures { result.now ≡ all_named (files self.now) full_name.now };
 
-    /// The files that have a package, given by its full name: those whose package it is and those whose package lies in it.
-    fn packaged(&self, full_name: &str) -> &[PackagedFile]
-        ensures { AreThoseWith (files self.now) full_name.now (map (λ p. p.file) result.now) };
+    /// The declarations with this full name, by path, then offset.
+    fn declared_as(&self, full_name: &FullName) -> &[DeclRef]
+        ensures { result.now ≡ all_named (files self.now) full_name.now };
+
+    /// The files that have a package, given by its full name in two parts: those whose package it is and those whose package lies in it.
+    fn packaged(&self, full_name: NameParts<'_>) -> &[PackagedFile]
+        ensures { AreThoseWith (files self.now) (joined full_name.entry.scope.now full_name.entry.last.now) (map (λ p. p.file) result.now) };
 
     /// The longest front part of a scope, of these lengths, in which a message, an enum or a service of the name is declared:
     /// the length's place in the list. The name has no dot.

@@ -1,15 +1,18 @@
 // Files with entries for the names of their declarations, before these are put in order.
-ghost use Rattle.std.specs.Prelude.{◌≡◌, ◌≤◌, ◌+◌, ◌++◌, ◌<◌, All, IfOk, OnOk, [], length, map, filter};
+ghost use Rattle.std.specs.Prelude.{◌≡◌, ◌≤◌, ◌+◌, ◌-◌, ◌++◌, ◌<◌, All, IfOk, OnOk, [], length, map, filter};
 ghost use Rattle.proto_resolve.specs.Entries.{with_renumbered};
-ghost use Rattle.proto_resolve.specs.Files.{decl_at, decls_at, refs_of};
+ghost use Rattle.proto_resolve.specs.Files.{decl_at, decls_at};
 ghost use Rattle.proto_resolve.specs.Hashed.{hashed};
 ghost use Rattle.proto_resolve.specs.Names.{is_holder};
-ghost use Rattle.proto_resolve.specs.Tables.{last_of, name_at};
+ghost use Rattle.proto_resolve.specs.Replaced.{refs_between};
+ghost use Rattle.proto_resolve.specs.Tables.{name_at};
+ghost use Rattle.file_facts.specs.FullNames.{last_of};
 
-use crate::decls::{all_decls, decls_of};
+use crate::decls::{all_decls, decls_between};
 use crate::entry_order::{ByScope, sort_entries};
 use crate::hashed::{HashedDecl, hashed_decls};
 use crate::holders::holders_of;
+use crate::kept::Kept;
 use crate::naming::{FullNames, LastComponents};
 use crate::target::DeclRef;
 use import_graph::NamedFacts;
@@ -64,26 +67,29 @@ fn holders_among(
     hashed_decls::<LastComponents>(alloc, files, holders.as_slice())
 }
 
-// The entries of one file.
+// Entries of one file.
 #[derive(Drop)]
 pub struct OwnEntries {
-    // Its declarations by full name.
+    // Declarations by full name.
     pub names: Vec<HashedDecl>,
-    // Its messages, enums and services by the last components of their full names.
+    // Messages, enums and services by the last components of their full names.
     pub holders: Vec<HashedDecl>,
 }
 
-// The entries of a file, given by its number from 0.
-pub fn entries_of(
+// The entries of a file, given by its number from 0, beside those of the declarations that a change keeps.
+pub fn entries_beside(
     alloc: Global,
     files: &[NamedFacts],
     file: usize,
+    kept: Kept,
 ) -> Result<OwnEntries, AllocError>
-    requires { file < length files.now }
-    ensures names { IfOk result (λ e. e.names.items ≡ map (hashed (name_at files.now)) (refs_of file (decls_at files.now file))) }
-    ensures holders { IfOk result (λ e. e.holders.items ≡ map (hashed (λ r. last_of (name_at files.now r))) (filter (λ r. is_holder (let d = decl_at files.now r in d.kind)) (refs_of file (decls_at files.now file)))) }
+    requires within { file < length files.now }
+    requires kept { kept.front + kept.back ≤ length (decls_at files.now file) }
+    ensures names { IfOk result (λ e. e.names.items ≡ map (hashed (name_at files.now)) (refs_between file kept.front (length (decls_at files.now file) - kept.back))) }
+    ensures holders { IfOk result (λ e. e.holders.items ≡ map (hashed (λ r. last_of (name_at files.now r))) (filter (λ r. is_holder (let d = decl_at files.now r in d.kind)) (refs_between file kept.front (length (decls_at files.now file) - kept.back)))) }
 {
-    let decls = decls_of(alloc, files, file)?;
+    let end = files[file].facts.get().decls.as_slice().len() - kept.back;
+    let decls = decls_between(alloc, file, kept.front, end)?;
     Ok(OwnEntries {
         names: names_of(alloc, files, decls.as_slice())?,
         holders: holders_among(alloc, files, decls.as_slice())?,

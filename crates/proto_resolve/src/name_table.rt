@@ -5,7 +5,8 @@ ghost use Rattle.std.specs.List.Sorted.{IsNonDecreasing};
 ghost use Rattle.file_facts.specs.Text.{joined};
 ghost use Rattle.proto_resolve.specs.Buckets.{AreInBuckets};
 ghost use Rattle.proto_resolve.specs.Files.{all_named, facts_at};
-ghost use Rattle.proto_resolve.specs.Holders.{has_dot, is_held, IsLast};
+ghost use Rattle.proto_resolve.specs.Holders.{is_held, IsLast};
+ghost use Rattle.file_facts.specs.FullNames.{AreNameParts, has_dot, hash_of};
 ghost use Rattle.proto_resolve.specs.Outlines.{with_facts};
 ghost use Rattle.proto_resolve.specs.Seen.{exports};
 ghost use Rattle.proto_resolve.specs.Tables.{by_name, by_scope, name_at};
@@ -14,10 +15,13 @@ use crate::buckets::Buckets;
 use crate::entry_order::{ByName, ByScope};
 use crate::hashed::{HashedDecl, with_text};
 use crate::holders::last_place;
-use crate::name_entries::{NameEntries, entries_of};
+use crate::kept::kept_of;
+use crate::name_entries::{NameEntries, entries_beside};
 use crate::naming::{FullNames, LastComponents};
-use crate::replacing::{Changed, change_holders, change_names};
+use crate::packages::unsplit;
+use crate::replacing::{change_holders, change_names};
 use crate::target::DeclRef;
+use file_facts::{FullName, NameParts, split_name};
 use import_graph::{NamedFacts, SharedFacts};
 use std::alloc::{AllocError, Global};
 use std::marker::Model;
@@ -66,6 +70,42 @@ fn holders_in_buckets(
     ensures { IfOk result (λ b. AreInBuckets (by_scope (name_at files.now)) (flat_map (λ run. run.items) runs.now) b.list.items) }
 {
     Buckets::of::<ByScope>(alloc, files, runs)
+}
+
+// Counts the entries to their buckets, of which these are the lengths, and gives how many are in the bucket of each one then, added up.
+fn count_in(entries: &[HashedDecl], lens: &mut Vec<usize>) -> usize
+    requires { 0 < length lens.old.items }
+    ensures { length lens.new.items ≡ length lens.old.items }
+{
+    let mut moves = 0usize;
+    for one in entries {
+        let number = crate::buckets::bucket_of(one.hash, lens.len());
+        let len = lens[number].saturating_add(1);
+        lens[number] = len;
+        moves = moves.saturating_add(len);
+    }
+    moves
+}
+
+// Whether it takes longer that these entries go and come one by one than that a table gets all entries anew, as where many are in one
+// bucket. Only time depends on the answer. An `Err` comes only where memory was refused.
+fn is_slow(
+    alloc: Global,
+    buckets: &Buckets,
+    gone: &[HashedDecl],
+    come: &[HashedDecl],
+) -> Result<bool, AllocError>
+    requires { 0 < length buckets.now.list.items }
+{
+    let mut lens = Vec::with_capacity(alloc, buckets.list.len())?;
+    let mut all = come.len();
+    for bucket in buckets.list.as_slice() {
+        lens.push(bucket.hashes.len())?;
+        all = all.saturating_add(bucket.hashes.len());
+    }
+    let moves = count_in(gone, &mut lens).saturating_add(count_in(come, &mut lens));
+    // (a table gets one entry anew in the time in which 32 of a bucket are compared and moved, by measurement)
+    Ok(moves / 32 > all)
 }
 
 impl NameTable {
@@ -130,8 +170,25 @@ impl NameTable {
     pub fn decls_named(&self, full_name: &str) -> &[DeclRef]
         ensures { result.now ≡ all_named self.now full_name.now }
     {
-        let bucket = self.names.of_text(full_name.as_bytes());
-        with_text::<FullNames>(self.files.as_slice(), bucket, full_name.as_bytes())
+        let name = split_name(full_name.as_bytes());
+        self.decls_of_parts(name.hash(), name)
+    }
+
+    /// The declarations with this full name, by file, then offset. Takes no memory.
+    pub fn decls_of(&self, full_name: &FullName) -> &[DeclRef]
+        ensures { result.now ≡ all_named self.now full_name.now }
+    {
+        self.decls_of_parts(full_name.hash(), full_name.parts())
+    }
+
+    // The same, of a full name with this hash and these parts.
+    fn decls_of_parts(&self, hash: u64, name: NameParts<'_>) -> &[DeclRef]
+        requires apart { AreNameParts name.scope.now name.last.now }
+        requires hash { hash ≡ hash_of (joined name.scope.now name.last.now) }
+        ensures { result.now ≡ all_named self.now (joined name.entry.scope.now name.entry.last.now) }
+    {
+        let bucket = self.names.of_hash(hash);
+        with_text::<FullNames>(self.files.as_slice(), bucket, hash, name)
     }
 
     /// The longest front part of a scope, of these lengths, in which a message, an enum or a service of the name is declared:
@@ -142,15 +199,11 @@ impl NameTable {
         requires plain { has_dot name.now ≡ false }
         ensures { IsLast (λ l. is_held self.now (joined (take l scope.now) name.now)) lengths.now result }
     {
-        let bucket = self.holders.of_text(name.as_bytes());
-        let decls = with_text::<LastComponents>(self.files.as_slice(), bucket, name.as_bytes());
-        last_place(
-            self.files.as_slice(),
-            decls,
-            name.len(),
-            scope.as_bytes(),
-            lengths,
-        )
+        let last = unsplit(name.as_bytes());
+        let hash = last.hash();
+        let bucket = self.holders.of_hash(hash);
+        let decls = with_text::<LastComponents>(self.files.as_slice(), bucket, hash, last);
+        last_place(self.files.as_slice(), decls, scope.as_bytes(), lengths)
     }
 
     /// Puts other facts of a file, given by its number from 0, in the place of its facts, which say the same to the other files.
@@ -163,8 +216,9 @@ impl NameTable {
         self.files[file].facts = facts;
     }
 
-    /// The table with other facts of a file, given by its number from 0. Only the names of that file are put in order; those of
-    /// the others stay in theirs. An `Err` comes only where memory was refused; the table is gone then.
+    /// The table with other facts of a file, given by its number from 0. Only the names of that file that the change concerns leave their
+    /// places or get one, and all others stay in theirs, except where the table is made anew sooner. An `Err` comes only where memory
+    /// was refused; the table is gone then.
     pub fn replace(
         self,
         alloc: Global,
@@ -179,21 +233,35 @@ impl NameTable {
             mut names,
             mut holders,
         } = self;
-        let old = entries_of(alloc, files.as_slice(), file)?;
+        let kept = kept_of(
+            files[file].facts.get().decls.as_slice(),
+            facts.get().decls.as_slice(),
+        );
+        let gone = entries_beside(alloc, files.as_slice(), file, kept)?;
         files[file].facts = facts;
-        let own = entries_of(alloc, files.as_slice(), file)?;
-        let change = Changed {
-            file,
-            gone: old.names,
-            come: own.names,
-        };
-        change_names(alloc, files.as_slice(), &change, &mut names)?;
-        let change = Changed {
-            file,
-            gone: old.holders,
-            come: own.holders,
-        };
-        change_holders(alloc, files.as_slice(), &change, &mut holders)?;
+        let come = entries_beside(alloc, files.as_slice(), file, kept)?;
+        if is_slow(alloc, &names, gone.names.as_slice(), come.names.as_slice())?
+            || is_slow(
+                alloc,
+                &holders,
+                gone.holders.as_slice(),
+                come.holders.as_slice(),
+            )?
+        {
+            return NameTable::of(alloc, NameEntries::of(alloc, files)?);
+        }
+        change_names(
+            files.as_slice(),
+            gone.names.as_slice(),
+            come.names.as_slice(),
+            &mut names,
+        )?;
+        change_holders(
+            files.as_slice(),
+            gone.holders.as_slice(),
+            come.holders.as_slice(),
+            &mut holders,
+        )?;
         Ok(NameTable {
             files,
             names,

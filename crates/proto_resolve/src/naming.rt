@@ -1,23 +1,29 @@
 // By which part of its full name a declaration is looked up.
-ghost use Rattle.std.specs.Prelude.{◌≡◌, ◌≢◌, ◌<◌, ℕ, false, length, slice_index_or, MatchOption};
-ghost use Rattle.proto_resolve.specs.Files.{dot};
-ghost use Rattle.proto_resolve.specs.Holders.{has_dot};
-ghost use Rattle.proto_resolve.specs.Tables.{last_of, name_at, AreParts};
+ghost use Rattle.std.specs.Prelude.{◌≡◌, [], MatchOption};
+ghost use Rattle.file_facts.specs.FullNames.{last_of, scope_of};
+ghost use Rattle.proto_resolve.specs.Tables.{name_at};
 
 use crate::target::DeclRef;
+use file_facts::{FullName, NameParts, hash_of};
 use import_graph::NamedFacts;
 
 /// The part of a full name by which declarations are looked up.
 pub trait Naming {
     ghost use Rattle.std.specs.Prelude.{◌≡◌, ℕ, List};
+    ghost use Rattle.file_facts.specs.FullNames.{hash_of, last_of, scope_of};
     ghost use Rattle.import_graph.specs.declared.paths.NamedFacts.{NamedFacts};
     ghost use Rattle.proto_resolve.specs.declared.target.DeclRef.{DeclRef};
 
     ghost part: { List NamedFacts → DeclRef → List ℕ };
 
-    /// That part of a declaration's full name, in UTF-8.
-    fn part(files: &[NamedFacts], decl: DeclRef) -> &[u8]
-        ensures { result.now ≡ part files.now decl };
+    /// That part of a declaration's full name, split at its last dot.
+    fn part(files: &[NamedFacts], decl: DeclRef) -> NameParts<'_>
+        ensures scope { result.scope.now ≡ scope_of (part files.now decl) }
+        ensures last { result.last.now ≡ last_of (part files.now decl) };
+
+    /// The hash of that part.
+    fn hash(files: &[NamedFacts], decl: DeclRef) -> u64
+        ensures { result ≡ hash_of (part files.now decl) };
 }
 
 /// The whole of it.
@@ -28,8 +34,15 @@ impl Naming for FullNames {
 
     ghost part = { λ files r. name_at files r };
 
-    fn part(files: &[NamedFacts], decl: DeclRef) -> &[u8] {
-        name_of(files, decl)
+    fn part(files: &[NamedFacts], decl: DeclRef) -> NameParts<'_> {
+        parts_at(files, decl)
+    }
+
+    fn hash(files: &[NamedFacts], decl: DeclRef) -> u64 {
+        match name_of(files, decl) {
+            Some(name) => name.hash(),
+            None => hash_of(&[]),
+        }
     }
 }
 
@@ -37,70 +50,50 @@ impl Naming for FullNames {
 pub struct LastComponents;
 
 impl Naming for LastComponents {
-    ghost use Rattle.proto_resolve.specs.Tables.{last_of, name_at};
+    ghost use Rattle.file_facts.specs.FullNames.{last_of};
+    ghost use Rattle.proto_resolve.specs.Tables.{name_at};
 
     ghost part = { λ files r. last_of (name_at files r) };
 
-    fn part(files: &[NamedFacts], decl: DeclRef) -> &[u8] {
-        parts_of(name_of(files, decl)).last
+    fn part(files: &[NamedFacts], decl: DeclRef) -> NameParts<'_> {
+        last_at(files, decl)
+    }
+
+    fn hash(files: &[NamedFacts], decl: DeclRef) -> u64 {
+        last_at(files, decl).hash()
     }
 }
 
-// A declaration's full name, in UTF-8.
-pub fn name_of(files: &[NamedFacts], decl: DeclRef) -> &[u8]
-    ensures { result.now ≡ name_at files.now decl }
+// A declaration's full name, if there is the declaration.
+fn name_of(files: &[NamedFacts], decl: DeclRef) -> Option<&FullName>
+    ensures { MatchOption result (name_at files.now decl ≡ []) (λ name. name.now ≡ name_at files.now decl) }
 {
-    match files.get(decl.file) {
-        None => &[],
-        Some(file) => match file.facts.get().decls.as_slice().get(decl.number) {
-            None => &[],
-            Some(decl) => decl.full_name.as_str().as_bytes(),
-        },
-    }
+    let file = files.get(decl.file)?;
+    let decl = file.facts.get().decls.as_slice().get(decl.number)?;
+    Some(&decl.full_name)
 }
 
-// The two parts of a full name.
-#[derive(Clone, Copy)]
-pub struct Parts<'a> {
-    pub scope: &'a [u8],
-    pub last: &'a [u8],
-}
-
-// Where the last dot of a full name stands.
-fn last_dot(name: &[u8]) -> Option<usize>
-    ensures { MatchOption result (has_dot name.now ≡ false) (λ at. (at < length name.now) × (slice_index_or name.now at 0 ≡ dot) × ((k : ℕ) → at < k → k < length name.now → slice_index_or name.now k 0 ≢ dot)) }
+// A declaration's full name, split at its last dot.
+pub fn parts_at(files: &[NamedFacts], decl: DeclRef) -> NameParts<'_>
+    ensures scope { result.scope.now ≡ scope_of (name_at files.now decl) }
+    ensures last { result.last.now ≡ last_of (name_at files.now decl) }
 {
-    let mut at = name.len();
-    while at > 0 {
-        at -= 1;
-        if name[at] == b'.' {
-            return Some(at);
-        }
-    }
-    None
-}
-
-// A full name, apart at its last dot.
-pub fn parts_of(name: &[u8]) -> Parts<'_>
-    ensures parts { AreParts result.scope.now result.last.now name.now }
-    ensures last { result.last.now ≡ last_of name.now }
-{
-    match last_dot(name) {
-        None => Parts {
+    match name_of(files, decl) {
+        Some(name) => name.parts(),
+        None => NameParts {
             scope: &[],
-            last: name,
+            last: &[],
         },
-        Some(at) => {
-            if at == 0 {
-                return Parts {
-                    scope: &[],
-                    last: name,
-                };
-            }
-            Parts {
-                scope: &name[..at],
-                last: &name[at + 1..],
-            }
-        }
+    }
+}
+
+// The last component of a declaration's full name, by itself.
+fn last_at(files: &[NamedFacts], decl: DeclRef) -> NameParts<'_>
+    ensures scope { result.scope.now ≡ scope_of (last_of (name_at files.now decl)) }
+    ensures last { result.last.now ≡ last_of (last_of (name_at files.now decl)) }
+{
+    NameParts {
+        scope: &[],
+        last: parts_at(files, decl).last,
     }
 }

@@ -6,10 +6,11 @@ ghost use Rattle.proto_resolve.specs.Outlines.{declared, imported, import_outlin
 
 use file_facts::{Decl, FileFacts, ImportFact, PackageFact, SyntaxFact};
 
-fn is_alike(a: &Decl, b: &Decl) -> bool
+// Whether two declarations say the same to other files.
+pub(crate) fn is_alike(a: &Decl, b: &Decl) -> bool
     ensures { IsTrue result ↔ (declared a.now ≡ declared b.now) }
 {
-    a.kind == b.kind && a.full_name.as_str() == b.full_name.as_str()
+    a.kind == b.kind && a.full_name.equals(&b.full_name)
 }
 
 fn declare_alike(a: &[Decl], b: &[Decl]) -> bool

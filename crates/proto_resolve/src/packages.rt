@@ -7,16 +7,18 @@ ghost use Rattle.std.specs.List.{list_any, starts_with};
 ghost use Rattle.std.specs.List.Sorted.{IsNonDecreasing, IsPermutation};
 ghost use Rattle.file_facts.specs.Text.{joined};
 ghost use Rattle.proto_resolve.specs.Files as spec;
-ghost use Rattle.proto_resolve.specs.Files.{dot, is_within};
+ghost use Rattle.proto_resolve.specs.Files.{is_within};
+ghost use Rattle.file_facts.specs.FullNames.{dot};
 ghost use Rattle.proto_resolve.specs.Holders.{later, IsPast};
 ghost use Rattle.proto_resolve.specs.Packages as packages;
 ghost use Rattle.proto_resolve.specs.Packages.{AreByPackage, AreNoLonger, ArePackaged};
 ghost use Rattle.proto_resolve.specs.declared.packages.PackagedFile.{PackagedFile};
 
 use crate::holders::common_len;
-use file_facts::{Name, PackageFact};
+use file_facts::{Name, NameParts, PackageFact};
 use import_graph::NamedFacts;
 use std::alloc::{AllocError, Global};
+use std::cmp::Ordering;
 
 /// A file that has a package.
 #[derive(Drop)]
@@ -30,8 +32,19 @@ pub struct PackagedFile {
 // What stands behind each name.
 const DOT: &[u8] = b".";
 
-// Whether a text comes before a name with a dot behind it.
-fn is_before(text: &[u8], name: &[u8]) -> bool
+// A full name in one part, for what is asked of names in two.
+pub fn unsplit(name: &[u8]) -> NameParts<'_>
+    ensures scope { result.scope.now ≡ [] }
+    ensures last { result.last.now ≡ name.now }
+{
+    NameParts {
+        scope: &[],
+        last: name,
+    }
+}
+
+// Whether a text comes before these bytes with a dot behind them.
+fn is_before_dotted(text: &[u8], name: &[u8]) -> bool
     ensures { result ≡ is_lt (slice_cmp nat_cmp text.now (name.now ++ dot ∷ [])) }
 {
     if text.len() < name.len() {
@@ -41,15 +54,42 @@ fn is_before(text: &[u8], name: &[u8]) -> bool
     front.cmp(name).then(rest.cmp(DOT)).is_lt()
 }
 
-// Whether a text begins with a name and a dot.
-fn begins_dotted(text: &[u8], name: &[u8]) -> bool
-    ensures { result ≡ starts_with nat_eq text.now (name.now ++ dot ∷ []) }
+// Whether a text comes before a dot, these bytes and another dot.
+fn is_before_inner(text: &[u8], last: &[u8]) -> bool
+    ensures { result ≡ is_lt (slice_cmp nat_cmp text.now (dot ∷ (last.now ++ dot ∷ []))) }
 {
-    if !text.starts_with(name) {
-        return false;
+    match text {
+        [] => true,
+        [c, rest @ ..] => *c < b'.' || *c == b'.' && is_before_dotted(rest, last),
     }
-    let (_, rest) = text.split_at(name.len());
-    begins_with_dot(rest)
+}
+
+// Whether a text comes before a full name with a dot behind it.
+fn is_before(text: &[u8], name: NameParts<'_>) -> bool
+    ensures { result ≡ is_lt (slice_cmp nat_cmp text.now (joined name.entry.scope.now name.entry.last.now ++ dot ∷ [])) }
+{
+    let NameParts { scope, last } = name;
+    if scope.is_empty() {
+        return is_before_dotted(text, last);
+    }
+    if text.len() < scope.len() {
+        return text.cmp(scope).is_lt();
+    }
+    let (front, rest) = text.split_at(scope.len());
+    match front.cmp(scope) {
+        Ordering::Equal => is_before_inner(rest, last),
+        different => different.is_lt(),
+    }
+}
+
+// Whether a text begins with a full name and a dot.
+fn begins_dotted(text: &[u8], name: NameParts<'_>) -> bool
+    ensures { result ≡ starts_with nat_eq text.now (joined name.entry.scope.now name.entry.last.now ++ dot ∷ []) }
+{
+    match name.strip_from(text) {
+        Some(rest) => begins_with_dot(rest),
+        None => false,
+    }
 }
 
 fn begins_with_dot(rest: &[u8]) -> bool
@@ -62,14 +102,20 @@ fn begins_with_dot(rest: &[u8]) -> bool
 }
 
 // Whether the first components of a full name are these.
-fn begins(full_name: &[u8], name: &[u8]) -> bool
-    ensures { result ≡ spec.begins full_name.now name.now }
+fn begins(full_name: &[u8], name: NameParts<'_>) -> bool
+    ensures { result ≡ spec.begins full_name.now (joined name.entry.scope.now name.entry.last.now) }
 {
-    if !full_name.starts_with(name) {
-        return false;
+    match name.strip_from(full_name) {
+        Some(rest) => ends_component(rest),
+        None => false,
     }
-    let (_, rest) = full_name.split_at(name.len());
-    ends_component(rest)
+}
+
+// Whether the first component of a full name is this one.
+fn begins_with(full_name: &[u8], component: &[u8]) -> bool
+    ensures { result ≡ spec.begins full_name.now component.now }
+{
+    begins(full_name, unsplit(component))
 }
 
 fn ends_component(rest: &[u8]) -> bool
@@ -82,12 +128,12 @@ fn ends_component(rest: &[u8]) -> bool
 }
 
 // Whether a package has the name, or lies in it.
-pub fn is_within(name: &str, package: &Option<PackageFact>) -> bool
-    ensures { result ≡ is_within name.now «package».now }
+pub fn is_within(name: NameParts<'_>, package: &Option<PackageFact>) -> bool
+    ensures { result ≡ is_within (joined name.entry.scope.now name.entry.last.now) «package».now }
 {
     match package {
         None => false,
-        Some(package) => begins(package.full_name.as_str().as_bytes(), name.as_bytes()),
+        Some(package) => begins(package.full_name.as_str().as_bytes(), name),
     }
 }
 
@@ -158,15 +204,18 @@ pub fn longest_of(files: &[PackagedFile]) -> usize
 }
 
 // Of files by their packages, of which none has a longer name than this, those whose package has the name or lies in it.
-pub fn of_package<'a>(files: &'a [PackagedFile], longest: usize, name: &str) -> &'a [PackagedFile]
+pub fn of_package<'a>(
+    files: &'a [PackagedFile],
+    longest: usize,
+    name: NameParts<'_>,
+) -> &'a [PackagedFile]
     requires by_package { AreByPackage files.now }
     requires longest { AreNoLonger longest files.now }
-    ensures { (test : PackagedFile → Bool) → list_any test result.now ≡ list_any (λ p. starts_with nat_eq p.name (name.now ++ dot ∷ []) && test p) files.now }
+    ensures { (test : PackagedFile → Bool) → list_any test result.now ≡ list_any (λ p. starts_with nat_eq p.name (joined name.entry.scope.now name.entry.last.now ++ dot ∷ []) && test p) files.now }
 {
-    if name.len() >= longest {
+    if name.last.len() >= longest.saturating_sub(name.scope.len()) {
         return &[];
     }
-    let name = name.as_bytes();
     let start = files.partition_point(|file| is_before(file.name.as_str().as_bytes(), name));
     if start >= files.len() || !begins_dotted(files[start].name.as_str().as_bytes(), name) {
         return &[];
@@ -181,12 +230,12 @@ fn goes_on(package: &[u8], at: usize, component: &[u8]) -> bool
     ensures { result ≡ false → (scope : List ℕ) → length scope ≡ at → spec.begins «package».now (joined scope component.now) ≡ false }
 {
     if at == 0 {
-        return begins(package, component);
+        return begins_with(package, component);
     }
     if at >= package.len() || package[at] != b'.' {
         return false;
     }
-    begins(&package[at + 1..], component)
+    begins_with(&package[at + 1..], component)
 }
 
 // A place behind which a component goes on with a package at no front part of a scope, of these lengths.

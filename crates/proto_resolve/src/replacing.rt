@@ -1,191 +1,151 @@
 // Entries that leave their buckets, and others that come.
-ghost use Rattle.std.specs.Prelude.{◌≡◌, ◌<◌, ◌++◌, List, IfOk, OnOk, length, map, filter, not};
+ghost use Rattle.std.specs.Prelude.{◌≡◌, ◌≢◌, ◌<◌, ◌≤◌, ◌++◌, ◌∷◌, [], List, All, IfSome, MatchOption, OnOk, length, slice_index_or};
 ghost use Rattle.std.specs.Cmp.{IsTotalOrder};
 ghost use Rattle.std.specs.declared.cmp.Ordering.{Ordering};
 ghost use Rattle.proto_resolve.specs.declared.hashed.HashedDecl.{HashedDecl};
 ghost use Rattle.proto_resolve.specs.Buckets.{AreInBuckets};
-ghost use Rattle.proto_resolve.specs.Files.{decl_at, decls_at, refs_of};
-ghost use Rattle.proto_resolve.specs.Hashed.{hashed};
-ghost use Rattle.proto_resolve.specs.Names.{is_holder};
-ghost use Rattle.proto_resolve.specs.Replaced.{WereInBuckets};
-ghost use Rattle.proto_resolve.specs.Tables.{by_name, by_scope, holder_entries, is_of_another, last_of, name_at, name_entries, AreInOrder};
+ghost use Rattle.proto_resolve.specs.Replaced.{GoesBetween, StandIn, WereInBuckets};
+ghost use Rattle.proto_resolve.specs.Tables.{by_name, by_scope, holder_entries, name_at, name_entries, AreInOrder};
 
-use crate::buckets::{Buckets, deal, empty_lists};
-use crate::entry_order::{ByName, ByScope, EntryOrder, sort_entries};
-use crate::hashed::{HashedDecl, HashedDecls, apart};
-use crate::merging::merged;
+use crate::buckets::{Buckets, bucket_of};
+use crate::entry_order::{ByName, ByScope, EntryOrder};
+use crate::hashed::{HashedDecl, HashedDecls};
 use import_graph::NamedFacts;
-use std::alloc::{AllocError, Global};
+use std::alloc::AllocError;
 
-// A file, given by its number from 0, the entries that it had, and those that it has now.
-#[derive(Drop)]
-pub struct Changed {
-    pub file: usize,
-    pub gone: Vec<HashedDecl>,
-    pub come: Vec<HashedDecl>,
-}
-
-// The entries of a bucket, in their order.
-fn together(alloc: Global, bucket: &HashedDecls) -> Result<Vec<HashedDecl>, AllocError>
-    ensures { (sorted : List HashedDecl) → bucket.now.hashes.items ≡ map (λ k. k.hash) sorted → bucket.now.decls.items ≡ map (λ k. k.decl) sorted → IfOk result (λ v. v.items ≡ sorted) }
+// The entry at a place of a bucket.
+fn entry_at(bucket: &HashedDecls, place: usize) -> HashedDecl
+    requires hash { place < length bucket.now.hashes.items }
+    requires decl { place < length bucket.now.decls.items }
+    ensures { (entries : List HashedDecl) (d : HashedDecl) → StandIn entries bucket.now → result ≡ slice_index_or entries place d }
 {
-    let hashes = bucket.hashes.as_slice();
-    let decls = bucket.decls.as_slice();
-    let mut entries = Vec::with_capacity(alloc, hashes.len())?;
-    for (hash, decl) in hashes.iter().zip(decls) {
-        entries.push(HashedDecl {
-            hash: *hash,
-            decl: *decl,
-        })?;
+    HashedDecl {
+        hash: bucket.hashes[place],
+        decl: bucket.decls[place],
     }
-    Ok(entries)
 }
 
-// The entries of the other files, in their order.
-fn of_others(
-    alloc: Global,
-    bucket: &HashedDecls,
-    file: usize,
-) -> Result<Vec<HashedDecl>, AllocError>
-    ensures { (sorted : List HashedDecl) → bucket.now.hashes.items ≡ map (λ k. k.hash) sorted → bucket.now.decls.items ≡ map (λ k. k.decl) sorted → IfOk result (λ v. v.items ≡ filter (λ k. is_of_another file k.decl) sorted) }
+// Where an entry stands in a bucket. It is looked for from the back, where the last declaration of a name is.
+fn place_of(bucket: &HashedDecls, one: HashedDecl) -> Option<usize>
+    requires { length bucket.now.hashes.items ≡ length bucket.now.decls.items }
+    ensures within { IfSome result (λ place. place < length bucket.now.hashes.items) }
+    ensures there { (entries : List HashedDecl) → StandIn entries bucket.now → MatchOption result (All (λ k. k ≢ one) entries) (λ place. (d : HashedDecl) → slice_index_or entries place d ≡ one) }
 {
-    let mut others = together(alloc, bucket)?;
-    others.retain(|entry| entry.decl.file != file);
-    Ok(others)
-}
-
-// A bucket without the entries of a file.
-fn without_file(alloc: Global, bucket: &HashedDecls, file: usize) -> Result<HashedDecls, AllocError>
-    ensures { (order : HashedDecl → HashedDecl → Ordering) (entries : List HashedDecl) → IsTotalOrder order → AreInOrder order entries bucket.now → IfOk result (AreInOrder order (filter (λ k. is_of_another file k.decl) entries)) }
-{
-    let others = of_others(alloc, bucket, file)?;
-    apart(alloc, others.as_slice())
-}
-
-// A bucket, whose entries are in order, with more entries, each in its place.
-fn with_entries<O: EntryOrder>(
-    alloc: Global,
-    files: &[NamedFacts],
-    bucket: &HashedDecls,
-    more: &[HashedDecl],
-) -> Result<HashedDecls, AllocError>
-    requires total { IsTotalOrder (O.order files.now) }
-    requires bucket { (entries : List HashedDecl) × AreInOrder (O.order files.now) entries bucket.now }
-    ensures { (entries : List HashedDecl) → AreInOrder (O.order files.now) entries bucket.now → IfOk result (AreInOrder (O.order files.now) (entries ++ more.now)) }
-{
-    let entries = together(alloc, bucket)?;
-    let mut more = Vec::from_slice(alloc, more)?;
-    sort_entries::<O>(files, &mut more)?;
-    let all = merged::<O>(alloc, files, entries.as_slice(), more.as_slice())?;
-    apart(alloc, all.as_slice())
-}
-
-// Leaves out the entries of a file, which are these. A bucket without one of them stays as it is.
-fn leave_out_of(
-    alloc: Global,
-    bucket: &mut HashedDecls,
-    file: usize,
-    gone: &[HashedDecl],
-) -> Result<(), AllocError>
-    ensures { OnOk result ((order : HashedDecl → HashedDecl → Ordering) (entries : List HashedDecl) → IsTotalOrder order → filter (λ k. not (is_of_another file k.decl)) entries ≡ gone.now → AreInOrder order entries bucket.old → AreInOrder order (filter (λ k. is_of_another file k.decl) entries) bucket.new) }
-{
-    if gone.is_empty() {
-        return Ok(());
+    let mut place = bucket.hashes.len();
+    while place > 0 {
+        place -= 1;
+        if entry_at(bucket, place) == one {
+            return Some(place);
+        }
     }
-    *bucket = without_file(alloc, bucket, file)?;
-    Ok(())
+    None
 }
 
-// Adds entries to a bucket, whose entries are in order. It stays as it is where there is none to add.
-fn add_to<O: EntryOrder>(
-    alloc: Global,
+// Where an entry goes into a bucket that is in order: behind those that don't come behind it.
+fn place_for<O: EntryOrder>(files: &[NamedFacts], bucket: &HashedDecls, one: HashedDecl) -> usize
+    requires { length bucket.now.hashes.items ≡ length bucket.now.decls.items }
+    ensures within { result ≤ length bucket.now.hashes.items }
+    ensures between { (entries : List HashedDecl) → StandIn entries bucket.now → GoesBetween (O.order files.now) one entries result }
+{
+    let mut low = 0;
+    let mut high = bucket.hashes.len();
+    while low < high {
+        let middle = low + (high - low) / 2;
+        if O::compare(files, one, entry_at(bucket, middle)).is_lt() {
+            high = middle;
+        } else {
+            low = middle + 1;
+        }
+    }
+    low
+}
+
+// Takes an entry out of its bucket, where the others stay in order.
+fn take_out(bucket: &mut HashedDecls, one: HashedDecl)
+    requires { length bucket.old.hashes.items ≡ length bucket.old.decls.items }
+    ensures { (order : HashedDecl → HashedDecl → Ordering) (entries : List HashedDecl) → IsTotalOrder order → AreInOrder order (entries ++ one ∷ []) bucket.old → AreInOrder order entries bucket.new }
+{
+    if let Some(place) = place_of(bucket, one) {
+        bucket.hashes.remove(place);
+        bucket.decls.remove(place);
+    }
+}
+
+// Puts an entry into a bucket, in its place among the others.
+fn put_in<O: EntryOrder>(
     files: &[NamedFacts],
     bucket: &mut HashedDecls,
-    more: &[HashedDecl],
+    one: HashedDecl,
 ) -> Result<(), AllocError>
     requires total { IsTotalOrder (O.order files.now) }
-    requires bucket { (entries : List HashedDecl) × AreInOrder (O.order files.now) entries bucket.old }
-    ensures { OnOk result ((entries : List HashedDecl) → AreInOrder (O.order files.now) entries bucket.old → AreInOrder (O.order files.now) (entries ++ more.now) bucket.new) }
+    requires as_many { length bucket.old.hashes.items ≡ length bucket.old.decls.items }
+    ensures { OnOk result ((entries : List HashedDecl) → AreInOrder (O.order files.now) entries bucket.old → AreInOrder (O.order files.now) (entries ++ one ∷ []) bucket.new) }
 {
-    if more.is_empty() {
-        return Ok(());
-    }
-    *bucket = with_entries::<O>(alloc, files, bucket, more)?;
+    let place = place_for::<O>(files, bucket, one);
+    bucket.hashes.insert(place, one.hash)?;
+    bucket.decls.insert(place, one.decl)?;
     Ok(())
 }
 
 impl Buckets {
-    // Leaves out the entries of a file, given by its number from 0, which are these. Only their buckets change. An `Err` comes only where
-    // memory was refused; what is there then is neither.
-    pub fn leave_out(
-        &mut self,
-        alloc: Global,
-        file: usize,
-        gone: &[HashedDecl],
-    ) -> Result<(), AllocError>
-        requires { 0 < length self.old.list.items }
-        ensures { OnOk result ((order : HashedDecl → HashedDecl → Ordering) (entries : List HashedDecl) → IsTotalOrder order → filter (λ k. not (is_of_another file k.decl)) entries ≡ gone.now → AreInBuckets order entries self.old.list.items → AreInBuckets order (filter (λ k. is_of_another file k.decl) entries) self.new.list.items) }
+    // Leaves out these entries, the last one first. Only their buckets change, and each of the others stays in its place.
+    pub fn leave_out(&mut self, gone: &[HashedDecl])
+        requires { (order : HashedDecl → HashedDecl → Ordering) × IsTotalOrder order × ((entries : List HashedDecl) × AreInBuckets order (entries ++ gone.now) self.old.list.items) }
+        ensures { (order : HashedDecl → HashedDecl → Ordering) (entries : List HashedDecl) → IsTotalOrder order → AreInBuckets order (entries ++ gone.now) self.old.list.items → AreInBuckets order entries self.new.list.items }
     {
         let count = self.list.len();
-        let mut lists = empty_lists(alloc, count)?;
-        deal(gone, &mut lists)?;
-        for number in 0..count {
-            let bucket = &mut self.list[number];
-            leave_out_of(alloc, bucket, file, lists[number].as_slice())?;
+        let mut left = gone.len();
+        while left > 0 {
+            left -= 1;
+            let one = gone[left];
+            take_out(&mut self.list[bucket_of(one.hash, count)], one);
         }
-        Ok(())
     }
 
     // Adds entries to those that are there in this order. Only their buckets change. An `Err` comes only where memory was refused; what
     // is there then is neither.
     pub fn add<O: EntryOrder>(
         &mut self,
-        alloc: Global,
         files: &[NamedFacts],
-        more: &[HashedDecl],
+        come: &[HashedDecl],
     ) -> Result<(), AllocError>
         requires total { IsTotalOrder (O.order files.now) }
         requires buckets { (entries : List HashedDecl) × AreInBuckets (O.order files.now) entries self.old.list.items }
-        ensures { OnOk result ((entries : List HashedDecl) → AreInBuckets (O.order files.now) entries self.old.list.items → AreInBuckets (O.order files.now) (entries ++ more.now) self.new.list.items) }
+        ensures { OnOk result ((entries : List HashedDecl) → AreInBuckets (O.order files.now) entries self.old.list.items → AreInBuckets (O.order files.now) (entries ++ come.now) self.new.list.items) }
     {
         let count = self.list.len();
-        let mut lists = empty_lists(alloc, count)?;
-        deal(more, &mut lists)?;
-        for number in 0..count {
-            let bucket = &mut self.list[number];
-            add_to::<O>(alloc, files, bucket, lists[number].as_slice())?;
+        for one in come {
+            put_in::<O>(files, &mut self.list[bucket_of(one.hash, count)], *one)?;
         }
         Ok(())
     }
 }
 
-// Makes all declarations by full name those of the files, where they were those of the files before one of them changed. An `Err` comes
-// only where memory was refused; what is there then is neither.
+// Makes all declarations by full name those of the files, where they were those of the files before one of them changed: these are gone,
+// and those come. An `Err` comes only where memory was refused; what is there then is neither.
 pub fn change_names(
-    alloc: Global,
     files: &[NamedFacts],
-    change: &Changed,
+    gone: &[HashedDecl],
+    come: &[HashedDecl],
     names: &mut Buckets,
 ) -> Result<(), AllocError>
-    requires were { WereInBuckets (λ old. by_name (name_at old)) name_entries files.now change.now.file change.now.gone.items names.old.list.items }
-    requires come { change.now.come.items ≡ map (hashed (name_at files.now)) (refs_of change.now.file (decls_at files.now change.now.file)) }
+    requires { WereInBuckets (λ old. by_name (name_at old)) name_entries files.now gone.now come.now names.old.list.items }
     ensures { OnOk result (AreInBuckets (by_name (name_at files.now)) (name_entries files.now) names.new.list.items) }
 {
-    names.leave_out(alloc, change.file, change.gone.as_slice())?;
-    names.add::<ByName>(alloc, files, change.come.as_slice())
+    names.leave_out(gone);
+    names.add::<ByName>(files, come)
 }
 
 // The same of what may settle a scope, by last component.
 pub fn change_holders(
-    alloc: Global,
     files: &[NamedFacts],
-    change: &Changed,
+    gone: &[HashedDecl],
+    come: &[HashedDecl],
     holders: &mut Buckets,
 ) -> Result<(), AllocError>
-    requires were { WereInBuckets (λ old. by_scope (name_at old)) holder_entries files.now change.now.file change.now.gone.items holders.old.list.items }
-    requires come { change.now.come.items ≡ map (hashed (λ r. last_of (name_at files.now r))) (filter (λ r. is_holder (let d = decl_at files.now r in d.kind)) (refs_of change.now.file (decls_at files.now change.now.file))) }
+    requires { WereInBuckets (λ old. by_scope (name_at old)) holder_entries files.now gone.now come.now holders.old.list.items }
     ensures { OnOk result (AreInBuckets (by_scope (name_at files.now)) (holder_entries files.now) holders.new.list.items) }
 {
-    holders.leave_out(alloc, change.file, change.gone.as_slice())?;
-    holders.add::<ByScope>(alloc, files, change.come.as_slice())
+    holders.leave_out(gone);
+    holders.add::<ByScope>(files, come)
 }

@@ -7,7 +7,7 @@ use crate::index::Index;
 use crate::sites::names_of_file;
 use crate::uses::{NameUse, resolve_names};
 use crate::views::view_of;
-use file_facts::{Diag, in_order};
+use file_facts::{Diag, fitted, in_order};
 use sqlite_items::Items;
 use std::alloc::{AllocError, Global};
 use syntax_tree::FileTree;
@@ -39,7 +39,7 @@ pub fn resolve_file<I: Index>(
     let found = view_diagnostics(alloc, index, &view, names.diagnostics)?;
     let diags = in_order(alloc, found.as_slice())?;
     Ok(Links {
-        uses: names.uses,
+        uses: fitted(alloc, names.uses)?,
         diags,
     })
 }

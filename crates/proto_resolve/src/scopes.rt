@@ -1,13 +1,15 @@
 // The scope in which a name is looked for, and what it means.
 ghost use Rattle.std.specs.Prelude.{◌≡◌, ◌==◌, ◌<◌, length, false, find, All, IfOk, IfSome, Some, option_copied, option_and_then};
 ghost use Rattle.proto_resolve.specs.Files.{decl_at};
-ghost use Rattle.proto_resolve.specs.Holders.{earlier, has_dot, IsNext};
+ghost use Rattle.proto_resolve.specs.Holders.{earlier, IsNext};
+ghost use Rattle.file_facts.specs.FullNames.{has_dot};
 ghost use Rattle.proto_resolve.specs.declared.target.Target.TheVariants.{Declared};
 ghost use Rattle.proto_resolve.specs.Names.{found, is_type, is_holder, settles, settles_at, first_text, joined_all, texts_of, scope_of, IsThere};
 
 use crate::finding::{declared, found};
 use crate::full_names::{joined_all, push_component};
 use crate::index::Index;
+use crate::packages::unsplit;
 use crate::resolver::Resolver;
 use crate::site::{NameSite, Needs};
 use crate::target::{DeclRef, Target};
@@ -119,7 +121,7 @@ impl<I: Index> Resolver<'_, I> {
         let is_alone = site.components.len() == 1;
         Ok(match declared(self.index, self.view, name.as_str()) {
             Some(decl) => settles(self.index, is_alone, decl),
-            None => !is_alone && sees_package(self.index, self.view, name.as_str()),
+            None => !is_alone && sees_package(self.index, self.view, unsplit(name.as_bytes())),
         })
     }
 

@@ -13,14 +13,14 @@ use syntax_tree::{Node, Span, TypeName};
 fn components(alloc: Global, text: &str, spans: &[Span]) -> Result<Items<Component>, AllocError>
     ensures { IfOk result (λ cs. cs ≡ map (spec.component text.now) spans.now) }
 {
-    let mut found = Items::new(alloc);
+    let mut found = Vec::with_capacity(alloc, spans.len())?;
     'spans: for &span in spans {
         found.push(Component {
             text: copied(alloc, text_at(text, span))?,
             span,
         })?;
     }
-    Ok(found)
+    Ok(Items::from_vec(found))
 }
 
 // The scopes in a body with this name, which stands in these scopes.
@@ -113,6 +113,25 @@ pub fn push_names(
     Ok(())
 }
 
+// Adds the names in a body with this name. Where it is empty, its scopes aren't written out.
+#[cycle(names)]
+fn push_inner(
+    alloc: Global,
+    text: &str,
+    name: Span,
+    nodes: &[Node],
+    scopes: &Scopes,
+    found: &mut Items<NameSite>,
+) -> Result<(), AllocError>
+    ensures { OnOk result (found.new ≡ found.old ++ spec.names_in text.now nodes.now (spec.inner text.now name scopes.now)) }
+{
+    if nodes.is_empty() {
+        return Ok(());
+    }
+    let inside = inner(alloc, text, name, scopes)?;
+    push_names(alloc, text, nodes, &inside, found)
+}
+
 #[cycle(names)]
 fn push_names_of(
     alloc: Global,
@@ -125,12 +144,10 @@ fn push_names_of(
 {
     match node {
         Node::Message { name, items, .. } => {
-            let inside = inner(alloc, text, *name, scopes)?;
-            push_names(alloc, text, items.get().as_slice(), &inside, found)
+            push_inner(alloc, text, *name, items.get().as_slice(), scopes, found)
         }
         Node::Service { name, items, .. } => {
-            let inside = inner(alloc, text, *name, scopes)?;
-            push_names(alloc, text, items.get().as_slice(), &inside, found)
+            push_inner(alloc, text, *name, items.get().as_slice(), scopes, found)
         }
         Node::Oneof { items, .. } => push_names(alloc, text, items.get().as_slice(), scopes, found),
         Node::Extend { target, items, .. } => {

@@ -14,7 +14,7 @@ use crate::outline::{have_one_name, same_exports};
 use crate::packages::{PackagedFile, of_package};
 use crate::table_base::TableBase;
 use crate::target::DeclRef;
-use file_facts::FileFacts;
+use file_facts::{FileFacts, FullName, NameParts};
 use import_graph::{Graph, NamedFacts, SharedFacts};
 use std::alloc::{AllocError, Global};
 use std::marker::Model;
@@ -159,7 +159,11 @@ impl Index for Table {
         self.names.decls_named(full_name)
     }
 
-    fn packaged(&self, full_name: &str) -> &[PackagedFile] {
+    fn declared_as(&self, full_name: &FullName) -> &[DeclRef] {
+        self.names.decls_of(full_name)
+    }
+
+    fn packaged(&self, full_name: NameParts<'_>) -> &[PackagedFile] {
         of_package(self.base.packaged.as_slice(), self.base.longest, full_name)
     }
 

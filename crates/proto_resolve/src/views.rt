@@ -12,6 +12,7 @@ ghost use Rattle.proto_resolve.specs.Views.{IsView};
 use crate::index::Index;
 use crate::packages::{is_within, last_within, later};
 use crate::view::View;
+use file_facts::NameParts;
 use sqlite_items::Items;
 use std::alloc::{AllocError, Global};
 
@@ -27,9 +28,9 @@ pub fn view_of<I: Index>(index: &I, file: usize) -> Result<View, AllocError>
 }
 
 // Whether one of the files has the package.
-fn have_package<I: Index>(index: &I, files: &[usize], name: &str) -> bool
+fn have_package<I: Index>(index: &I, files: &[usize], name: NameParts<'_>) -> bool
     requires { All (λ g. g < length (I.files index.now)) files.now }
-    ensures { result ≡ list_any (has_package (I.files index.now) name.now) files.now }
+    ensures { result ≡ list_any (has_package (I.files index.now) (joined name.entry.scope.now name.entry.last.now)) files.now }
 {
     for &file in files {
         if is_within(name, &index.facts(file).package) {
@@ -43,9 +44,9 @@ fn have_package<I: Index>(index: &I, files: &[usize], name: &str) -> bool
 const FEW: usize = 16;
 
 // Whether a file of the view has the package. The shorter list is walked: that of the files that have it, or the view.
-pub fn sees_package<I: Index>(index: &I, view: &View, name: &str) -> bool
+pub fn sees_package<I: Index>(index: &I, view: &View, name: NameParts<'_>) -> bool
     requires { IsView (I.files index.now) view.now }
-    ensures { result ≡ list_any (has_package (I.files index.now) name.now) view.now.files }
+    ensures { result ≡ list_any (has_package (I.files index.now) (joined name.entry.scope.now name.entry.last.now)) view.now.files }
 {
     if view.files.len() <= FEW {
         return have_package(index, view.files.as_slice(), name);

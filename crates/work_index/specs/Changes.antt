@@ -71,6 +71,6 @@ Follows old new change f asked Relink = ⊤
 pub record AreLinkedBefore (resolutions : Resolutions) (w : Workspace) (change : FileChange) : Type 0 where
   pub within : change.file < length w
   pub text : List ℕ
-  pub links_are : resolutions.links ≡ map (resolution_of (with_text w change.file text)) (enumerate_from 0 (with_text w change.file text))
+  pub links_are : resolutions.links.items ≡ map (resolution_of (with_text w change.file text)) (enumerate_from 0 (with_text w change.file text))
   pub diagnostics_are : resolutions.diagnostics ≡ map (diagnostics_of (with_text w change.file text)) (enumerate_from 0 (with_text w change.file text))
   pub differ : DifferAt (all_facts (with_text w change.file text)) (all_facts w) change

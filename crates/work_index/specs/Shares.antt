@@ -39,7 +39,7 @@ ArePlacedIn files shares = All (λ s. AreNumbersIn files s.first (length s.piece
 -- the pieces of a share, as they were, with what is known of each of them as a file of the workspace beside its facts
 pub record IsLinkedIn (w : Workspace) (share : Share) (linked : LinkedShare) : Type 0 where
   pub pieces : linked.pieces.items ≡ share.pieces.items
-  pub links : linked.resolutions.links ≡ map (resolution_of w) (enumerate_from share.first (workspace_of share.pieces.items))
+  pub links : linked.resolutions.links.items ≡ map (resolution_of w) (enumerate_from share.first (workspace_of share.pieces.items))
   pub diagnostics : linked.resolutions.diagnostics ≡ map (diagnostics_of w) (enumerate_from share.first (workspace_of share.pieces.items))
 
 -- the same in the workspace of these files
@@ -56,5 +56,5 @@ pub record AreJoined (answers : List (Result LinkedShare AllocError)) (joined : 
   pub parts : List LinkedShare
   pub none_refused : answers ≡ map Ok parts
   pub pieces : joined.pieces.items ≡ flat_map (λ part. part.pieces.items) parts
-  pub links : joined.resolutions.links ≡ flat_map (λ part. part.resolutions.links) parts
+  pub links : joined.resolutions.links.items ≡ flat_map (λ part. part.resolutions.links.items) parts
   pub diagnostics : joined.resolutions.diagnostics ≡ flat_map (λ part. part.resolutions.diagnostics) parts

@@ -20,7 +20,7 @@ use crate::analysis::{Analysis, Resolutions};
 use crate::file_work::{FileWork, asked_in, shared_in};
 use file_facts::FileFacts;
 use import_graph::{FileNo, Graph, SharedFacts, same_outlook};
-use link_changes::{Asked, Renumbering, Touched, moves_any, renumbered_links, touched_law};
+use link_changes::{Asked, Renumbering, Touched, renumber, touched_law};
 use piece_collector::Piece;
 use proto_resolve::{Index, Links, Table, same_exports, same_imports, seen_law};
 use std::alloc::{AllocError, Global};
@@ -129,35 +129,25 @@ fn set_linked(
     resolutions: &mut Resolutions,
 ) -> Result<(), AllocError>
     requires file { file < length table.now }
-    requires links { file < length resolutions.old.links }
+    requires links { file < length resolutions.old.links.items }
     requires diagnostics { file < length resolutions.old.diagnostics }
-    ensures links { (w : Workspace) → table.now ≡ all_facts w → OnOk result (resolutions.new.links ≡ slice_set resolutions.old.links file (resolution_of w (file, (piece.now.path, piece.now.text)))) }
+    ensures links { (w : Workspace) → table.now ≡ all_facts w → OnOk result (resolutions.new.links.items ≡ slice_set resolutions.old.links.items file (resolution_of w (file, (piece.now.path, piece.now.text)))) }
     ensures diagnostics { (w : Workspace) → table.now ≡ all_facts w → OnOk result (resolutions.new.diagnostics ≡ slice_set resolutions.old.diagnostics file (diagnostics_of w (file, (piece.now.path, piece.now.text)))) }
 {
     let found = resolution_of(alloc, table, file, piece)?;
     let diagnostics = diagnostics_of(alloc, piece, &found)?;
     resolutions.diagnostics.set(file, diagnostics);
-    resolutions.links.set(file, found);
+    resolutions.links[file] = found;
     Ok(())
 }
 
 // Gives the links of a file the numbers that declarations have now.
-fn set_renumbered(
-    alloc: Global,
-    by: &Renumbering,
-    file: usize,
-    resolutions: &mut Resolutions,
-) -> Result<(), AllocError>
-    requires { file < length resolutions.old.links }
-    ensures links { OnOk result ((d : Links) → resolutions.new.links ≡ slice_set resolutions.old.links file (links_after (decl_after by.now) (slice_index_or resolutions.old.links file d))) }
-    ensures diagnostics { OnOk result (resolutions.new.diagnostics ≡ resolutions.old.diagnostics) }
+fn set_renumbered(by: &Renumbering, file: usize, resolutions: &mut Resolutions)
+    requires { file < length resolutions.old.links.items }
+    ensures links { (d : Links) → resolutions.new.links.items ≡ slice_set resolutions.old.links.items file (links_after (decl_after by.now) (slice_index_or resolutions.old.links.items file d)) }
+    ensures diagnostics { resolutions.new.diagnostics ≡ resolutions.old.diagnostics }
 {
-    let links = &resolutions.links.as_slice()[file];
-    if moves_any(by, links) {
-        let found = renumbered_links(alloc, by, links)?;
-        resolutions.links.set(file, found);
-    }
-    Ok(())
+    renumber(by, &mut resolutions.links[file]);
 }
 
 // Brings the links of all files up to the change: those of the changed file, and of those to which it may make a difference.
@@ -172,13 +162,13 @@ fn relink(
     requires before { AreLinkedBefore resolutions.old (workspace_of pieces.now) change.now }
     requires seen_law { SeenLaw }
     requires touched_law { TouchedLaw }
-    ensures links { OnOk result (resolutions.new.links ≡ map (resolution_of (workspace_of pieces.now)) (enumerate_from 0 (workspace_of pieces.now))) }
+    ensures links { OnOk result (resolutions.new.links.items ≡ map (resolution_of (workspace_of pieces.now)) (enumerate_from 0 (workspace_of pieces.now))) }
     ensures diagnostics { OnOk result (resolutions.new.diagnostics ≡ map (diagnostics_of (workspace_of pieces.now)) (enumerate_from 0 (workspace_of pieces.now))) }
 {
     for (file, piece) in pieces.iter().enumerate() {
         match effect_on(table, change, file, asked_in(piece))? {
             Effect::Stay => {}
-            Effect::Move(by) => set_renumbered(alloc, &by, file, resolutions)?,
+            Effect::Move(by) => set_renumbered(&by, file, resolutions),
             Effect::Relink => set_linked(alloc, table, file, piece, resolutions)?,
         }
     }

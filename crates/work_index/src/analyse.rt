@@ -10,6 +10,7 @@ ghost use Rattle.work_index.specs.Workspace.{Workspace, all_facts, analysis, res
 use crate::analysis::{Analysis, Resolutions};
 use crate::file_work::{FileWork, facts_in, tree_in};
 use crate::gate::{Gate, OpenGate};
+use crate::room::make_room;
 use crate::table_of::table_of;
 use file_facts::{Diag, Name, in_order};
 use piece_collector::Piece;
@@ -69,13 +70,14 @@ fn push_linked(
     resolutions: &mut Resolutions,
 ) -> Result<(), AllocError>
     requires { file < length table.now }
-    ensures links { (w : Workspace) → table.now ≡ all_facts w → OnOk result (resolutions.new.links ≡ resolutions.old.links ++ resolution_of w (file, (piece.now.path, piece.now.text)) ∷ []) }
+    ensures links { (w : Workspace) → table.now ≡ all_facts w → OnOk result (resolutions.new.links.items ≡ resolutions.old.links.items ++ resolution_of w (file, (piece.now.path, piece.now.text)) ∷ []) }
     ensures diagnostics { (w : Workspace) → table.now ≡ all_facts w → OnOk result (resolutions.new.diagnostics ≡ resolutions.old.diagnostics ++ diagnostics_of w (file, (piece.now.path, piece.now.text)) ∷ []) }
 {
     let found = resolution_of(alloc, table, file, piece)?;
     let diagnostics = diagnostics_of(alloc, piece, &found)?;
     resolutions.diagnostics.push(diagnostics)?;
-    resolutions.links.push(found)
+    resolutions.links.push(found)?;
+    Ok(())
 }
 
 // What is known, beside their facts, of some pieces, which are files of the table. The first has this number there, and the
@@ -88,14 +90,15 @@ pub fn link_files<G: Gate>(
     gate: &G,
 ) -> Result<Resolutions, AllocError>
     requires { AreNumbersIn (length table.now) first (length pieces.now) }
-    ensures links { (w : Workspace) → table.now ≡ all_facts w → IfOk result (λ found. found.links ≡ map (resolution_of w) (enumerate_from first (workspace_of pieces.now))) }
+    ensures links { (w : Workspace) → table.now ≡ all_facts w → IfOk result (λ found. found.links.items ≡ map (resolution_of w) (enumerate_from first (workspace_of pieces.now))) }
     ensures diagnostics { (w : Workspace) → table.now ≡ all_facts w → IfOk result (λ found. found.diagnostics ≡ map (diagnostics_of w) (enumerate_from first (workspace_of pieces.now))) }
 {
-    let links = Items::new(alloc);
+    let links = Vec::new(alloc);
     let diagnostics = Items::new(alloc);
     let mut resolutions = Resolutions { links, diagnostics };
     for (place, piece) in pieces.iter().enumerate() {
         gate.enter(piece.path(), piece.stamp());
+        make_room(alloc, place);
         push_linked(alloc, table, first + place, piece, &mut resolutions)?;
     }
     Ok(resolutions)

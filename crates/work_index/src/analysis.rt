@@ -21,7 +21,7 @@ pub struct Analysis {
 // What the names of each file mean, and what is wrong in each file.
 #[derive(Drop)]
 pub struct Resolutions {
-    pub links: Items<Links>,
+    pub links: Vec<Links>,
     pub diagnostics: Items<Items<Diag>>,
 }
 
@@ -36,11 +36,11 @@ impl Model for Analysis {
       paths = a.paths;
       facts = map (λ file. file.facts) a.table;
       decls = all_decls a.table;
-      links = a.resolutions.links;
+      links = a.resolutions.links.items;
       diagnostics = a.resolutions.diagnostics;
     } };
 
-    ghost invariant = { λ a. (length a.paths ≡ length a.table) × (length a.resolutions.links ≡ length a.table) × (length a.resolutions.diagnostics ≡ length a.table) × (a.paths ≡ map (λ file. file.path) a.table) };
+    ghost invariant = { λ a. (length a.paths ≡ length a.table) × (length a.resolutions.links.items ≡ length a.table) × (length a.resolutions.diagnostics ≡ length a.table) × (a.paths ≡ map (λ file. file.path) a.table) };
 }
 
 impl Analysis {
@@ -74,7 +74,7 @@ impl Analysis {
         requires { file < length self.now.paths }
         ensures { slice_get self.now.links file ≡ Some result.now }
     {
-        &self.resolutions.links.as_slice()[file]
+        &self.resolutions.links[file]
     }
 
     /// The diagnostics 201 to 406 of a file, each once, by start, end, number and words.

@@ -5,6 +5,7 @@ ghost use Rattle.link_changes.specs.Asked.{has_all};
 ghost use Rattle.syntax_tree.specs.Read.{value_tree};
 ghost use Rattle.work_index.specs.Workspace.{asked_of};
 
+use crate::room::make_room;
 use file_facts::FileFacts;
 use import_graph::SharedFacts;
 use link_changes::Asked;
@@ -52,6 +53,7 @@ impl Work for FileWork {
     ghost is_product_of = { λ out text. (out.tree ≡ value_tree text) × (out.facts ≡ facts_of text) × (has_all out.asked (asked_of text) ≡ true) };
 
     fn work(&self, text: &str) -> Result<FileOut, AllocError> {
+        make_room(self.alloc, text.len());
         let tree = tree_of(self.alloc, text)?;
         let facts = facts(self.alloc, text, &tree)?;
         let asked = Asked::of(self.alloc, text, &facts, &tree)?;

@@ -16,6 +16,7 @@ mod in_shares;
 mod indexed;
 mod linked;
 mod part_table;
+mod room;
 mod shares;
 mod table_of;
 

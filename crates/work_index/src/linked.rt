@@ -45,15 +45,15 @@ pub fn gather(
     ensures { IfOk result (AreJoined answers.items) }
 {
     let mut pieces = Vec::new(alloc);
-    let mut links = Items::new(alloc);
+    let mut links = Vec::new(alloc);
     let mut diagnostics = Items::new(alloc);
     for answer in answers {
         let LinkedShare {
             pieces: mut more,
-            resolutions,
+            mut resolutions,
         } = answer?;
         pieces.append(&mut more)?;
-        links.append(resolutions.links)?;
+        links.append(&mut resolutions.links)?;
         diagnostics.append(resolutions.diagnostics)?;
     }
     let resolutions = Resolutions { links, diagnostics };

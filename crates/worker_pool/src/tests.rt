@@ -41,7 +41,7 @@ fn shown(alloc: Global, done: &Done) -> Result<String, AllocError> {
             let mut line = format!(in alloc; "{path} {stamp}")?;
             for decl in piece.out().facts.get().decls.as_slice() {
                 line.push(' ')?;
-                line.push_str(decl.full_name.as_str())?;
+                line.push_str(decl.full_name.to_text(alloc)?.as_str())?;
             }
             Ok(line)
         }

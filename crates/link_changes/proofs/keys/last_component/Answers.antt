@@ -1,9 +1,8 @@
 use Rattle.std.proofs.Common.{rules, ◌≡◌, ◌≢◌, ◌∙◌, sym, ap, refl, inl, inr, ℕ, List, [], ◌∷◌, ◌++◌, ◌==◌, ◌+◌, ◌<◌, length, take, drop, get_or, true, false}
 use Rattle.std.proofs.lemmas.Bool.{cases_Bool}
 use Rattle.std.proofs.iter.runs.Made.{chains}
-use Rattle.proto_resolve.specs.Holders.{has_dot}
-use Rattle.proto_resolve.specs.Tables.{behind_dot}
-use Rattle.proto_resolve.proofs.LastParts.{at_dot, last_plain, no_dot}
+use Rattle.file_facts.specs.FullNames.{has_dot, behind_dot}
+use Rattle.file_facts.proofs.LastParts.{at_dot, last_plain, no_dot}
 use Rattle.proto_resolve.proofs.PackageFronts.{to_end}
 use Rattle.link_changes.proofs.keys.last_component.Goals as goal
 

@@ -1,4 +1,4 @@
-use Rattle.std.proofs.Common.{◌≡◌, ◌≤◌, ◌<◌, ◌-◌, ◌+◌, ℕ, true, false, length, take, drop, List, [], ◌∷◌, Option, Some, ap, sym, ◌∙◌, arith, refl, subst, slice_index, length-drop}
+use Rattle.std.proofs.Common.{◌≡◌, ◌≤◌, ◌<◌, ◌-◌, ◌+◌, ℕ, true, false, length, take, drop, List, [], ◌∷◌, Option, ap, sym, ◌∙◌, arith, refl, subst, slice_index, length-drop}
 use Rattle.std.proofs.lemmas.List.{take_all}
 use Rattle.std.specs.Char.{to_ascii_lowercase, to_ascii_uppercase}
 use Rattle.memchr.specs.Find.{is_byte2, IsFirstByte}

@@ -1,4 +1,4 @@
-use Rattle.std.proofs.Common.{◌≡◌, ◌<◌, true, length, nat_lt, lt-ltb}
+use Rattle.std.proofs.Common.{◌≡◌, true, length, nat_lt, lt-ltb}
 use Rattle.lsp_queries.proofs.NeighbourLemmas.{no-match}
 use Rattle.lsp_queries.proofs.searching.may_match.Goals as goal
 

@@ -12,13 +12,13 @@ loop-left-preserved c =
     let within : i < length c.args.lengths.now = omega (arith, c.loop-left-test.true, c.loop-left.invariant.0) in
     let fits : size ≤ length c.args.scope.now = c.requires.within i 0 within in
     let none = c.in-Some.ensures.bound in
-    let shorter : (l : ℕ) → c.in-Some.bound ≤ l → l ≤ size → stands_in (name_at c.args.files.now) c.args.last c.args.decls.now (take l c.args.scope.now) ≡ false =
+    let shorter : (l : ℕ) → c.in-Some.bound ≤ l → l ≤ size → stands_in (name_at c.args.files.now) c.args.decls.now (take l c.args.scope.now) ≡ false =
     λ l from le. rw (take-take l size c.args.scope.now le) at (none.1 l from (omega (arith, le, length-take-le size c.args.scope.now fits))) in
     let parted = IsPartitionedBy-ltb (λ n. n) (take i c.args.lengths.now) c.in-Some.bound (front_rises c.args.lengths.now i c.requires.ascending (omega (arith, within))) in
     let point = IsPartitionPoint-from_clause (λ n. nat_lt n c.in-Some.bound) (take i c.args.lengths.now) c.partition_point-left.result c.partition_point-left.ensures.partitioned parted (λ a r q k. search rules) in
     let same : i + 1 ≡ c.loop-left.left = omega (arith, c.loop-left-test.true) in
-    let later : NoneFrom (λ l. stands_in (name_at c.args.files.now) c.args.last c.args.decls.now (take l c.args.scope.now)) c.args.lengths.now (i + 1) = rw same c.loop-left.invariant.1 in (
+    let later : NoneFrom (λ l. stands_in (name_at c.args.files.now) c.args.decls.now (take l c.args.scope.now)) c.args.lengths.now (i + 1) = rw same c.loop-left.invariant.1 in (
       omega (arith, c.partition_point-left.ensures.bound, length-take-le i c.args.lengths.now (omega (arith, within)), within),
-      further (λ l. stands_in (name_at c.args.files.now) c.args.last c.args.decls.now (take l c.args.scope.now)) c.args.lengths.now i c.partition_point-left.result c.in-Some.bound
+      further (λ l. stands_in (name_at c.args.files.now) c.args.decls.now (take l c.args.scope.now)) c.args.lengths.now i c.partition_point-left.result c.in-Some.bound
           c.requires.ascending within later none.0 shorter point,
     )

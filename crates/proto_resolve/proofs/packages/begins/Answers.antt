@@ -1,14 +1,14 @@
 use Rattle.std.proofs.Common.{◌∙◌, sym, ap, ◌&&◌, drop, length}
+use Rattle.file_facts.specs.Text.{joined}
 use Rattle.proto_resolve.specs.Files.{ends_component}
 use Rattle.proto_resolve.proofs.packages.begins.Goals as goal
 
-pub returns-then-not-starts_with : goal.returns-then-not-starts_with
-returns-then-not-starts_with c =
-    let fails = sym c.starts_with.ensures.value ∙ c.if-not-starts_with.true in
-    sym (ap (λ b. b && ends_component (drop (length c.args.name.now) c.args.full_name.now)) fails)
+pub returns-in-Some : goal.returns-in-Some
+returns-in-Some c =
+    let name = joined c.args.name.scope.now c.args.name.last.now in
+    c.ends_component.ensures ∙ ap ends_component c.in-Some.ensures.1 ∙ sym (ap (λ b. b && ends_component (drop (length name) c.args.full_name.now)) c.in-Some.ensures.0)
 
-pub returns : goal.returns
-returns c =
-    let starts = sym c.starts_with.ensures.value ∙ c.if-not-starts_with.false in
-    c.ends_component.ensures ∙ ap ends_component c.split_at.ensures.back
-    ∙ sym (ap (λ b. b && ends_component (drop (length c.args.name.now) c.args.full_name.now)) starts)
+pub returns-in-None : goal.returns-in-None
+returns-in-None c =
+    let name = joined c.args.name.scope.now c.args.name.last.now in
+    sym (ap (λ b. b && ends_component (drop (length name) c.args.full_name.now)) c.in-None.ensures)

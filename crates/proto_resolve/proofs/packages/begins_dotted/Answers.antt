@@ -1,12 +1,15 @@
-use Rattle.std.proofs.Common.{◌∙◌, sym, [], ◌∷◌}
-use Rattle.proto_resolve.specs.Files.{dot}
+use Rattle.std.proofs.Common.{◌∙◌, [], ◌∷◌}
+use Rattle.file_facts.specs.FullNames.{dot}
+use Rattle.file_facts.specs.Text.{joined}
 use Rattle.proto_resolve.proofs.Prefixes.{goes_on, fails_at_once}
 use Rattle.proto_resolve.proofs.packages.begins_dotted.Goals as goal
 
-pub returns-then-not-starts_with : goal.returns-then-not-starts_with
-returns-then-not-starts_with c = fails_at_once c.args.text.now c.args.name.now (dot ∷ []) (sym c.starts_with.ensures.value ∙ c.if-not-starts_with.true)
+pub returns-in-Some : goal.returns-in-Some
+returns-in-Some c =
+    let name = joined c.args.name.scope.now c.args.name.last.now in
+    c.begins_with_dot.ensures ∙ rw c.in-Some.ensures.1 (goes_on c.args.text.now name (dot ∷ []) c.in-Some.ensures.0)
 
-pub returns : goal.returns
-returns c =
-    let goes = goes_on c.args.text.now c.args.name.now (dot ∷ []) (sym c.starts_with.ensures.value ∙ c.if-not-starts_with.false) in
-    c.begins_with_dot.ensures ∙ rw c.split_at.ensures.back goes
+pub returns-in-None : goal.returns-in-None
+returns-in-None c =
+    let name = joined c.args.name.scope.now c.args.name.last.now in
+    fails_at_once c.args.text.now name (dot ∷ []) c.in-None.ensures

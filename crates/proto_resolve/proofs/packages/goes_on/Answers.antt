@@ -11,4 +11,4 @@ returns-then-at-package c = λ fails scope long. elim c.then-at-package.branch [
 
 pub returns : goal.returns
 returns c = λ fails scope long.
-    other_there c.args.«package».now scope c.args.component.now c.args.at long (omega (arith, c.if-at-eq0.false)) c.if-at-package.false (rw (to_end (c.args.at + 1) c.args.«package».now) at (sym c.begins-2.ensures ∙ fails))
+    other_there c.args.«package».now scope c.args.component.now c.args.at long (omega (arith, c.if-at-eq0.false)) c.if-at-package.false (rw (to_end (c.args.at + 1) c.args.«package».now) at (sym c.begins_with-2.ensures ∙ fails))

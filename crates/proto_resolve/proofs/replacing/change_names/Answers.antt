@@ -1,23 +1,25 @@
-use Rattle.std.proofs.Common.{filter}
+use Rattle.std.proofs.Common.{◌++◌}
 use Rattle.std.proofs.lemmas.Result.{on_ok_weaker}
-use Rattle.proto_resolve.specs.Tables.{name_entries, is_of_another, name_at}
+use Rattle.proto_resolve.specs.Tables.{by_name, name_entries, name_at}
 use Rattle.proto_resolve.proofs.Places.{names_total}
-use Rattle.proto_resolve.proofs.Replaced.{names_come, names_left}
+use Rattle.proto_resolve.proofs.InBuckets.{buckets_moved}
+use Rattle.proto_resolve.proofs.Replaced.{names_stay}
 use Rattle.proto_resolve.proofs.replacing.change_names.Goals as goal
+
+pub leave_out-requires : goal.leave_out-requires
+leave_out-requires c = let w = c.requires in (by_name (name_at w.old), names_total (name_at w.old), (w.stay, w.were))
 
 pub add-requires-clause-total : goal.add-requires-clause-total
 add-requires-clause-total c = names_total (name_at c.args.files.now)
 
 pub add-requires-clause-buckets : goal.add-requires-clause-buckets
 add-requires-clause-buckets c =
-    let w = c.requires.were in
-    (filter (λ k. is_of_another c.args.change.now.file k.decl) (name_entries w.old), names_left c.args.files.now c.args.change.now.file c.args.change.now.gone.items c.args.names.now.list.items c.leave_out.new.self.list.items w (rw c.as_slice.ensures.value at c.in_ok-leave_out.ensures))
+    let w = c.requires in
+    (w.stay, names_stay w.old c.args.files.now w.stay c.leave_out.new.self.list.items w.alike (c.leave_out.ensures (by_name (name_at w.old)) w.stay (names_total (name_at w.old)) w.were))
 
 pub returns : goal.returns
 returns c =
-    let w = c.requires.were in
-    let left = names_left c.args.files.now c.args.change.now.file c.args.change.now.gone.items c.args.names.now.list.items c.leave_out.new.self.list.items w (rw c.as_slice.ensures.value at c.in_ok-leave_out.ensures) in
+    let w = c.requires in
+    let left = names_stay w.old c.args.files.now w.stay c.leave_out.new.self.list.items w.alike (c.leave_out.ensures (by_name (name_at w.old)) w.stay (names_total (name_at w.old)) w.were) in
     on_ok_weaker c.add.result
-    (λ added. names_come c.args.files.now c.args.change.now.file c.args.change.now.gone.items c.args.change.now.come.items c.args.names.now.list.items c.add.new.self.list.items w c.requires.come
-    ((rw c.as_slice-2.ensures.value at added) (filter (λ k. is_of_another c.args.change.now.file k.decl) (name_entries w.old)) left))
-    c.add.ensures
+    (λ added. buckets_moved (by_name (name_at c.args.files.now)) (w.stay ++ c.args.come.now) (name_entries c.args.files.now) c.add.new.self.list.items w.now (added w.stay left)) c.add.ensures

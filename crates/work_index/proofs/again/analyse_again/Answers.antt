@@ -19,7 +19,7 @@ table_after-requires-clause-before c =
     let was = c.requires in
     let b = with_text (workspace_of c.args.pieces.now) c.args.changed was.text in
     let inside = c.earlier.inside in
-    let of = parts inside.table inside.paths inside.resolutions.links inside.resolutions.diagnostics b c.earlier.invariant.3 (c.earlier.view_is ∙ was.is) in
+    let of = parts inside.table inside.paths inside.resolutions.links.items inside.resolutions.diagnostics b c.earlier.invariant.3 (c.earlier.view_is ∙ was.is) in
     record { within = was.within; text = was.text; are = of.table_is }
 
 pub relink-requires-clause-before : goal.relink-requires-clause-before
@@ -29,7 +29,7 @@ relink-requires-clause-before c =
     let file = c.args.changed in
     let b = with_text w file was.text in
     let inside = c.earlier.inside in
-    let of = parts inside.table inside.paths inside.resolutions.links inside.resolutions.diagnostics b c.earlier.invariant.3 (c.earlier.view_is ∙ was.is) in
+    let of = parts inside.table inside.paths inside.resolutions.links.items inside.resolutions.diagnostics b c.earlier.invariant.3 (c.earlier.view_is ∙ was.is) in
     let before : c.facts.result.now ≡ facts_at (all_facts b) file = c.facts.ensures ∙ ap (λ files. facts_at files file) of.table_is in
     let before' : c.facts-2.result.now ≡ facts_at (all_facts b) file = c.facts-2.ensures ∙ ap (λ files. facts_at files file) of.table_is in
     let alike = c.same_imports-imports.result in
@@ -56,11 +56,11 @@ invariant_of-result c =
     let ts = c.args.pieces.now in
     let w = workspace_of ts in
     let inside = c.earlier.inside in
-    let of = parts inside.table inside.paths inside.resolutions.links inside.resolutions.diagnostics (with_text w c.args.changed was.text) c.earlier.invariant.3 (c.earlier.view_is ∙ was.is) in
+    let of = parts inside.table inside.paths inside.resolutions.links.items inside.resolutions.diagnostics (with_text w c.args.changed was.text) c.earlier.invariant.3 (c.earlier.view_is ∙ was.is) in
     let paths : inside.paths ≡ map (λ t. t.path) ts = of.paths_are ∙ paths_before w c.args.changed was.text was.within ∙ map-map (λ f. f.0) (λ t. (t.path, t.text)) ts in
     let all : c.in_ok-table.table ≡ all_facts w = c.in_ok-table.ensures.table in (
       paths_as_long ts inside.paths c.in_ok-table.table paths all,
-      as_long (resolution_of w) ts c.relink.new.resolutions.links c.in_ok-table.table c.in_ok-relink.ensures.links all,
+      as_long (resolution_of w) ts c.relink.new.resolutions.links.items c.in_ok-table.table c.in_ok-relink.ensures.links all,
       as_long (diagnostics_of w) ts c.relink.new.resolutions.diagnostics c.in_ok-table.table c.in_ok-relink.ensures.diagnostics all,
       paths_are ts inside.paths c.in_ok-table.table paths all,
     )
@@ -71,6 +71,6 @@ returns c =
     let ts = c.args.pieces.now in
     let w = workspace_of ts in
     let inside = c.earlier.inside in
-    let of = parts inside.table inside.paths inside.resolutions.links inside.resolutions.diagnostics (with_text w c.args.changed was.text) c.earlier.invariant.3 (c.earlier.view_is ∙ was.is) in
+    let of = parts inside.table inside.paths inside.resolutions.links.items inside.resolutions.diagnostics (with_text w c.args.changed was.text) c.earlier.invariant.3 (c.earlier.view_is ∙ was.is) in
     let paths : inside.paths ≡ map (λ t. t.path) ts = of.paths_are ∙ paths_before w c.args.changed was.text was.within ∙ map-map (λ f. f.0) (λ t. (t.path, t.text)) ts in
-    is_analysis ts c.in_ok-table.table inside.paths c.relink.new.resolutions.links c.relink.new.resolutions.diagnostics c.in_ok-table.ensures.table paths c.in_ok-relink.ensures.links c.in_ok-relink.ensures.diagnostics
+    is_analysis ts c.in_ok-table.table inside.paths c.relink.new.resolutions.links.items c.relink.new.resolutions.diagnostics c.in_ok-table.ensures.table paths c.in_ok-relink.ensures.links c.in_ok-relink.ensures.diagnostics

@@ -11,7 +11,7 @@ use Rattle.work_index.specs.Pieces.{workspace_of}
 use Rattle.work_index.specs.Workspace.{all_facts, asked_of, resolution_of, diagnostics_of}
 use Rattle.work_index.proofs.Changed.{kept_count, nothing, is_there, still_old, all_made, then_anew, then_kept, pieces_length, piece_at, facts_in_piece, before_length, links_stay, diagnostics_stay, links_moved, moved_diagnostics_stay}
 use Rattle.work_index.proofs.again.relink.Goals as goal
-use Rattle.work_index.proofs.again.relink.Goals.{in-Stay, in-Move+in_ok-set_renumbered-in-Move, in-Relink+in_ok-set_linked-in-Relink}
+use Rattle.work_index.proofs.again.relink.Goals.{in-Stay, in-Move, in-Relink+in_ok-set_linked-in-Relink}
 
 pub effect_on-requires-clause-as_many : goal.effect_on-requires-clause-as_many
 effect_on-requires-clause-as_many c =
@@ -25,7 +25,7 @@ set_renumbered-requires c =
     let b = with_text w c.args.change.now.file c.requires.before.text in
     let n = c.loop-file.file in
     let there : n < length w = omega (arith, pieces_length c.args.pieces.now, c.loop-file-test.true) in
-    is_there (resolution_of b) (resolution_of w) b w n (before_length w c.args.change.now.file c.requires.before.text) c.args.resolutions.now.links c.loop-file.resolutions.links c.requires.before.links_are c.loop-file.invariant.links there
+    is_there (resolution_of b) (resolution_of w) b w n (before_length w c.args.change.now.file c.requires.before.text) c.args.resolutions.now.links.items c.loop-file.resolutions.links.items c.requires.before.links_are c.loop-file.invariant.links there
 
 pub set_linked-requires-clause-links : goal.set_linked-requires-clause-links
 set_linked-requires-clause-links c =
@@ -33,7 +33,7 @@ set_linked-requires-clause-links c =
     let b = with_text w c.args.change.now.file c.requires.before.text in
     let n = c.loop-file.file in
     let there : n < length w = omega (arith, pieces_length c.args.pieces.now, c.loop-file-test.true) in
-    is_there (resolution_of b) (resolution_of w) b w n (before_length w c.args.change.now.file c.requires.before.text) c.args.resolutions.now.links c.loop-file.resolutions.links c.requires.before.links_are c.loop-file.invariant.links there
+    is_there (resolution_of b) (resolution_of w) b w n (before_length w c.args.change.now.file c.requires.before.text) c.args.resolutions.now.links.items c.loop-file.resolutions.links.items c.requires.before.links_are c.loop-file.invariant.links there
 
 pub set_linked-requires-clause-diagnostics : goal.set_linked-requires-clause-diagnostics
 set_linked-requires-clause-diagnostics c =
@@ -65,26 +65,26 @@ loop-file-preserved c =
     elim c.match-branch-2.branch [
       | in-Stay s ↦
           let stays : (n ≢ file) × SeesTheSame (all_facts b) (all_facts w) n = rw s.in-Stay.is at follows in record {
-            links = then_kept (resolution_of b) (resolution_of w) b w n long c.args.resolutions.now.links old.resolutions.links was.links_are old.invariant.links there after.links (ap (λ (r : Resolutions). r.links) s.resolutions-is) (links_stay w file was.text c.requires.seen_law n there stays.0 stays.1);
+            links = then_kept (resolution_of b) (resolution_of w) b w n long c.args.resolutions.now.links.items old.resolutions.links.items was.links_are old.invariant.links there after.links.items (ap (λ (r : Resolutions). r.links.items) s.resolutions-is) (links_stay w file was.text c.requires.seen_law n there stays.0 stays.1);
             diagnostics = then_kept (diagnostics_of b) (diagnostics_of w) b w n long c.args.resolutions.now.diagnostics old.resolutions.diagnostics was.diagnostics_are old.invariant.diagnostics there after.diagnostics (ap (λ (r : Resolutions). r.diagnostics) s.resolutions-is) (diagnostics_stay w file was.text c.requires.seen_law n there stays.0 stays.1);
           }
-      | in-Move+in_ok-set_renumbered-in-Move s ↦
+      | in-Move s ↦
           let by = s.in-Move.by in
           let moved : IsMoved (all_facts b) (all_facts w) change n asked by = rw s.in-Move.is at follows in
           let own : facts_at (all_facts w) n ≡ facts_of (let u = get_or w n nothing in u.1) = rw at (facts_in_piece ts n piece in_pieces c.index-pieces-file.is) in
           let has : has_all asked (asked_of (let u = get_or w n nothing in u.1)) ≡ true = rw at c.asked_in.ensures in
           let nowhere : Links = record { uses = []; diags = [] } in
-          let before = still_old (resolution_of b) (resolution_of w) b w n long c.args.resolutions.now.links old.resolutions.links was.links_are old.invariant.links there nowhere in record {
-            links = then_anew (resolution_of b) (resolution_of w) b w n long c.args.resolutions.now.links old.resolutions.links was.links_are old.invariant.links there after.links (links_after (decl_after by) (resolution_of b (n, get_or b n nothing)))
-                (ap (λ (r : Resolutions). r.links) s.resolutions-is ∙ s.in_ok-set_renumbered-in-Move.ensures.links nowhere ∙ ap (λ was. set old.resolutions.links n (links_after (decl_after by) was)) before)
+          let before = still_old (resolution_of b) (resolution_of w) b w n long c.args.resolutions.now.links.items old.resolutions.links.items was.links_are old.invariant.links there nowhere in record {
+            links = then_anew (resolution_of b) (resolution_of w) b w n long c.args.resolutions.now.links.items old.resolutions.links.items was.links_are old.invariant.links there after.links.items (links_after (decl_after by) (resolution_of b (n, get_or b n nothing)))
+                (ap (λ (r : Resolutions). r.links.items) s.resolutions-is ∙ s.set_renumbered.ensures.links nowhere ∙ ap (λ was. set old.resolutions.links.items n (links_after (decl_after by) was)) before)
                 (links_moved w file was.text c.requires.touched_law change refl was.differ n asked by moved own has);
             diagnostics = then_kept (diagnostics_of b) (diagnostics_of w) b w n long c.args.resolutions.now.diagnostics old.resolutions.diagnostics was.diagnostics_are old.invariant.diagnostics there after.diagnostics
-                (ap (λ (r : Resolutions). r.diagnostics) s.resolutions-is ∙ s.in_ok-set_renumbered-in-Move.ensures.diagnostics)
+                (ap (λ (r : Resolutions). r.diagnostics) s.resolutions-is ∙ s.set_renumbered.ensures.diagnostics)
                 (moved_diagnostics_stay w file was.text c.requires.touched_law change refl was.differ n asked by moved own has);
           }
       | in-Relink+in_ok-set_linked-in-Relink s ↦ record {
-        links = then_anew (resolution_of b) (resolution_of w) b w n long c.args.resolutions.now.links old.resolutions.links was.links_are old.invariant.links there after.links (resolution_of w (n, (piece.path, piece.text)))
-            (ap (λ (r : Resolutions). r.links) s.resolutions-is ∙ s.in_ok-set_linked-in-Relink.ensures.links w c.requires.table) (ap (λ u. resolution_of w (n, u)) (sym at));
+        links = then_anew (resolution_of b) (resolution_of w) b w n long c.args.resolutions.now.links.items old.resolutions.links.items was.links_are old.invariant.links there after.links.items (resolution_of w (n, (piece.path, piece.text)))
+            (ap (λ (r : Resolutions). r.links.items) s.resolutions-is ∙ s.in_ok-set_linked-in-Relink.ensures.links w c.requires.table) (ap (λ u. resolution_of w (n, u)) (sym at));
         diagnostics = then_anew (diagnostics_of b) (diagnostics_of w) b w n long c.args.resolutions.now.diagnostics old.resolutions.diagnostics was.diagnostics_are old.invariant.diagnostics there after.diagnostics (diagnostics_of w (n, (piece.path, piece.text)))
             (ap (λ (r : Resolutions). r.diagnostics) s.resolutions-is ∙ s.in_ok-set_linked-in-Relink.ensures.diagnostics w c.requires.table) (ap (λ u. diagnostics_of w (n, u)) (sym at));
       }
@@ -96,7 +96,7 @@ returns-clause-links c =
     let b = with_text w c.args.change.now.file c.requires.before.text in
     let n = c.loop-file.file in
     let end' : length w ≤ n = omega (arith, pieces_length c.args.pieces.now) in
-    all_made (resolution_of b) (resolution_of w) b w n (before_length w c.args.change.now.file c.requires.before.text) c.args.resolutions.now.links c.loop-file.resolutions.links c.requires.before.links_are c.loop-file.invariant.links end'
+    all_made (resolution_of b) (resolution_of w) b w n (before_length w c.args.change.now.file c.requires.before.text) c.args.resolutions.now.links.items c.loop-file.resolutions.links.items c.requires.before.links_are c.loop-file.invariant.links end'
 
 pub returns-clause-diagnostics : goal.returns-clause-diagnostics
 returns-clause-diagnostics c =

@@ -7,6 +7,6 @@ invariant-loop-answer l = record {
   parts : List LinkedShare;
   none_refused : l.yielded ≡ map Ok parts;
   pieces : l.pieces.items ≡ flat_map (λ part. part.pieces.items) parts;
-  links : l.links ≡ flat_map (λ part. part.resolutions.links) parts;
+  links : l.links.items ≡ flat_map (λ part. part.resolutions.links.items) parts;
   diagnostics : l.diagnostics ≡ flat_map (λ part. part.resolutions.diagnostics) parts;
 }

@@ -1,24 +1,44 @@
-use Rattle.std.proofs.Common.{◌≡◌, ◌∙◌, ◌++◌, ◌<◌, [], List, length, map, get_or, subst, arith}
-use Rattle.std.proofs.lemmas.List.{length-map}
+use Rattle.std.proofs.Common.{◌≡◌, ◌∙◌, ◌++◌, ◌%◌, ◌<◌, List, ap, filter, get_or, length, subst, sym, take, arith}
+use Rattle.std.proofs.lemmas.List.{length-set, take_all}
 use Rattle.proto_resolve.specs.declared.hashed.HashedDecl.{HashedDecl}
-use Rattle.proto_resolve.specs.Tables.{AreInOrder}
-use Rattle.proto_resolve.proofs.Leaving.{all_got, items_at, one_changed, Gets}
+use Rattle.proto_resolve.specs.declared.hashed.HashedDecls.{HashedDecls}
+use Rattle.proto_resolve.specs.Buckets.{is_in, AreInBuckets}
+use Rattle.proto_resolve.proofs.Leaving.{bucket_without, in_both, next_came, one_came}
 use Rattle.proto_resolve.proofs.buckets.Buckets.add.Goals as goal
 
-pub loop-number-preserved : goal.loop-number-preserved
-loop-number-preserved g c =
-    let lists : List (List HashedDecl) = map (λ list. list.items) c.deal.new.lists.items in
-    let within : c.loop-number.number < length c.args.self.now.list.items = omega arith in
-    let inside : c.loop-number.number < length c.deal.new.lists.items = omega (arith, within, c.in_ok-lists.ensures.len, simp length-map at c.in_ok-deal.ensures.as_many) in
-    let here : c.as_slice.result.now ≡ get_or lists c.loop-number.number [] =
-    c.as_slice.ensures.value ∙ items_at (λ list. list.items) c.deal.new.lists.items c.loop-number.number c.index.result.now inside c.index.ensures in
-    one_changed (Gets (g.O.EntryOrder.order c.args.files.now) lists) c.args.self.now.list.items c.loop-number.self.list.items c.loop-number.number c.loop-number.invariant
-    c.index_mut-bucket.result.now c.add_to.new.bucket within c.index_mut-bucket.ensures.value
-    (λ entries are. subst (λ es. AreInOrder (g.O.EntryOrder.order c.args.files.now) (entries ++ es) c.add_to.new.bucket) here (c.in_ok-add_to.ensures entries are))
+pub put_in-requires-clause-as_many : goal.put_in-requires-clause-as_many
+put_in-requires-clause-as_many g c =
+    let nothing : HashedDecl = record { hash = 0; decl = record { file = 0; number = 0 } } in
+    let buckets : List HashedDecls = c.loop-one.self.list.items in
+    let one : HashedDecl = get_or c.args.come.now c.loop-one.one-index nothing in
+    let many : c.len-count.result ≡ length buckets = omega arith in
+    let at : one.hash % length buckets ≡ c.bucket_of.result = sym (c.bucket_of.ensures.value ∙ ap (λ m. one.hash % m) many) in
+    let order = g.O.EntryOrder.order c.args.files.now in
+    let there : List HashedDecl = c.requires.buckets.0 ++ take c.loop-one.one-index c.args.come.now in
+    in_both order (filter (is_in (length buckets) c.bucket_of.result) there) c.index_mut.result.now
+    (bucket_without order there one buckets c.bucket_of.result at (omega arith) c.index_mut.result.now c.index_mut.result.now c.index_mut.ensures.value (c.loop-one.invariant.come c.requires.buckets.0 c.requires.buckets.1))
+
+pub loop-one-preserved : goal.loop-one-preserved
+loop-one-preserved g c =
+    let nothing : HashedDecl = record { hash = 0; decl = record { file = 0; number = 0 } } in
+    let buckets : List HashedDecls = c.loop-one.self.list.items in
+    let one : HashedDecl = get_or c.args.come.now c.loop-one.one-index nothing in
+    let many : c.len-count.result ≡ length buckets = omega arith in
+    let at : one.hash % length buckets ≡ c.bucket_of.result = sym (c.bucket_of.ensures.value ∙ ap (λ m. one.hash % m) many) in
+    let within : c.bucket_of.result < length buckets = omega arith in
+    let order = g.O.EntryOrder.order c.args.files.now in
+    record {
+      as_many = length-set buckets c.bucket_of.result c.put_in.new.bucket ∙ c.loop-one.invariant.as_many;
+      come = λ entries were.
+          let there : List HashedDecl = entries ++ take c.loop-one.one-index c.args.come.now in
+          let are : AreInBuckets order there buckets = c.loop-one.invariant.come entries were in
+          next_came order entries c.args.come.now _ c.loop-one.one-index nothing (omega arith)
+          (one_came order there one buckets c.bucket_of.result at within c.index_mut.result.now c.put_in.new.bucket c.index_mut.ensures.value are
+          (c.in_ok-put_in.ensures (filter (is_in (length buckets) c.bucket_of.result) there)
+          (bucket_without order there one buckets c.bucket_of.result at within c.index_mut.result.now c.put_in.new.bucket c.index_mut.ensures.value are)));
+    }
 
 pub returns : goal.returns
 returns g c = λ entries are.
-    let whole : c.loop-number.number ≡ length c.args.self.now.list.items = omega arith in
-    let as_many : length (map (λ list. list.items) c.in_ok-lists.lists.items) ≡ length c.args.self.now.list.items = rw length-map (omega (arith, c.in_ok-lists.ensures.len)) in
-    all_got c.args.self.now.list.items c.loop-number.self.list.items c.loop-number.number whole (map (λ list. list.items) c.in_ok-lists.lists.items) (map (λ list. list.items) c.deal.new.lists.items)
-    as_many c.in_ok-lists.ensures.each (g.O.EntryOrder.order c.args.files.now) entries are c.args.more.now c.in_ok-deal.ensures c.loop-number.invariant
+    subst (λ es. AreInBuckets (g.O.EntryOrder.order c.args.files.now) es c.loop-one.self.list.items) (ap (λ (es : List HashedDecl). entries ++ es) (take_all c.loop-one.one-index c.args.come.now (omega arith)))
+    (c.loop-one.invariant.come entries are)

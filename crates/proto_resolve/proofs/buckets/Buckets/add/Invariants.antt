@@ -1,7 +1,11 @@
-use Rattle.std.proofs.Common.{map}
-use Rattle.proto_resolve.proofs.Leaving.{AreChanged, Gets}
+use Rattle.std.proofs.Common.{◌≡◌, ◌++◌, List, take, length}
+use Rattle.proto_resolve.specs.declared.hashed.HashedDecl.{HashedDecl}
+use Rattle.proto_resolve.specs.Buckets.{AreInBuckets}
 use Rattle.proto_resolve.proofs.buckets.Buckets.add.Given as goal
 
--- the buckets so far have got theirs
-abbrev pub invariant-loop-number : goal.invariant-loop-number
-invariant-loop-number g l = AreChanged (Gets (g.O.EntryOrder.order l.files) (map (λ list. list.items) l.lists.items)) l.fn.self.list.items l.self.list.items l.number
+-- those so far are added
+abbrev pub invariant-loop-one : goal.invariant-loop-one
+invariant-loop-one g l = record {
+  as_many : length l.self.list.items ≡ length l.fn.self.list.items;
+  come : (entries : List HashedDecl) → AreInBuckets (g.O.EntryOrder.order l.files) entries l.fn.self.list.items → AreInBuckets (g.O.EntryOrder.order l.files) (entries ++ take l.one-index l.come) l.self.list.items;
+}

@@ -1,7 +1,17 @@
-use Rattle.std.proofs.Common.{map}
-use Rattle.proto_resolve.proofs.Leaving.{AreChanged, Loses}
+use Rattle.std.proofs.Common.{◌≡◌, ◌≤◌, ◌++◌, List, length, take}
+use Rattle.std.specs.Cmp.{IsTotalOrder}
+use Rattle.std.specs.declared.cmp.Ordering.{Ordering}
+use Rattle.proto_resolve.specs.declared.hashed.HashedDecl.{HashedDecl}
+use Rattle.proto_resolve.specs.Buckets.{AreInBuckets}
 use Rattle.proto_resolve.proofs.buckets.Buckets.leave_out.Given as goal
 
--- the buckets so far have lost theirs
-abbrev pub invariant-loop-number : goal.invariant-loop-number
-invariant-loop-number l = AreChanged (Loses l.file (map (λ list. list.items) l.lists.items)) l.fn.self.list.items l.self.list.items l.number
+abbrev pub decreases-loop-left : goal.decreases-loop-left
+decreases-loop-left l = l.left
+
+-- those from here on are left out
+abbrev pub invariant-loop-left : goal.invariant-loop-left
+invariant-loop-left l = record {
+  as_many : length l.self.list.items ≡ length l.fn.self.list.items;
+  within : l.left ≤ length l.gone;
+  out : (order : HashedDecl → HashedDecl → Ordering) (entries : List HashedDecl) → IsTotalOrder order → AreInBuckets order (entries ++ l.gone) l.fn.self.list.items → AreInBuckets order (entries ++ take l.left l.gone) l.self.list.items;
+}

@@ -1,25 +1,20 @@
-use Rattle.std.proofs.Common.{◌∙◌, ap, filter, bytes_eq}
-use Rattle.std.proofs.Math.Nat.{mod-lt}
-use Rattle.proto_resolve.specs.declared.hashed.HashedDecls.{HashedDecls}
-use Rattle.proto_resolve.specs.Hashed.{hash_of}
-use Rattle.proto_resolve.specs.Tables.{name_at}
-use Rattle.proto_resolve.proofs.InBuckets.{bucket_by_hash, bucket_named}
+use Rattle.std.proofs.Common.{◌∙◌, ap}
+use Rattle.proto_resolve.specs.Files.{all_named}
+use Rattle.proto_resolve.proofs.Apart.{are_apart, hashed_parts, whole}
 use Rattle.proto_resolve.proofs.name_table.NameTable.decls_named.Goals as goal
 
-pub of_text-bucket-requires : goal.of_text-bucket-requires
-of_text-bucket-requires c = let are = c.self.invariant.names_are in are.some
+pub decls_of_parts-requires-clause-apart : goal.decls_of_parts-requires-clause-apart
+decls_of_parts-requires-clause-apart c =
+    let p = c.split_name-name.result in
+    are_apart c.as_bytes.result.now p.scope.now p.last.now c.split_name-name.ensures.scope c.split_name-name.ensures.last
 
-pub with_text-requires : goal.with_text-requires
-with_text-requires c =
-    let are = c.self.invariant.names_are in
-    let bucket : HashedDecls = c.of_text-bucket.result.now in
-    rw (c.as_slice.ensures.value, c.of_text-bucket.ensures bucket, c.as_bytes.ensures.value)
-    (bucket_by_hash c.self.inside.files.items c.self.inside.names.list.items are c.args.full_name.now bucket (mod-lt (hash_of c.args.full_name.now) are.some))
+pub decls_of_parts-requires-clause-hash : goal.decls_of_parts-requires-clause-hash
+decls_of_parts-requires-clause-hash c =
+    let p = c.split_name-name.result in
+    c.hash.ensures ∙ hashed_parts p.scope.now p.last.now (are_apart c.as_bytes.result.now p.scope.now p.last.now c.split_name-name.ensures.scope c.split_name-name.ensures.last)
 
 pub returns : goal.returns
 returns c =
-    let are = c.self.invariant.names_are in
-    let bucket : HashedDecls = c.of_text-bucket.result.now in
-    rw (← c.self.view_is) ((rw (c.as_slice.ensures.value, c.as_bytes-2.ensures.value) at c.with_text.ensures)
-    ∙ ap (λ (b : HashedDecls). filter (λ r. bytes_eq (name_at c.self.inside.files.items r) c.args.full_name.now) b.decls.items) (rw c.as_bytes.ensures.value at (c.of_text-bucket.ensures bucket))
-    ∙ bucket_named c.self.inside.files.items c.self.inside.names.list.items are c.args.full_name.now bucket (mod-lt (hash_of c.args.full_name.now) are.some))
+    let p = c.split_name-name.result in
+    c.decls_of_parts.ensures
+    ∙ ap (all_named c.args.self.now) (whole c.as_bytes.result.now p.scope.now p.last.now c.split_name-name.ensures.scope c.split_name-name.ensures.last ∙ c.as_bytes.ensures.value)

@@ -1,3 +1,4 @@
+use Rattle.file_facts.specs.Text.{joined}
 use Rattle.proto_resolve.proofs.Packaged.{those_with}
 use Rattle.proto_resolve.proofs.table.TableIndex.packaged.Goals as goal
 
@@ -10,5 +11,5 @@ of_package-requires-clause-longest c = rw c.as_slice.ensures.value c.self.invari
 pub returns : goal.returns
 returns c =
     rw (← c.self.view_is)
-    (those_with c.args.full_name.now c.self.inside.names c.self.inside.base.packaged.items c.of_package.result.now c.self.invariant.packaged
+    (those_with (joined c.args.full_name.scope.now c.args.full_name.last.now) c.self.inside.names c.self.inside.base.packaged.items c.of_package.result.now c.self.invariant.packaged
     (rw c.as_slice.ensures.value at c.of_package.ensures))
