@@ -302,14 +302,14 @@ class Read(unittest.TestCase):
     def test_functions(self):
         functions = rattle_source.Source("src/a/b.rt", self.TEXT).functions
         self.assertEqual(
-            [(it.path, it.is_plain, it.is_private) for it in functions],
+            [(it.path, it.is_plain, it.is_named, it.is_private) for it in functions],
             [
-                ("a::b::inner::PairShow::show", True, False),
-                ("a::b::inner::Pair::of", False, False),
-                ("a::b::inner::go", False, False),
-                ("a::b::answers", False, False),
-                ("a::b::shown", True, False),
-                ("a::b::hidden", True, True),
+                ("a::b::inner::PairShow::show", True, False, False),
+                ("a::b::inner::Pair::of", False, False, False),
+                ("a::b::inner::go", False, False, False),
+                ("a::b::answers", False, False, False),
+                ("a::b::shown", True, True, False),
+                ("a::b::hidden", True, True, True),
             ],
         )
 
@@ -325,16 +325,41 @@ class Read(unittest.TestCase):
         self.assertIsNone(source.function_with([b"ensures { result"]))
         self.assertIsNone(source.function_with([b"let there_is_none = 1;"]))
 
-    def test_words_outside(self):
-        words = rattle_source.Source("src/a/b.rt", self.TEXT).words_outside()
-        self.assertIn("hidden", words)
-        self.assertEqual(words.count("inner"), 1)
-        self.assertIn("2", words)
-        self.assertNotIn("1", words)
+    def test_words_beside(self):
+        words = rattle_source.Source("src/a/b.rt", self.TEXT).words_beside()
+        for seen in ("show", "of", "2", "go", "answers"):
+            self.assertIn(seen, words)
+        for unseen in ("1", "shown", "hidden"):
+            self.assertNotIn(unseen, words)
 
-    def test_words_for_others(self):
-        words = rattle_source.Source("src/a/b.rt", self.TEXT).words_for_others()
-        self.assertIn("shown", words)
-        self.assertIn("answers", words)
-        self.assertNotIn("hidden", words)
-        self.assertEqual(words.count("inner"), 1)
+    def test_imports(self):
+        source = rattle_source.Source(
+            "src/lib.rt",
+            "ghost use Rattle.std.specs.Prelude.{◌≡◌, List};\nghost use Rattle.a.specs.Said as said;\nuse a::{b::{c, d as e}, self};\n#[allow(x)]\npub use f::g;\npub mod h;\n"
+            "pub fn seen() -> e\n    ensures { result ≡ said.x }\n{\n    c()\n}\npub const TWO: e = 2;\n",
+        )
+        self.assertEqual([it.cores for it in source.imports], [["≡"], ["List"], ["said"], ["c"], ["e"], ["a"]])
+        promised = dict((it.name, words) for it, words in source.promises())["seen"]
+        self.assertIn("Rattle.std.specs.Prelude", promised)
+        self.assertIn("Rattle.a.specs.Said", promised)
+        self.assertNotIn("List", promised)
+        self.assertEqual([it.words for it in source.exports], [["f", ":", ":", "g"]])
+        self.assertEqual(source.words_beside(), ["pub", "const", "TWO", ":", "e", "=", "2", ";", *"a :: b :: d as e".replace("::", ": :").split()])
+
+    def test_types(self):
+        source = rattle_source.Source(
+            "src/lib.rt",
+            "use a::Inner;\n#[derive(Drop)]\nstruct Hidden {\n    of: Inner,\n}\npub struct Seen(u8);\npub(crate) enum Kind { One }\nstruct Unit;\npub fn last() { }\n",
+        )
+        self.assertEqual(sorted(source.types), ["Hidden", "Kind", "Unit"])
+        self.assertEqual(source.hidden_types()["Hidden"], ["#", "[", "derive", "(", "Drop", ")", "]", "struct", "Hidden", "{", "of", ":", "Inner", ",", "}", "a", ":", ":", "Inner"])
+        self.assertEqual(source.types["Kind"][:4], ["pub", "(", "crate", ")"])
+        self.assertEqual(source.words_beside(), ["pub", "struct", "Seen", "(", "u8", ")", ";"])
+
+    def test_what_is_named(self):
+        known = {"A": [("src/lib.rt", ["struct", "A", "B"])], "B": [("src/lib.rt", ["struct", "B"])], "C": [("src/lib.rt", ["struct", "C", "A"])]}
+        self.assertEqual([name for name, _ in wrong_bodies.Surface.named({"A"}, known)], ["A", "B"])
+
+    def test_promises(self):
+        promises = rattle_source.Source("src/a/b.rt", self.TEXT).promises()
+        self.assertEqual([(it.name, words) for it, words in promises], [("shown", ["pub", "fn", "shown", "(", ")"]), ("hidden", ["pub", "(", "crate", ")", "fn", "hidden", "(", ")"])])

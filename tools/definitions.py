@@ -21,7 +21,7 @@ FACTS = "Text FullNames Numbers Tree Members Decls Messages Diags Order Checks F
 # The best order to read the files of a crate in, if it isn't that of its specs/Lib.antt. A file that isn't named comes last.
 ORDER = {
     "lsp_frame": "Header Grammar Stream StreamLaws Counts Devices FrameReader Reading Writing Fault".split(),
-    "proto_lex": "Bytes Numbers NumberForms Forms Trivia Kinds Tokens Laws Characters".split(),
+    "proto_lex": "Bytes Numbers NumberForms Forms Trivia Kinds Tokens Rest Laws Characters".split(),
     "proto_syntax": TREE,
     "syntax_tree": TREE,
     "proto_facts": FACTS,

@@ -20,12 +20,13 @@ class Function:
     """A function with a body that isn't inside another function's.
 
     `path` is its path as the checker prints it, `start` the byte where it begins, `first` and `last` its lines, `body` the bytes from brace to
-    brace. `is_plain` is false where others see its body: a const function, a trait's default, one that returns an `impl`. `is_private` says that
-    no other crate sees the function at all.
+    brace. `is_plain` is false where others see its body: a const function, a trait's default, one that returns an `impl`. `is_named` says that it is
+    plain and of no trait, so that only what writes its name can call it. `is_private` says that no other crate sees it at all.
     """
 
-    def __init__(self, path, name, start, lines, body, is_plain, is_private):
-        self.path, self.name, self.start, self.body, self.is_plain, self.is_private = path, name, start, body, is_plain, is_private
+    def __init__(self, path, name, start, lines, body, is_plain, is_named, is_private):
+        self.path, self.name, self.start, self.body = path, name, start, body
+        self.is_plain, self.is_named, self.is_private = is_plain, is_named, is_private
         self.first, self.last = lines
 
     def holders(self):
@@ -119,6 +120,35 @@ def homes_of(texts):
     return {name: modules for name, modules in found if sum(name == other for other, _ in found) == 1}
 
 
+class Import:
+    """A name that a `use` item brings: the words of its whole path, and the word or the operator's words by which it is called."""
+
+    def __init__(self, words):
+        self.words = words
+        name = next(it for it in reversed(words) if it not in ("self", ":"))
+        # (a definition's path is one word, with dots; `◌` stands for what an operator takes)
+        self.cores = [it for it in name.rpartition(".")[2].split("◌") if it]
+
+    def may_be_in(self, text, words):
+        """Whether a text may name it, of which these are the words."""
+        return "*" in self.words or any(it in words or not re.fullmatch(r"\w+", it) and it in text for it in self.cores)
+
+
+def imports_of(words):
+    """What the words of a `use` item between `use` and `;` bring."""
+    found, above, path = [], [], []
+    for word in [*words, ","]:
+        if word == "{":
+            above, path = [*above, path], []
+        elif word in (",", "}"):
+            if path:
+                found.append(Import([*(it for some in above for it in some), *path]))
+            above, path = above[:-1] if word == "}" else above, []
+        else:
+            path.append(word)
+    return found
+
+
 class Reader:
     """Finds the functions of a file, in one pass over its code. `homes` has the modules of the crate's types, by their names."""
 
@@ -199,11 +229,37 @@ class Reader:
             # (a method is printed where its type is declared, which may be another file)
             path = "::".join([*self.modules, *above, name] if home is None or len(above) > 1 else [*home, *above, name])
             is_public = "pub" in head and head[head.index("pub") + 1] != "("
-            is_private = is_plain and not is_public and not any(self.of_traits)
+            is_named = is_plain and not any(self.of_traits)
             lines, body = (self.code[self.above_attributes(begin)][0], self.code[close][0]), (self.code[end][1], self.code[close][2])
-            self.functions.append(Function(path, name, self.code[begin][1], lines, body, is_plain, is_private))
+            self.functions.append(Function(path, name, self.code[begin][1], lines, body, is_plain, is_named, is_named and not is_public))
             end = close
         self.at, self.pending = end + 1, []
+
+
+def begin_of_item(words):
+    """Where an item begins behind these words: with its attributes, or with `pub(crate)`."""
+    begin = len(words) - 4 if words[-4:] == ["pub", "(", "crate", ")"] else len(words)
+    while words[begin - 1 : begin] == ["]"]:
+        depth, at = 1, begin - 1
+        while at and depth:
+            at -= 1
+            depth += (words[at] == "]") - (words[at] == "[")
+        if words[at - 1 : at] != ["#"]:
+            break
+        begin = at - 1
+    return begin
+
+
+def end_of_item(tokens, at):
+    """The place behind a type's `;`, or behind the brace that closes it."""
+    depth = 0
+    for place in range(at, len(tokens)):
+        kind, text = tokens[place]
+        if kind == "Code":
+            depth += (text in ("{", "(", "[")) - (text in ("}", ")", "]"))
+            if depth == 0 and text in (";", "}"):
+                return place + 1
+    return len(tokens)
 
 
 class Source:
@@ -214,6 +270,7 @@ class Source:
         tokens = tokens_of(self.data)
         self.functions = Reader(path, tokens, homes).read() if tokens is not None else None
         self.tokens = tokens
+        self.rest, self.types, self.imports, self.exports = self.beside()
 
     def with_text(self, text):
         """The same file with another text."""
@@ -248,17 +305,59 @@ class Source:
         """Its tokens as text, so that comments and layout don't count; where it can't be read, its bytes."""
         return [token[4] for token in self.tokens] if self.tokens is not None else [self.data.decode(errors="replace")]
 
-    def words_in(self, function):
-        """The tokens of a function's body."""
-        first, last = function.body
-        return [text for _, start, _, _, text in self.tokens if first <= start < last]
+    def words_within(self, start, end):
+        return [text for _, first, _, _, text in self.tokens if start <= first < end]
 
-    def words_outside(self):
-        """Its tokens without the bodies that no caller sees: what else of the file a proof of one of its functions rests on."""
+    def words_of(self, function, more):
+        """The tokens of a function, with its clauses and its body, and these words, with the imports that all of them may name."""
+        return self.with_imports([*self.words_within(function.start, function.body[1]), *more])
+
+    def beside(self):
+        """Its tokens without the functions that are called by their names alone, without the bodies that no caller sees, without the types that no
+        other crate can name, without what it only imports or hands on, and without the modules that it names; the tokens of each of those types by
+        its name; the imports; and what it hands on by `pub use`."""
         if self.functions is None:
-            return self.words()
-        hidden = [it.body for it in self.functions if it.is_plain]
-        return [text for _, start, _, _, text in self.tokens if not any(first <= start < last for first, last in hidden)]
+            return self.words(), {}, [], []
+        hidden = [(it.start if it.is_named else it.body[0], it.body[1]) for it in self.functions if it.is_plain]
+        tokens = [(kind, text) for _, start, _, kind, text in self.tokens if not any(first <= start < last for first, last in hidden)]
+        words, types, imports, exports, at = [], {}, [], [], 0
+        while at < len(tokens):
+            kind, text = tokens[at]
+            if text == "use" and kind in ("Code", "Head"):
+                end = next(it for it in range(at, len(tokens)) if tokens[it][1] == ";")
+                is_export = words[-1:] in (["pub"], [")"])
+                words = words[: begin_of_item(words[:-1] if words[-1:] in (["pub"], ["ghost"]) else words)]
+                (exports if is_export else imports).extend(imports_of([it for _, it in tokens[at + 1 : end]]))
+                at = end + 1
+            elif kind == "Code" and text == "mod" and tokens[at + 2 : at + 3] == [("Code", ";")]:
+                words = words[: begin_of_item(words[:-1] if words[-1:] == ["pub"] else words)]
+                at += 3
+            elif kind == "Code" and text in ("struct", "enum", "union") and words[-1:] != ["pub"]:
+                begin, end = begin_of_item(words), end_of_item(tokens, at)
+                types[tokens[at + 1][1]] = [*words[begin:], *(it for _, it in tokens[at:end])]
+                words, at = words[:begin], end
+            else:
+                words.append(text)
+                at += 1
+        return words, types, imports, exports
+
+    def with_imports(self, words):
+        """These words of the file with the paths of the imports that they may name."""
+        text = " ".join(words)
+        named = {*re.findall(r"\w+", text)}
+        return [*words, *(word for it in self.imports if it.may_be_in(text, named) for word in it.words)]
+
+    def words_beside(self):
+        """Its tokens without those functions, bodies and types, and of its imports those that the rest may name."""
+        return self.with_imports(self.rest)
+
+    def hidden_types(self):
+        """Those types, each with the imports that it may name."""
+        return {name: self.with_imports(words) for name, words in self.types.items()}
+
+    def promises(self):
+        """Those functions, with the tokens of each up to its body, which no caller sees, and the imports that these may name."""
+        return [(it, self.with_imports(self.words_within(it.start, it.body[0]))) for it in self.functions or [] if it.is_named]
 
     def function_with(self, texts):
         """The function in whose body all these texts stand, each once in the file and where no caller sees it; None where there is none."""
@@ -267,10 +366,3 @@ class Source:
             return None
         inside = [it for it in self.functions if it.is_plain and all(it.body[0] < at and at + size < it.body[1] for at, size in places)]
         return inside[0] if inside else None
-
-    def words_for_others(self):
-        """The same as far as other crates see it: without private functions, and without bodies."""
-        if self.functions is None:
-            return self.words()
-        hidden = [(it.start if it.is_private else it.body[0], it.body[1]) for it in self.functions if it.is_plain]
-        return [text for _, start, _, _, text in self.tokens if not any(first <= start < last for first, last in hidden)]

@@ -12,10 +12,10 @@ file. Its verdict is
   UNPROVED     the crate itself isn't proved, so nothing was tried
 
 What is refused is kept in crates/NAME/wrong-bodies/verdicts.json, under a sum of all that it rests on: the edit, the edited function with its own
-proof files, the crate's definitions, lemmas and sources but for the bodies of other functions, what the crate sees of those below it (the definitions
-that it cites, the sources without bodies and private functions) and the kit's logic. An edit of anything but one body rests on the whole crate.
-Comments, layout and an edit's description don't count. What is current isn't tried again; --anew tries all. --must-fail takes the edits of must-fail/
-in the same way, and keeps their verdicts in the crate's out/. --alone tries each edit in a check of its own. --gate, right after an `rt ci` that
+proof files, what each function promises whose name stands in one of these, the crate's definitions and lemmas and all else of its sources but for
+functions, the same of the crates below it (of definitions those that it cites) and the kit's logic. Bodies of other functions don't count, but for
+those that a caller sees. An edit of anything but one body rests on the whole crate. Comments, layout and an edit's description don't count. What is
+current isn't tried again; --anew tries all. --must-fail takes the edits of must-fail/ in the same way, and keeps their verdicts in the crate's out/. --alone tries each edit in a check of its own. --gate, right after an `rt ci` that
 passed, takes the libraries as that has built them, whose statements alone are read, and also fails where verdicts.json names an edit that isn't there.
 
 The status is 0 if each edit is refused, else 1. The last line is `N refused, M not; ..`.
@@ -46,7 +46,7 @@ import time
 from concurrent.futures import ThreadPoolExecutor
 
 import kit
-from rattle_source import Source, homes_of
+from rattle_source import WORD, Source, homes_of
 
 REFUSED, PASSED, BAD, UNPROVED = "REFUSED", "NOT REFUSED", "BAD EDIT", "UNPROVED"
 FOLDER, RECORD = "wrong-bodies", "verdicts.json"
@@ -55,7 +55,7 @@ FLAGS = ["--jobs", "1"]
 # The most edits in one check: more would take longer to sort out where one of them can't be read.
 MOST = 24
 # A change here makes every recorded verdict old.
-FORM = "2"
+FORM = "3"
 
 LOCATED = re.compile(r"(note: )?(?:\./)?((?:src|specs|proofs)/\S+?):(\d+):\d+: (.*)")
 STATUS = re.compile(r"(fn|struct|enum|union|impl|trait|const|static) (\S+): (.*)")
@@ -131,17 +131,51 @@ def cited_definitions(crate):
     return sorted((str(file), text) for file, text in found.items())
 
 
+class Surface:
+    """What functions see of a crate: all of its sources but for functions that are called by their names alone, for types that no other crate can
+    name and for what it hands on, and what each of these is."""
+
+    def __init__(self, sources, is_own):
+        beside = [(path, words) for path, source in sources.items() if (words := source.words_beside())]
+        self.types, self.promises = {}, {}
+        self.exports = [it for source in sources.values() for it in source.exports]
+        for path, source in sources.items():
+            for name, words in source.hidden_types().items():
+                self.types.setdefault(name, []).append((path, words))
+            for function, words in source.promises():
+                if is_own or not function.is_private:
+                    self.promises.setdefault(function.name, []).append((path, words))
+        self.beside = sum_of(beside, self.named({it for _, words in beside for it in words}, self.types))
+
+    @staticmethod
+    def named(names, known):
+        """What is known under these names, and under the names that stand in it, and so on."""
+        found, left = {}, {*names}
+        while left:
+            name = left.pop()
+            if name in known and name not in found:
+                found[name] = known[name]
+                left |= {it for _, words in known[name] for it in words}
+        return sorted(found.items())
+
+    def promised(self, names):
+        """What the functions promise that have these names, the types that these or their promises name, and what is handed on under these names."""
+        promises = sorted((name, self.promises[name]) for name in names & self.promises.keys())
+        types = self.named(names | {it for _, some in promises for _, words in some for it in words}, self.types)
+        return promises, types, sorted(it.words for it in self.exports if "*" in it.words or names & {*it.cores})
+
+
 class Surfaces:
-    """What other crates see of a crate's sources, worked out once for each."""
+    """What other crates see of a crate, worked out once for each."""
 
     def __init__(self):
-        self.sums, self.lock = {}, threading.Lock()
+        self.known, self.lock = {}, threading.Lock()
 
     def of(self, crate):
         with self.lock:
-            if crate.name not in self.sums:
-                self.sums[crate.name] = sum_of([(path, Source(path, text).words_for_others()) for path, text in sources_of(crate).items()])
-            return self.sums[crate.name]
+            if crate.name not in self.known:
+                self.known[crate.name] = Surface({path: Source(path, text) for path, text in sources_of(crate).items()}, False)
+            return self.known[crate.name]
 
 
 # -- edits
@@ -341,6 +375,7 @@ class Trial:
         self.checks, self.log, self.verdicts, self.keys, self.writing, self.turn = 0, [], {}, {}, threading.Lock(), threading.Lock()
         homes = homes_of(sources_of(crate))
         self.sources = {path: Source(path, text, homes) for path, text in sources_of(crate).items()}
+        self.own = Surface(self.sources, True)
         self.definitions = definitions_of(crate)
 
     def record(self):
@@ -359,20 +394,26 @@ class Trial:
 
     def key(self):
         """What the verdict of each edit of the crate rests on."""
-        below = [(it.name, self.surfaces.of(it)) for it in self.crate.below()]
+        below = [(it.name, self.surfaces.of(it).beside) for it in self.crate.below()]
         cited = [(os.path.relpath(file, kit.ROOT if self.given.root is None else self.given.root), text) for file, text in cited_definitions(self.crate)]
-        outside = [(path, source.words_outside()) for path, source in self.sources.items()]
         rest = [(path, text) for path, text in self.definitions.items() if not path.endswith(OWN_PROOFS)]
-        return sum_of(FORM, kit.logic(), sorted(self.crate.of_kit), outside, rest, cited, below)
+        return sum_of(FORM, kit.logic(), sorted(self.crate.of_kit), self.own.beside, rest, cited, below)
 
     def own_key(self, edit):
-        """What else that of this one rests on: the edited function, or all functions where it isn't one alone."""
-        found = edited_function(edit, self.sources)
+        """What else that of this one rests on: the edited function, or all functions where it isn't one alone, and what those promise that it names."""
+        found, change = edited_function(edit, self.sources), edit_text(edit.file)
         if found is None:
-            return sum_of([(path, source.words()) for path, source in self.sources.items()], self.definitions, edit_text(edit.file))
+            words = [(path, source.words()) for path, source in self.sources.items()]
+            return sum_of(words, self.definitions, change, self.promised([*change, *(it for _, some in words for it in some)]))
         source, function = found
+        words = source.words_of(function, change)
         proofs = [(path, text) for path, text in self.definitions.items() if path.endswith(OWN_PROOFS) and function.owns_file(path)]
-        return sum_of(source.words_in(function), proofs, edit_text(edit.file))
+        return sum_of(words, proofs, self.promised(words))
+
+    def promised(self, words):
+        """What the functions promise, here and in the crates below, whose names are among these words or in them."""
+        names = {*WORD.findall(" ".join(words))}
+        return [("", self.own.promised(names)), *((it.name, self.surfaces.of(it).promised(names)) for it in self.crate.below())]
 
     def check(self, group, texts):
         """Checks the edited functions of a group, and those that they call."""

@@ -1,69 +1,17 @@
 // What is said of whole workspaces.
-ghost use Rattle.std.specs.Prelude.{◌≡◌, ◌<◌, length, false, IfOk};
 ghost use Rattle.piece_collector.specs.Board.{Ascends};
 
+use crate::line::put;
+use crate::pieces::{path_of, pieces_at, pieces_in, text_of};
 use crate::places::write_diagnostics;
 use crate::shares::note_differences;
-use case_notation::{Answer, Trouble, file_of};
-use piece_collector::{Board, Job, Lent, Piece};
+use case_notation::Answer;
+use piece_collector::Piece;
 use proto_resolve::DeclRef;
 use std::alloc::{AllocError, Global};
 use std::sync::Wait;
 use std::thread::Threads;
 use work_index::{Analysis, FileWork, analyse_here};
-
-// The piece that is made of a text at a path.
-fn made(alloc: Global, path: String, stamp: u64, text: String) -> Answer<Piece<FileWork>> {
-    match Piece::make(&FileWork::new(alloc), Job::new(path, stamp, text)) {
-        Ok(piece) => Ok(piece),
-        Err(_) => Err(Trouble::Memory),
-    }
-}
-
-// Sets a text, and answers its stamp.
-fn set(board: &mut Board<FileWork>, path: &str, text: &str, alloc: Global) -> Answer<u64>
-    requires { board.old.is_lent ≡ false }
-    ensures { board.new.is_lent ≡ false }
-{
-    let path = String::from_str(alloc, path)?;
-    match board.set_text(path, String::from_str(alloc, text)?) {
-        Ok(stamp) => Ok(stamp),
-        Err(fault) => Err(Trouble::Fault(fault.code())),
-    }
-}
-
-/// Sets a text, and brings the piece that is made of it.
-pub fn put(alloc: Global, board: &mut Board<FileWork>, file: &str) -> Answer<()>
-    requires { board.old.is_lent ≡ false }
-    ensures { board.new.is_lent ≡ false }
-{
-    let (path, text) = file_of(alloc, file)?;
-    let stamp = set(board, path.as_str(), text.as_str(), alloc)?;
-    board.offer(made(alloc, path, stamp, text)?);
-    Ok(())
-}
-
-/// A board of files.
-pub fn board_of(alloc: Global, files: &[&str]) -> Answer<Board<FileWork>>
-    ensures { IfOk result (λ board. board.is_lent ≡ false) }
-{
-    let mut board = Board::new(alloc, FileWork::new(alloc));
-    for file in files {
-        put(alloc, &mut board, file)?;
-    }
-    Ok(board)
-}
-
-/// The pieces of a board, in the order of their paths.
-pub fn pieces_of(board: &mut Board<FileWork>) -> Answer<Lent<FileWork>>
-    requires { board.old.is_lent ≡ false }
-    ensures { IfOk result (λ lent. Ascends lent) }
-{
-    if !board.is_complete() {
-        return Err(Trouble::Unknown("not complete"));
-    }
-    Ok(board.lend_all()?)
-}
 
 /// The diagnostics of all files, asked for by path: each file's path, then its diagnostics.
 pub fn write_by_path(
@@ -72,9 +20,9 @@ pub fn write_by_path(
     pieces: &[Piece<FileWork>],
 ) -> Result<(), AllocError> {
     for (path, piece) in found.files().iter().zip(pieces.iter()) {
-        line.push_str(path.as_str())?;
-        write_diagnostics(line, piece.text(), found.diagnostics_at(path.as_str()))?;
-        line.push(';')?;
+        put(line, path.as_str())?;
+        write_diagnostics(line, text_of(piece), found.diagnostics_at(path.as_str()))?;
+        put(line, ";")?;
     }
     Ok(())
 }
@@ -86,9 +34,9 @@ pub fn write_by_number(
     pieces: &[Piece<FileWork>],
 ) -> Result<(), AllocError> {
     for (diagnostics, piece) in found.all_diagnostics().iter().zip(pieces.iter()) {
-        line.push_str(piece.path())?;
-        write_diagnostics(line, piece.text(), diagnostics.as_slice())?;
-        line.push(';')?;
+        put(line, path_of(piece))?;
+        write_diagnostics(line, text_of(piece), diagnostics.as_slice())?;
+        put(line, ";")?;
     }
     Ok(())
 }
@@ -96,11 +44,17 @@ pub fn write_by_number(
 /// Writes declarations, each a space, the number of its file, and its own.
 pub fn write_decls(line: &mut String, decls: &[DeclRef]) -> Result<(), AllocError> {
     for decl in decls {
-        let file = decl.file;
-        let number = decl.number;
-        write!(line, " {file}.{number}")?;
+        put(line, " ")?;
+        write_decl(line, *decl)?;
     }
     Ok(())
+}
+
+/// Writes a declaration, by the number of its file and its own.
+pub fn write_decl(line: &mut String, decl: DeclRef) -> Result<(), AllocError> {
+    let file = decl.file;
+    let number = decl.number;
+    write!(line, "{file}.{number}")
 }
 
 // How many declarations, uses and diagnostics a file has.
@@ -177,14 +131,6 @@ fn write_answers(line: &mut String, found: &Analysis, fields: &[&str]) -> Answer
     Ok(())
 }
 
-/// The pieces of files.
-pub fn pieces_at(alloc: Global, files: &[&str]) -> Answer<Lent<FileWork>>
-    ensures { IfOk result (λ lent. Ascends lent) }
-{
-    let mut board = board_of(alloc, files)?;
-    pieces_of(&mut board)
-}
-
 /// Writes all that is wrong in some files, and the answers to questions, which are fields with `? ` at the front; and where an
 /// analysis by threads says another thing.
 pub fn answer<R: Threads + Wait>(
@@ -194,9 +140,22 @@ pub fn answer<R: Threads + Wait>(
     fields: &[&str],
 ) -> Answer<()> {
     let files = files_in(alloc, fields)?;
-    let pieces = pieces_at(alloc, files.as_slice())?;
-    let found = analyse_here(alloc, pieces.pieces())?;
-    write_said(alloc, line, &found, pieces.pieces())?;
-    write_answers(line, &found, fields)?;
+    let lent = pieces_at(alloc, files.as_slice())?;
+    let found = write_analysis(alloc, line, pieces_in(&lent), fields)?;
     note_differences(rt, alloc, line, files.as_slice(), &found)
+}
+
+// Writes what an analysis says, and answers it.
+fn write_analysis(
+    alloc: Global,
+    line: &mut String,
+    pieces: &[Piece<FileWork>],
+    fields: &[&str],
+) -> Answer<Analysis>
+    requires { Ascends pieces.now }
+{
+    let found = analyse_here(alloc, pieces)?;
+    write_said(alloc, line, &found, pieces)?;
+    write_answers(line, &found, fields)?;
+    Ok(found)
 }

@@ -1,8 +1,9 @@
 // Boards of texts and pieces: events in, verdicts out.
 ghost use Rattle.std.specs.Prelude.{◌≡◌, false};
 
+use crate::line::put;
 use case_notation::{Answer, Trouble, field, file_of, first_word, number, plain, push_shown};
-use piece_collector::{Board, BoardEvent, Job, Lent, Piece, Verdict, Work, run_events};
+use piece_collector::{Board, BoardEvent, BoardFault, Job, Lent, Piece, Verdict, Work, run_events};
 use std::alloc::{AllocError, Global};
 
 /// Work whose product is the text's length.
@@ -49,7 +50,7 @@ pub fn answer(alloc: Global, line: &mut String, call: &str, fields: &[&str]) -> 
 // The job that comes back where its work finds no memory.
 fn refuse(line: &mut String, job: Job) -> Result<(), AllocError> {
     match Piece::make(&Refused, job) {
-        Ok(_) => line.push_str("made"),
+        Ok(_) => put(line, "made"),
         Err(job) => write_job(line, &job),
     }
 }
@@ -75,18 +76,20 @@ fn made(job: Job) -> Answer<Piece<Length>> {
 }
 
 fn write_job(line: &mut String, job: &Job) -> Result<(), AllocError> {
-    let path = job.path();
-    let stamp = job.stamp();
+    write_text(line, job.path(), job.stamp(), job.text())
+}
+
+fn write_text(line: &mut String, path: &str, stamp: u64, text: &str) -> Result<(), AllocError> {
     write!(line, "{path} {stamp} ")?;
-    push_shown(line, job.text())
+    push_shown(line, text)
 }
 
 fn write_piece(line: &mut String, piece: &Piece<Length>) -> Result<(), AllocError> {
-    let path = piece.path();
-    let stamp = piece.stamp();
-    write!(line, "{path} {stamp} ")?;
-    push_shown(line, piece.text())?;
-    let out = *piece.out();
+    write_text(line, piece.path(), piece.stamp(), piece.text())?;
+    write_out(line, *piece.out())
+}
+
+fn write_out(line: &mut String, out: usize) -> Result<(), AllocError> {
     write!(line, " {out}")
 }
 
@@ -151,13 +154,22 @@ fn write_run(
 {
     match run_events(board, events) {
         Ok(verdicts) => write_verdicts(line, verdicts.as_slice())?,
-        Err(fault) => {
-            let code = fault.code();
-            write!(line, "fault {code} ")?;
-        }
+        Err(fault) => write_fault(line, fault)?,
     }
-    let complete = board.is_complete();
+    write_complete(line, board.is_complete())
+}
+
+fn write_fault(line: &mut String, fault: BoardFault) -> Result<(), AllocError> {
+    let code = fault.code();
+    write!(line, "fault {code} ")
+}
+
+fn write_complete(line: &mut String, complete: bool) -> Result<(), AllocError> {
     write!(line, "complete {complete}")
+}
+
+fn write_verdict(line: &mut String, verdict: Verdict) -> Result<(), AllocError> {
+    write!(line, "{verdict:?}")
 }
 
 fn write_verdicts(line: &mut String, verdicts: &[Verdict]) -> Result<(), AllocError> {
@@ -179,7 +191,7 @@ fn write_steps(
     let mut is_behind = false;
     for call in fields {
         if is_behind {
-            line.push_str("; ")?;
+            put(line, "; ")?;
             step(alloc, line, board, call)?;
         } else {
             is_behind = *call == "then";
@@ -196,10 +208,7 @@ fn step(alloc: Global, line: &mut String, board: &mut Board<Length>, call: &str)
     let (word, rest) = first_word(call);
     match word {
         "set" => Ok(set(alloc, line, board, rest)?),
-        "remove" => {
-            let known = board.remove(rest);
-            Ok(write!(line, "{known}")?)
-        }
+        "remove" => Ok(write_known(line, board.remove(rest))?),
         "next" => Ok(next(line, board)?),
         "work" => work(line, board),
         "offer" => offer(line, board, piece(alloc, rest)?),
@@ -212,8 +221,7 @@ fn offer(line: &mut String, board: &mut Board<Length>, piece: Piece<Length>) -> 
     requires { board.old.is_lent ≡ false }
     ensures { board.new.is_lent ≡ false }
 {
-    let verdict = board.offer(piece);
-    Ok(write!(line, "{verdict:?}")?)
+    Ok(write_verdict(line, board.offer(piece))?)
 }
 
 fn fail(line: &mut String, board: &mut Board<Length>, words: &str) -> Answer<()>
@@ -221,8 +229,12 @@ fn fail(line: &mut String, board: &mut Board<Length>, words: &str) -> Answer<()>
     ensures { board.new.is_lent ≡ false }
 {
     let (path, stamp) = first_word(words);
-    let verdict = board.fail(path, number(stamp)?);
-    Ok(write!(line, "{verdict:?}")?)
+    let stamp = number(stamp)?;
+    Ok(write_verdict(line, board.fail(path, stamp))?)
+}
+
+fn write_known(line: &mut String, known: bool) -> Result<(), AllocError> {
+    write!(line, "{known}")
 }
 
 fn set(
@@ -235,7 +247,11 @@ fn set(
     ensures { board.new.is_lent ≡ false }
 {
     let (path, text) = file_of(alloc, file)?;
-    match board.set_text(path, text) {
+    write_stamp(line, board.set_text(path, text))
+}
+
+fn write_stamp(line: &mut String, stamp: Result<u64, BoardFault>) -> Result<(), AllocError> {
+    match stamp {
         Ok(stamp) => write!(line, "{stamp}"),
         Err(fault) => {
             let code = fault.code();
@@ -250,7 +266,7 @@ fn next(line: &mut String, board: &mut Board<Length>) -> Result<(), AllocError>
 {
     match board.next_job()? {
         Some(job) => write_job(line, &job),
-        None => line.push_str("none"),
+        None => put(line, "none"),
     }
 }
 
@@ -278,18 +294,25 @@ fn lend(line: &mut String, board: &mut Board<Length>) -> Answer<()>
     let while_lent = board.is_lent();
     board.take_back(Lent::of(lent.into_pieces()));
     written?;
-    let behind = board.is_lent();
-    let complete = board.is_complete();
-    Ok(write!(
+    Ok(write_lent(line, while_lent, board.is_lent(), board.is_complete())?)
+}
+
+fn write_lent(
+    line: &mut String,
+    while_lent: bool,
+    behind: bool,
+    complete: bool,
+) -> Result<(), AllocError> {
+    write!(
         line,
         "lent {while_lent}, then {behind}, complete {complete}"
-    )?)
+    )
 }
 
 fn write_pieces(line: &mut String, pieces: &[Piece<Length>]) -> Result<(), AllocError> {
     for piece in pieces {
         write_piece(line, piece)?;
-        line.push_str(", ")?;
+        put(line, ", ")?;
     }
     Ok(())
 }

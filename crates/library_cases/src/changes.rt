@@ -4,19 +4,12 @@ ghost use Rattle.piece_collector.specs.Board.{Ascends};
 ghost use Rattle.work_index.specs.Changes.{with_text};
 ghost use Rattle.work_index.specs.Pieces.{workspace_of};
 
-use crate::analyses::{board_of, pieces_at, pieces_of, put, write_by_number};
+use crate::analyses::write_by_number;
+use crate::pieces::{is_alike, number_of, pieces_after, pieces_at, pieces_in};
 use case_notation::{Answer, Trouble, first_word};
-use piece_collector::{Lent, Piece};
+use piece_collector::Piece;
 use std::alloc::{AllocError, Global};
 use work_index::{Analysis, FileWork, analyse_again, analyse_here};
-
-// Whether two pieces have one path, and one text too unless that may differ.
-fn is_alike(before: &Piece<FileWork>, after: &Piece<FileWork>, may_differ: bool) -> bool
-    ensures path { IsTrue result → before.now.path ≡ after.now.path }
-    ensures text { IsTrue result → may_differ ≡ false → before.now.text ≡ after.now.text }
-{
-    before.path() == after.path() && (may_differ || before.text() == after.text())
-}
 
 // Whether some pieces are those before a change of one file's text, given its number.
 fn differ_at(before: &[Piece<FileWork>], after: &[Piece<FileWork>], number: usize) -> bool
@@ -50,25 +43,6 @@ fn analysed_again(
     Ok(Some(analyse_again(alloc, earlier, number, after)?))
 }
 
-// The number of the file at a path.
-fn number_of(pieces: &[Piece<FileWork>], path: &str) -> Answer<usize> {
-    for (number, piece) in pieces.iter().enumerate() {
-        if piece.path() == path {
-            return Ok(number);
-        }
-    }
-    Err(Trouble::Unknown("no such file"))
-}
-
-// The pieces of files after a change of one of them.
-fn pieces_after(alloc: Global, files: &[&str], change: &str) -> Answer<Lent<FileWork>>
-    ensures { IfOk result (λ lent. Ascends lent) }
-{
-    let mut board = board_of(alloc, files)?;
-    put(alloc, &mut board, change)?;
-    pieces_of(&mut board)
-}
-
 // Writes what is wrong in files after a change.
 fn write_after(
     alloc: Global,
@@ -87,11 +61,10 @@ fn write_after(
 
 fn write_changed(alloc: Global, line: &mut String, files: &[&str], change: &str) -> Answer<()> {
     let before = pieces_at(alloc, files)?;
-    let after = pieces_after(alloc, files, change)?;
+    let after = pieces_after(alloc, files, &[change])?;
     let (path, _) = first_word(change);
-    let number = number_of(before.pieces(), path)?;
-    write_after(alloc, line, before.pieces(), after.pieces(), number)?;
-    Ok(())
+    let number = number_of(pieces_in(&before), path)?;
+    Ok(write_after(alloc, line, pieces_in(&before), pieces_in(&after), number)?)
 }
 
 /// Writes the answer to a call on files, the last of which changes one of the others and has `> ` at the front.

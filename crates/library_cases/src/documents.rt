@@ -1,4 +1,5 @@
 // Positions, offsets and edits of a text.
+use crate::line::put;
 use case_notation::{Answer, Trouble, field, first_word, number, plain, push_shown};
 use doc_text::{Change, Encoding, Position, Range, Text, positions_of};
 use std::alloc::{AllocError, Global};
@@ -53,10 +54,15 @@ fn write_all(line: &mut String, positions: &[Position]) -> Result<(), AllocError
     Ok(())
 }
 
+fn offset(word: &str) -> Answer<usize> {
+    let offset = number(word)?;
+    Ok(offset as usize)
+}
+
 fn offsets_of(alloc: Global, asked: &[&str]) -> Answer<Vec<usize>> {
     let mut offsets = Vec::new(alloc);
     for word in asked {
-        offsets.push(number(word)? as usize)?;
+        offsets.push(offset(word)?)?;
     }
     Ok(offsets)
 }
@@ -97,7 +103,7 @@ fn write_others(
     if others == positions {
         return Ok(());
     }
-    line.push_str("; ")?;
+    put(line, "; ")?;
     write_all(line, others)
 }
 
@@ -125,16 +131,25 @@ fn write_positions(
 
 // An edit: `all` and the new text, or the range's two positions and the new text.
 fn edit(alloc: Global, words: &str) -> Answer<Change> {
-    if let Some(text) = words.strip_prefix("all ") {
-        let text = plain(alloc, text)?;
-        return Ok(Change { range: None, text });
+    match words.strip_prefix("all ") {
+        Some(text) => edit_of(alloc, None, text),
+        None => {
+            let (range, text) = range(words)?;
+            edit_of(alloc, Some(range), text)
+        }
     }
+}
+
+fn edit_of(alloc: Global, range: Option<Range>, text: &str) -> Answer<Change> {
+    let text = plain(alloc, text)?;
+    Ok(Change { range, text })
+}
+
+// A range by its two positions, and what stands behind them.
+fn range(words: &str) -> Answer<(Range, &str)> {
     let (start, rest) = position(words)?;
-    let (end, text) = position(rest)?;
-    Ok(Change {
-        range: Some(Range { start, end }),
-        text: plain(alloc, text)?,
-    })
+    let (end, rest) = position(rest)?;
+    Ok((Range { start, end }, rest))
 }
 
 // The whole text after each edit.
@@ -149,7 +164,7 @@ fn write_edits(
     for words in asked {
         text.apply(edit(alloc, words)?, encoding)?;
         push_shown(line, text.as_str())?;
-        line.push_str(" :: ")?;
+        put(line, " :: ")?;
     }
     Ok(())
 }

@@ -1,7 +1,8 @@
 // Facts of texts, and lists of diagnostics.
+use crate::line::put;
 use crate::texts::tree_of;
 use case_notation::{Answer, Trouble, field, first_word, plain};
-use file_facts::{FullName, ScopeName, hash_of};
+use file_facts::{Decl, FullName, ImportFact, PackageFact, ScopeName, hash_of};
 use proto_facts::{Diag, FileFacts, Name, Problem, facts, in_order, joined, text_at};
 use proto_syntax::Span;
 use std::alloc::{AllocError, Global};
@@ -16,7 +17,7 @@ pub fn answer(alloc: Global, line: &mut String, call: &str, fields: &[&str]) -> 
             Ok(write!(line, "<{part}>")?)
         }
         "copied name" => Ok(write_copied_name(alloc, line, field(fields, 0))?),
-        "full name" => write_full_name(alloc, line, field(fields, 0)),
+        "full name" => Ok(write_full_name(alloc, line, field(fields, 0))?),
         _ => Ok(write_found(line, call, &facts_in(alloc, field(fields, 0))?)?),
     }
 }
@@ -36,24 +37,48 @@ pub fn facts_in(alloc: Global, field: &str) -> Result<FileFacts, AllocError> {
 
 fn write_copied_name(alloc: Global, line: &mut String, field: &str) -> Result<(), AllocError> {
     let name = Name::of(plain(alloc, field)?);
-    line.push_str(name.copy(alloc)?.as_str())
+    put(line, name.copy(alloc)?.as_str())
 }
 
 // The two parts of a full name, the name that these make up, and whether that is the same, with the hash of its text.
-fn write_full_name(alloc: Global, line: &mut String, field: &str) -> Answer<()> {
+fn write_full_name(alloc: Global, line: &mut String, field: &str) -> Result<(), AllocError> {
     let name = FullName::of(alloc, plain(alloc, field)?.as_str())?;
-    let (scope, last) = (name.scope(), name.last());
-    let again = FullName::in_scope(alloc, &ScopeName::of(alloc, scope)?, last)?;
-    let text = again.to_text(alloc)?;
-    let is_same = again.equals(&name) && hash_of(text.as_str().as_bytes()) == name.hash();
-    write!(line, "<{scope}> <{last}> {text} {is_same}")?;
-    Ok(())
+    let again = again(alloc, &name)?;
+    write_parts(line, &name)?;
+    write_again(
+        line,
+        &name,
+        again.to_text(alloc)?.as_str(),
+        again.equals(&name),
+    )
+}
+
+// The name that the two parts of a full name make up.
+fn again(alloc: Global, name: &FullName) -> Result<FullName, AllocError> {
+    let scope = ScopeName::of(alloc, name.scope())?;
+    FullName::in_scope(alloc, &scope, name.last())
+}
+
+fn write_parts(line: &mut String, name: &FullName) -> Result<(), AllocError> {
+    let scope = name.scope();
+    let last = name.last();
+    write!(line, "<{scope}> <{last}> ")
+}
+
+fn write_again(
+    line: &mut String,
+    name: &FullName,
+    text: &str,
+    is_equal: bool,
+) -> Result<(), AllocError> {
+    let is_same = is_equal && hash_of(text.as_bytes()) == name.hash();
+    write!(line, "{text} {is_same}")
 }
 
 fn write_joined(alloc: Global, line: &mut String, fields: &[&str]) -> Answer<()> {
     let name = part(field(fields, 1), field(fields, 2))?;
     let full_name = joined(alloc, field(fields, 0), name)?;
-    line.push_str(full_name.as_str())?;
+    put(line, full_name.as_str())?;
     Ok(())
 }
 
@@ -76,39 +101,55 @@ fn write_problems(line: &mut String, found: &FileFacts) -> Result<(), AllocError
     Ok(())
 }
 
+fn write_span(line: &mut String, span: Span) -> Result<(), AllocError> {
+    let start = span.start;
+    let end = span.end;
+    write!(line, " {start}-{end}")
+}
+
 fn write_package(line: &mut String, found: &FileFacts) -> Result<(), AllocError> {
-    if let Some(package) = &found.package {
-        let full_name = package.full_name.as_str();
-        write!(line, "; package {full_name}")?;
-        for component in package.components.as_slice() {
-            let start = component.start;
-            let end = component.end;
-            write!(line, " {start}-{end}")?;
-        }
+    match &found.package {
+        Some(package) => write_package_name(line, package),
+        None => Ok(()),
+    }
+}
+
+fn write_package_name(line: &mut String, package: &PackageFact) -> Result<(), AllocError> {
+    let full_name = package.full_name.as_str();
+    write!(line, "; package {full_name}")?;
+    for component in package.components.as_slice() {
+        write_span(line, *component)?;
     }
     Ok(())
+}
+
+fn write_import(line: &mut String, import: &ImportFact) -> Result<(), AllocError> {
+    let path = import.path.as_str();
+    write!(line, "; import {path}")?;
+    write_span(line, import.span)?;
+    let is_public = import.is_public;
+    write!(line, " {is_public}")
 }
 
 fn write_imports(line: &mut String, found: &FileFacts) -> Result<(), AllocError> {
     for import in found.imports.as_slice() {
-        let path = import.path.as_str();
-        let start = import.span.start;
-        let end = import.span.end;
-        let is_public = import.is_public;
-        write!(line, "; import {path} {start}-{end} {is_public}")?;
+        write_import(line, import)?;
     }
     Ok(())
 }
 
+fn write_decl(line: &mut String, decl: &Decl) -> Result<(), AllocError> {
+    let kind = decl.kind;
+    write!(line, "; {kind:?} ")?;
+    decl.full_name.write_to(line)?;
+    write_span(line, decl.name_span)?;
+    let parent = decl.parent;
+    write!(line, " {parent:?}")
+}
+
 fn write_decls(line: &mut String, found: &FileFacts) -> Result<(), AllocError> {
     for decl in found.decls.as_slice() {
-        let kind = decl.kind;
-        let name = decl.full_name.to_text(found.alloc)?;
-        let full_name = name.as_str();
-        let start = decl.name_span.start;
-        let end = decl.name_span.end;
-        let parent = decl.parent;
-        write!(line, "; {kind:?} {full_name} {start}-{end} {parent:?}")?;
+        write_decl(line, decl)?;
     }
     Ok(())
 }
@@ -121,6 +162,11 @@ pub fn write_facts(line: &mut String, found: &FileFacts) -> Result<(), AllocErro
     write_decls(line, found)
 }
 
+// The words of a message.
+fn words_of(message: Problem) -> &'static str {
+    message.text()
+}
+
 // The message with these words.
 fn message(words: &str) -> Answer<Problem> {
     for message in [
@@ -130,7 +176,7 @@ fn message(words: &str) -> Answer<Problem> {
         Problem::MalformedNumber,
         Problem::NotProto3,
     ] {
-        if message.text() == words {
+        if words_of(message) == words {
             return Ok(message);
         }
     }

@@ -3,6 +3,7 @@ ghost use Rattle.std.specs.Prelude.{◌≡◌, ◌<◌, length};
 ghost use Rattle.import_graph.specs.Imports.{graph_of, edges_at};
 
 use crate::fact_lists::{facts_in, facts_of};
+use crate::line::put;
 use case_notation::{Answer, field, file_of, first_word};
 use import_graph::{FileNo, Graph, NamedFacts, SharedFacts, are_in_path_order, same_outlook};
 use proto_facts::Name;
@@ -52,14 +53,14 @@ fn change(alloc: Global, files: &mut Vec<NamedFacts>, fields: &[&str]) -> Result
     for field in fields {
         if let Some(change) = field.strip_prefix("> ") {
             let (path, text) = first_word(change);
-            put(files, path, SharedFacts::of(alloc, facts_in(alloc, text)?)?);
+            replace(files, path, SharedFacts::of(alloc, facts_in(alloc, text)?)?);
         }
     }
     Ok(())
 }
 
 // Puts other facts at a path.
-fn put(files: &mut Vec<NamedFacts>, path: &str, facts: SharedFacts) {
+fn replace(files: &mut Vec<NamedFacts>, path: &str, facts: SharedFacts) {
     for file in files.iter_mut() {
         if file.path.as_str() == path {
             file.facts = facts;
@@ -78,12 +79,30 @@ fn show_import(
     requires file { file < length graph.now }
     requires import { import < length (edges_at graph.now file) }
 {
-    match graph.import_of(file, import) {
+    let closes_cycle = graph.closes_cycle(file, import)?;
+    write_import(line, graph.import_of(file, import), closes_cycle)
+}
+
+fn write_import(
+    line: &mut String,
+    target: Option<FileNo>,
+    closes_cycle: bool,
+) -> Result<(), AllocError> {
+    match target {
         Some(target) => write!(line, " {target}")?,
-        None => write!(line, " -")?,
+        None => put(line, " -")?,
     }
-    if graph.closes_cycle(file, import)? {
-        line.push('!')?;
+    put(line, if closes_cycle { "!" } else { "" })
+}
+
+fn write_number(line: &mut String, file: FileNo) -> Result<(), AllocError> {
+    write!(line, "{file}:")
+}
+
+// Files, each behind some mark.
+fn write_files(line: &mut String, mark: &str, files: &[FileNo]) -> Result<(), AllocError> {
+    for file in files {
+        write!(line, "{mark}{file}")?;
     }
     Ok(())
 }
@@ -98,7 +117,7 @@ fn show_file(
     requires graph { graph.now ≡ graph_of files.now }
     requires file { file < length files.now }
 {
-    write!(line, "{file}:")?;
+    write_number(line, file)?;
     for import in 0..files[file].facts.get().imports.as_slice().len() {
         show_import(line, graph, file, import)?;
     }
@@ -111,21 +130,23 @@ fn write_view(line: &mut String, graph: &Graph, file: FileNo) -> Result<(), Allo
 {
     let closed = graph.is_closed(file)?;
     let view = graph.visible(file)?;
-    for seen in view.as_slice() {
-        write!(line, " +{seen}")?;
+    write_files(line, " +", view.as_slice())?;
+    put(line, end_of(closed, graph.are_complete(view.as_slice())))
+}
+
+// What stands behind a view, given whether it is closed by the file and by what it sees.
+fn end_of(closed: bool, complete: bool) -> &'static str {
+    match (closed, complete) {
+        (true, true) => ".; ",
+        (false, false) => "; ",
+        _ => " differ; ",
     }
-    let end = match (closed, graph.are_complete(view.as_slice())) {
-        (true, true) => ".",
-        (false, false) => "",
-        _ => " differ",
-    };
-    write!(line, "{end}; ")
 }
 
 // The graph of files.
 fn write_graph(alloc: Global, line: &mut String, files: &[NamedFacts]) -> Result<(), AllocError> {
     if !are_in_path_order(files) {
-        return line.push_str("not in order");
+        return put(line, "not in order");
     }
     let graph = Graph::of(alloc, files)?;
     for number in 0..files.len() {
@@ -139,17 +160,15 @@ fn show_seers(line: &mut String, graph: &Graph, file: FileNo) -> Result<(), Allo
     requires { file < length graph.now }
 {
     let seers = graph.seen_by(file)?;
-    write!(line, "{file}:")?;
-    for seer in seers.as_slice() {
-        write!(line, " {seer}")?;
-    }
-    line.push_str("; ")
+    write_number(line, file)?;
+    write_files(line, " ", seers.as_slice())?;
+    put(line, "; ")
 }
 
 // For each of the files those that see it.
 fn write_seers(alloc: Global, line: &mut String, files: &[NamedFacts]) -> Result<(), AllocError> {
     if !are_in_path_order(files) {
-        return line.push_str("not in order");
+        return put(line, "not in order");
     }
     let graph = Graph::of(alloc, files)?;
     for file in 0..files.len() {
@@ -162,14 +181,18 @@ fn write_seers(alloc: Global, line: &mut String, files: &[NamedFacts]) -> Result
 fn ring_file(alloc: Global, number: u32, count: u32) -> Result<NamedFacts, AllocError> {
     let next = number.wrapping_add(1) % count.max(1);
     let second = number.wrapping_add(2) % count.max(1);
-    let text = format!(in alloc;
+    let text = ring_text(alloc, next, second)?;
+    named_facts(alloc, ring_path(alloc, number)?, text.as_str())
+}
+
+fn ring_text(alloc: Global, next: u32, second: u32) -> Result<String, AllocError> {
+    format!(in alloc;
         "syntax = \"proto3\";\nimport \"{next:0>5}.proto\";\nimport \"{second:0>5}.proto\";\n"
-    )?;
-    named_facts(
-        alloc,
-        format!(in alloc; "{number:0>5}.proto")?,
-        text.as_str(),
     )
+}
+
+fn ring_path(alloc: Global, number: u32) -> Result<String, AllocError> {
+    format!(in alloc; "{number:0>5}.proto")
 }
 
 fn ring(alloc: Global, count: u32) -> Result<Vec<NamedFacts>, AllocError> {
@@ -197,7 +220,7 @@ fn closing_imports(graph: &Graph, files: &[NamedFacts], file: FileNo) -> Result<
 // How many imports of files close cycles.
 fn write_closing(alloc: Global, line: &mut String, files: &[NamedFacts]) -> Result<(), AllocError> {
     if !are_in_path_order(files) {
-        return line.push_str("not in order");
+        return put(line, "not in order");
     }
     let graph = Graph::of(alloc, files)?;
     let mut closing: u32 = 0;

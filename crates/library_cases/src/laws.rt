@@ -1,4 +1,5 @@
 // The laws of the libraries are calls that do nothing.
+use crate::line::put;
 use analysis_laws::{names_in_order, uses_in_order, uses_of_names};
 use case_notation::Answer;
 use facts_laws::{
@@ -21,7 +22,7 @@ pub fn answer(alloc: Global, line: &mut String) -> Answer<()> {
     laws_of_statements();
     laws_of_texts();
     laws_of_files(none.as_slice());
-    line.push_str("laws")?;
+    put(line, "laws")?;
     Ok(())
 }
 

@@ -1,8 +1,12 @@
 // What names mean, in lists of files.
-ghost use Rattle.std.specs.Prelude.{◌≡◌, ◌<◌, length, IfOk};
+ghost use Rattle.std.specs.Prelude.{◌≡◌, ◌<◌, length, IfOk, IsTrue};
+ghost use Rattle.proto_resolve.specs.Outlines.{import_outline};
+ghost use Rattle.proto_resolve.specs.Seen.{exports};
 
+use crate::analyses::write_decl;
 use crate::fact_lists::facts_in;
 use crate::graphs::{files_of, named_facts};
+use crate::line::put;
 use crate::places::{write_diagnostics, write_place};
 use crate::texts::tree_of;
 use case_notation::{Answer, Trouble, field, first_word, plain};
@@ -25,19 +29,23 @@ pub fn answer(alloc: Global, line: &mut String, call: &str, fields: &[&str]) -> 
 
 // A use with the number of its name and its target.
 fn write_use(line: &mut String, text: &str, name_use: &NameUse) -> Result<(), AllocError> {
-    line.push(' ')?;
+    put(line, " ")?;
     write_place(line, text, name_use.span.start, name_use.span.end)?;
-    let number = name_use.name;
-    match &name_use.target {
+    write_number(line, name_use.name)?;
+    write_target(line, &name_use.target)
+}
+
+fn write_number(line: &mut String, number: usize) -> Result<(), AllocError> {
+    write!(line, "#{number}>")
+}
+
+fn write_target(line: &mut String, target: &Target) -> Result<(), AllocError> {
+    match target {
         Target::Package(name) => {
-            let name = name.as_str();
-            write!(line, "#{number}>package {name}")
+            put(line, "package ")?;
+            put(line, name.as_str())
         }
-        Target::Declared(decl) => {
-            let file = decl.file;
-            let at = decl.number;
-            write!(line, "#{number}>{file}.{at}")
-        }
+        Target::Declared(decl) => write_decl(line, *decl),
     }
 }
 
@@ -47,7 +55,7 @@ pub fn write_links(line: &mut String, text: &str, links: &Links) -> Result<(), A
         write_use(line, text, name_use)?;
     }
     write_diagnostics(line, text, links.diags.as_slice())?;
-    line.push(';')
+    put(line, ";")
 }
 
 // What the names of a text mean, that of a file of a table.
@@ -84,7 +92,7 @@ fn write_table(
 fn write_all_links(alloc: Global, line: &mut String, fields: &[&str]) -> Result<(), AllocError> {
     let files = files_of(alloc, fields)?;
     if !are_in_path_order(files.as_slice()) {
-        return line.push_str("not in order");
+        return put(line, "not in order");
     }
     write_table(alloc, line, &Table::of(alloc, files)?, fields)
 }
@@ -183,14 +191,36 @@ fn write_graphs(line: &mut String, before: &Graph, after: &Graph) -> Result<(), 
     )
 }
 
+// Whether facts say the same to the other files and of imports.
+fn are_alike(facts: &FileFacts, other: &FileFacts) -> bool
+    ensures exports { IsTrue result → exports facts.now ≡ exports other.now }
+    ensures imports { IsTrue result → import_outline facts.now ≡ import_outline other.now }
+{
+    same_exports(facts, other) && same_imports(facts, other)
+}
+
+// Sets the facts of the only file, where these say the same to the other files and of imports, and answers whether they do.
+fn set(table: &mut Table, facts: SharedFacts) -> bool
+    requires { length table.old ≡ 1 }
+{
+    let is_alike = are_alike(facts.get(), table.facts(0));
+    if is_alike {
+        table.set_facts(0, facts);
+    }
+    is_alike
+}
+
+fn write_was_set(line: &mut String, table: &Table, fields: &[&str]) -> Result<(), AllocError> {
+    put(line, "set")?;
+    write_replacement(line, table, fields)
+}
+
 // The same, where the second text says the same to the other files and of imports: its facts are set.
 fn write_set(alloc: Global, line: &mut String, fields: &[&str]) -> Answer<()> {
+    let other = SharedFacts::of(alloc, facts_in(alloc, field(fields, 1))?)?;
     let mut table = alone(alloc, field(fields, 0))?;
-    let other = facts_in(alloc, field(fields, 1))?;
-    if !same_exports(&other, table.facts(0)) || !same_imports(&other, table.facts(0)) {
+    if !set(&mut table, other) {
         return Err(Trouble::Unknown("not alike"));
     }
-    table.set_facts(0, SharedFacts::of(alloc, other)?);
-    line.push_str("set")?;
-    Ok(write_replacement(line, &table, fields)?)
+    Ok(write_was_set(line, &table, fields)?)
 }

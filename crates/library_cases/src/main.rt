@@ -9,9 +9,11 @@ mod documents;
 mod fact_lists;
 mod graphs;
 mod laws;
+mod line;
 mod links;
 mod messages;
 mod parts;
+mod pieces;
 mod places;
 mod queries;
 mod replies;
@@ -21,6 +23,7 @@ mod texts;
 mod uris;
 mod visited;
 
+use crate::line::put;
 use case_notation::{Answer, Names, behind, fields_of};
 use std::alloc::Global;
 use std::io::{self, BufRead, BufReader};
@@ -107,7 +110,7 @@ fn answer_line<R: Threads + Wait>(
     given: &str,
 ) -> Answer<()> {
     if given.is_empty() || given.starts_with('#') {
-        return Ok(line.push_str(given)?);
+        return Ok(put(line, given)?);
     }
     let whole = names.expanded(given)?;
     answer_whole(rt, alloc, names, line, whole.as_str())

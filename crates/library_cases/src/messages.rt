@@ -1,6 +1,7 @@
 // Messages of an editor.
+use crate::line::put;
 use case_notation::{Answer, field, plain, push_shown};
-use doc_text::{Change, Range};
+use doc_text::{Change, Position, Range};
 use lsp_rpc::{DidChangeParams, DidOpenParams, Message, document_uri};
 use serde_json::Value;
 use std::alloc::{AllocError, Global};
@@ -35,9 +36,9 @@ fn write_message_of_bytes(alloc: Global, line: &mut String, words: &str) -> Answ
 // What a message is, without its params.
 fn write_message(line: &mut String, message: Message) -> Result<(), AllocError> {
     match message {
-        Message::ParseError => line.push_str("parse error"),
+        Message::ParseError => put(line, "parse error"),
         Message::InvalidRequest { id } => write!(line, "invalid {id:?}"),
-        Message::Response => line.push_str("response"),
+        Message::Response => put(line, "response"),
         Message::Request { id, method, .. } => write!(line, "request {id:?} {method:?}"),
         Message::Notification { method, .. } => write!(line, "notification {method:?}"),
     }
@@ -52,20 +53,22 @@ fn write_opened(alloc: Global, line: &mut String, body: &str) -> Result<(), Allo
             write!(line, "{length} {uri} ")?;
             write_document(line, params)
         }
-        _ => line.push_str("no notification"),
+        _ => put(line, "no notification"),
     }
 }
 
 fn write_document(line: &mut String, params: Value) -> Result<(), AllocError> {
     match DidOpenParams::from_value(params) {
-        None => line.push_str("no document"),
-        Some(opened) => {
-            let uri = opened.uri.as_str();
-            let version = opened.version;
-            write!(line, "{uri} {version} ")?;
-            push_shown(line, opened.text.as_str())
-        }
+        None => put(line, "no document"),
+        Some(opened) => write_text(line, &opened),
     }
+}
+
+fn write_text(line: &mut String, opened: &DidOpenParams) -> Result<(), AllocError> {
+    let uri = opened.uri.as_str();
+    let version = opened.version;
+    write!(line, "{uri} {version} ")?;
+    push_shown(line, opened.text.as_str())
 }
 
 fn write_params(
@@ -75,7 +78,7 @@ fn write_params(
     text: &str,
 ) -> Result<(), AllocError> {
     match Value::from_str(alloc, text) {
-        Err(_) => line.push_str("no JSON"),
+        Err(_) => put(line, "no JSON"),
         Ok(params) => write_value(alloc, line, call, params),
     }
 }
@@ -87,7 +90,7 @@ fn write_value(
     params: Value,
 ) -> Result<(), AllocError> {
     match call {
-        "document" => line.push_str(document_uri(&params).unwrap_or("none")),
+        "document" => put(line, document_uri(&params).unwrap_or("none")),
         "changes" => write_changes(alloc, line, params),
         _ => write_version(line, params),
     }
@@ -95,7 +98,7 @@ fn write_value(
 
 fn write_version(line: &mut String, params: Value) -> Result<(), AllocError> {
     match DidOpenParams::from_value(params) {
-        None => line.push_str("none"),
+        None => put(line, "none"),
         Some(opened) => {
             let version = opened.version;
             write!(line, "{version}")
@@ -106,7 +109,7 @@ fn write_version(line: &mut String, params: Value) -> Result<(), AllocError> {
 // The URI, the version, and each change.
 fn write_changes(alloc: Global, line: &mut String, params: Value) -> Result<(), AllocError> {
     match DidChangeParams::from_value(alloc, params)? {
-        None => line.push_str("none"),
+        None => put(line, "none"),
         Some(changed) => write_changed(line, &changed),
     }
 }
@@ -123,13 +126,20 @@ fn write_changed(line: &mut String, changed: &DidChangeParams) -> Result<(), All
 
 // A change as its range and its text.
 fn write_change(line: &mut String, change: &Change) -> Result<(), AllocError> {
-    let text = change.text.as_str();
     match change.range {
-        Some(Range { start, end }) => write!(
-            line,
-            " {}:{}-{}:{} {text}",
-            start.line, start.character, end.line, end.character
-        ),
-        None => write!(line, " all {text}"),
+        Some(Range { start, end }) => {
+            write_position(line, " ", start)?;
+            write_position(line, "-", end)?;
+        }
+        None => put(line, " all")?,
     }
+    put(line, " ")?;
+    put(line, change.text.as_str())
+}
+
+// A position behind a mark.
+fn write_position(line: &mut String, mark: &str, position: Position) -> Result<(), AllocError> {
+    let row = position.line;
+    let character = position.character;
+    write!(line, "{mark}{row}:{character}")
 }

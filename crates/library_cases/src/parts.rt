@@ -1,22 +1,28 @@
 // Tables of stretches of a workspace, merged.
-use crate::analyses::{files_in, pieces_at, write_decls};
+use crate::analyses::{files_in, write_decls};
+use crate::line::put;
+use crate::pieces::{pieces_at, pieces_in};
 use case_notation::{Answer, Trouble, field};
 use piece_collector::Piece;
 use proto_resolve::NameTable;
 use std::alloc::Global;
 use work_index::{FileWork, PartTable, merge_tables};
 
-// The table of one stretch, which is given by the numbers of its first file and of the one behind it.
-fn part(alloc: Global, pieces: &[Piece<FileWork>], stretch: &str) -> Answer<PartTable> {
-    let Some((first, end)) = stretch.split_once('-') else {
-        return Err(Trouble::Unknown("no stretch"));
-    };
-    let first = first.parse::<usize>()?;
-    let end = end.parse::<usize>()?;
-    if first > end || end > pieces.len() {
-        return Err(Trouble::Unknown("no such files"));
+// The numbers of a stretch's first file and of the one behind it.
+fn stretch_of(words: &str) -> Answer<(usize, usize)> {
+    match words.split_once('-') {
+        Some((first, end)) => Ok((first.parse::<usize>()?, end.parse::<usize>()?)),
+        None => Err(Trouble::Unknown("no stretch")),
     }
-    Ok(PartTable::of(alloc, first, &pieces[first..end])?)
+}
+
+// The table of one stretch.
+fn part(alloc: Global, pieces: &[Piece<FileWork>], words: &str) -> Answer<PartTable> {
+    let (first, end) = stretch_of(words)?;
+    match pieces.get(first..end) {
+        Some(pieces) => Ok(PartTable::of(alloc, first, pieces)?),
+        None => Err(Trouble::Unknown("no such files")),
+    }
 }
 
 // The table of all files, from those of stretches in this order.
@@ -28,13 +34,18 @@ fn merged(alloc: Global, pieces: &[Piece<FileWork>], stretches: &str) -> Answer<
     Ok(merge_tables(alloc, parts)?)
 }
 
+fn write_decls_named(line: &mut String, table: &NameTable, name: &str) -> Answer<()> {
+    put(line, name)?;
+    put(line, ":")?;
+    write_decls(line, table.decls_named(name))?;
+    Ok(put(line, ";")?)
+}
+
 // The declarations of each name that is asked for.
 fn write_named(line: &mut String, table: &NameTable, fields: &[&str]) -> Answer<()> {
     for field in fields {
         if let Some(name) = field.strip_prefix("? ") {
-            write!(line, "{name}:")?;
-            write_decls(line, table.decls_named(name))?;
-            line.push(';')?;
+            write_decls_named(line, table, name)?;
         }
     }
     Ok(())
@@ -56,15 +67,16 @@ fn named(
 /// orders; each that differs from the first is shown too.
 pub fn answer(alloc: Global, line: &mut String, fields: &[&str]) -> Answer<()> {
     let files = files_in(alloc, fields.get(1..).unwrap_or(&[]))?;
-    let pieces = pieces_at(alloc, files.as_slice())?;
+    let lent = pieces_at(alloc, files.as_slice())?;
+    let pieces = pieces_in(&lent);
     let mut first = String::new(alloc);
     for stretches in field(fields, 0).split(", ") {
-        let answer = named(alloc, pieces.pieces(), stretches, fields)?;
+        let answer = named(alloc, pieces, stretches, fields)?;
         if first.is_empty() {
             first = answer;
         } else if first.as_str() != answer.as_str() {
             write!(line, "from {stretches}: {answer} but ")?;
         }
     }
-    Ok(line.push_str(first.as_str())?)
+    Ok(put(line, first.as_str())?)
 }

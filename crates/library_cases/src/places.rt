@@ -1,4 +1,5 @@
 // Places in texts, and diagnostics.
+use crate::line::put;
 use proto_facts::Diag;
 use std::alloc::AllocError;
 
@@ -45,7 +46,7 @@ pub fn write_diagnostics(
     diagnostics: &[Diag],
 ) -> Result<(), AllocError> {
     for diag in diagnostics {
-        line.push(' ')?;
+        put(line, " ")?;
         write_place(line, text, diag.start, diag.end)?;
         let code = diag.message.code();
         write!(line, " {code}")?;

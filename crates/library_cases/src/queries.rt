@@ -1,7 +1,10 @@
 // What is asked about names in a workspace.
-use crate::analyses::{files_in, pieces_at};
+use crate::analyses::files_in;
+use crate::line::put;
+use crate::pieces::{number_of, path_of, pieces_at, pieces_in, text_of};
 use crate::places::{offset_at, write_diagnostics, write_place};
 use case_notation::{Answer, Trouble, first_word, plain};
+use file_facts::FileFacts;
 use lsp_queries::{Place, definition, references, rename, report, symbols};
 use piece_collector::Piece;
 use proto_resolve::DeclRef;
@@ -18,41 +21,53 @@ struct Asked<'a> {
 fn write_site(line: &mut String, asked: Asked<'_>, place: Place) -> Result<(), AllocError> {
     match asked.pieces.get(place.file) {
         Some(piece) => {
-            let path = piece.path();
+            let path = path_of(piece);
             write!(line, " {path} ")?;
-            write_place(line, piece.text(), place.start, place.end)
+            write_place(line, text_of(piece), place.start, place.end)
         }
-        None => line.push_str(" nowhere"),
+        None => put(line, " nowhere"),
     }
 }
 
-fn write_decl(line: &mut String, asked: Asked<'_>, decl: DeclRef) -> Result<(), AllocError> {
-    if decl.file >= asked.analysis.files().len() {
-        return line.push_str(" nowhere");
+// What the text of a file says by itself.
+fn facts_at(analysis: &Analysis, file: usize) -> Option<&FileFacts> {
+    if file < analysis.files().len() {
+        Some(analysis.facts(file))
+    } else {
+        None
     }
-    match asked
-        .analysis
-        .facts(decl.file)
-        .decls
-        .as_slice()
-        .get(decl.number)
-    {
-        Some(found) => {
-            let path = asked.analysis.files()[decl.file].as_str();
-            let name = found
-                .full_name
-                .to_text(asked.analysis.facts(decl.file).alloc)?;
-            let name = name.as_str();
-            write!(line, " {path} {name}")
+}
+
+// A path, and the full name of a declaration of its file.
+fn write_name(
+    line: &mut String,
+    path: &str,
+    facts: &FileFacts,
+    number: usize,
+) -> Result<(), AllocError> {
+    match facts.decls.as_slice().get(number) {
+        Some(decl) => {
+            write!(line, " {path} ")?;
+            decl.full_name.write_to(line)
         }
-        None => line.push_str(" nowhere"),
+        None => put(line, " nowhere"),
+    }
+}
+
+fn write_decl(line: &mut String, analysis: &Analysis, decl: DeclRef) -> Result<(), AllocError> {
+    match (
+        analysis.files().get(decl.file),
+        facts_at(analysis, decl.file),
+    ) {
+        (Some(path), Some(facts)) => write_name(line, path.as_str(), facts, decl.number),
+        _ => put(line, " nowhere"),
     }
 }
 
 fn write_symbols(alloc: Global, line: &mut String, asked: Asked<'_>, query: &str) -> Answer<()> {
     let query = plain(alloc, query)?;
     for decl in symbols(alloc, asked.analysis, query.as_str())?.iter() {
-        write_decl(line, asked, *decl)?;
+        write_decl(line, asked.analysis, *decl)?;
     }
     Ok(())
 }
@@ -60,7 +75,7 @@ fn write_symbols(alloc: Global, line: &mut String, asked: Asked<'_>, query: &str
 fn write_definition(line: &mut String, asked: Asked<'_>, file: usize, offset: usize) -> Answer<()> {
     Ok(match definition(asked.analysis, file, offset) {
         Some(place) => write_site(line, asked, place)?,
-        None => line.push_str(" null")?,
+        None => put(line, " null")?,
     })
 }
 
@@ -80,7 +95,7 @@ fn write_references(
 ) -> Answer<()> {
     match references(alloc, asked.analysis, at.0, at.1, include_declaration)? {
         Some(places) => write_sites(line, asked, places.as_slice()),
-        None => Ok(line.push_str(" null")?),
+        None => Ok(put(line, " null")?),
     }
 }
 
@@ -111,24 +126,14 @@ fn write_renamed(alloc: Global, line: &mut String, asked: Asked<'_>, words: &str
     write_rename(alloc, line, asked, place_asked(asked, place)?, new_name)
 }
 
-// The number of the file at a path.
-fn number_of(asked: Asked<'_>, path: &str) -> Answer<usize> {
-    for (number, piece) in asked.pieces.iter().enumerate() {
-        if piece.path() == path {
-            return Ok(number);
-        }
-    }
-    Err(Trouble::Unknown("no such file"))
-}
-
 // A file and an offset in it: a path, and a line and a column from 0 or an offset.
 fn place_asked(asked: Asked<'_>, words: &str) -> Answer<(usize, usize)> {
     let (path, place) = first_word(words);
-    let file = number_of(asked, path)?;
+    let file = number_of(asked.pieces, path)?;
     match (place.split_once(':'), asked.pieces.get(file)) {
         (Some((row, column)), Some(piece)) => {
             let offset = offset_at(
-                piece.text(),
+                text_of(piece),
                 row.parse::<usize>()?,
                 column.parse::<usize>()?,
             );
@@ -139,10 +144,10 @@ fn place_asked(asked: Asked<'_>, words: &str) -> Answer<(usize, usize)> {
 }
 
 fn write_report(line: &mut String, asked: Asked<'_>, path: &str) -> Answer<()> {
-    let file = number_of(asked, path)?;
+    let file = number_of(asked.pieces, path)?;
     match asked.pieces.get(file) {
         Some(piece) if file < asked.analysis.files().len() => {
-            Ok(write_diagnostics(line, piece.text(), report(asked.analysis, file))?)
+            Ok(write_diagnostics(line, text_of(piece), report(asked.analysis, file))?)
         }
         _ => Err(Trouble::Unknown("no such file")),
     }
@@ -176,7 +181,7 @@ fn write_answers(
         if let Some(question) = field.strip_prefix("? ") {
             write!(line, "{question}:")?;
             write_asked(alloc, line, asked, question)?;
-            line.push_str("; ")?;
+            put(line, "; ")?;
         }
     }
     Ok(())
@@ -186,7 +191,7 @@ fn write_answers(
 pub fn answer(alloc: Global, line: &mut String, fields: &[&str]) -> Answer<()> {
     let files = files_in(alloc, fields)?;
     let lent = pieces_at(alloc, files.as_slice())?;
-    let pieces = lent.pieces();
+    let pieces = pieces_in(&lent);
     let analysis = analyse_here(alloc, pieces)?;
     let asked = Asked {
         analysis: &analysis,

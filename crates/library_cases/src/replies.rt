@@ -4,7 +4,7 @@ use doc_text::{Position, Range};
 use lsp_rpc::{
     Diagnostic, ErrorCode, Id, Severity, error_reply, initialize_reply, null_reply, report_reply,
 };
-use std::alloc::Global;
+use std::alloc::{AllocError, Global};
 
 /// Writes the answer to a call that writes a reply. The first field is the id: a number, or a text between quotes.
 pub fn answer(alloc: Global, line: &mut String, call: &str, fields: &[&str]) -> Answer<()> {
@@ -34,12 +34,15 @@ fn reply(alloc: Global, call: &str, id: &Id, fields: &[&str]) -> Answer<Vec<u8>>
 }
 
 fn write_body(line: &mut String, body: &[u8]) -> Answer<()> {
-    let length = body.len();
-    write!(line, "{length} ")?;
+    write_length(line, body.len())?;
     match str::from_utf8(body) {
         Ok(text) => Ok(push_shown(line, text)?),
         Err(_) => Err(Trouble::Unknown("no UTF-8")),
     }
+}
+
+fn write_length(line: &mut String, length: usize) -> Result<(), AllocError> {
+    write!(line, "{length} ")
 }
 
 fn id(alloc: Global, field: &str) -> Answer<Option<Id>> {
@@ -68,24 +71,30 @@ fn diagnostic(field: &str) -> Answer<Diagnostic<'_>> {
     let (severity, rest) = first_word(field);
     let (code, message) = first_word(rest);
     Ok(Diagnostic {
-        range: Range {
-            start: Position {
-                line: 1,
-                character: 0,
-            },
-            end: Position {
-                line: 1,
-                character: 1,
-            },
-        },
-        severity: if severity == "error" {
-            Severity::Error
-        } else {
-            Severity::Information
-        },
+        range: second_line(),
+        severity: severity_of(severity),
         code: code.parse::<u32>()?,
         message,
     })
+}
+
+fn severity_of(word: &str) -> Severity {
+    match word {
+        "error" => Severity::Error,
+        _ => Severity::Information,
+    }
+}
+
+// The first character of the second line.
+fn second_line() -> Range {
+    Range {
+        start: in_second_line(0),
+        end: in_second_line(1),
+    }
+}
+
+fn in_second_line(character: u64) -> Position {
+    Position { line: 1, character }
 }
 
 fn report(alloc: Global, id: &Id, fields: &[&str]) -> Answer<Vec<u8>> {

@@ -1,7 +1,9 @@
 // Analyses that several threads make.
-use crate::analyses::{pieces_at, write_by_path, write_decls, write_files};
+use crate::analyses::{write_by_path, write_decls, write_files};
 use crate::fact_lists::write_facts;
+use crate::line::put;
 use crate::links::write_links;
+use crate::pieces::{facts_of_piece, path_of, pieces_at, pieces_in, stamp_of, text_of};
 use crate::places::write_diagnostics;
 use crate::visited::Visited;
 use case_notation::{Answer, Trouble, field, push_shown};
@@ -31,7 +33,7 @@ fn analysed<R: Threads + Wait>(
     meet: bool,
 ) -> Answer<Shared> {
     let lent = pieces_at(alloc, files)?;
-    let gate = Visited::by(alloc, lent.pieces(), meet)?;
+    let gate = Visited::by(alloc, pieces_in(&lent), meet)?;
     match analyse_in_shares(rt, alloc, lent, workers, &gate) {
         Ok((lent, found)) => Ok(Shared { lent, found, gate }),
         Err(fault) => Err(Trouble::Fault(fault.code())),
@@ -40,11 +42,11 @@ fn analysed<R: Threads + Wait>(
 
 // A piece: its path, stamp and text, and what its text says by itself.
 fn write_piece(line: &mut String, piece: &Piece<FileWork>) -> Result<(), AllocError> {
-    let path = piece.path();
-    let stamp = piece.stamp();
+    let path = path_of(piece);
+    let stamp = stamp_of(piece);
     write!(line, "; {path}@{stamp} ")?;
-    push_shown(line, piece.text())?;
-    write_facts(line, piece.out().facts.get())
+    push_shown(line, text_of(piece))?;
+    write_facts(line, facts_of_piece(piece))
 }
 
 // What is known of a file of an analysis.
@@ -55,7 +57,7 @@ fn write_known(
     text: &str,
 ) -> Result<(), AllocError> {
     if file >= found.files().len() {
-        return line.push_str(" unknown");
+        return put(line, " unknown");
     }
     write_facts(line, found.facts(file))?;
     write_links(line, text, found.links(file))?;
@@ -69,20 +71,29 @@ fn everything(
     pieces: &[Piece<FileWork>],
 ) -> Result<String, AllocError> {
     let mut line = String::new(alloc);
-    write_files(&mut line, found)?;
-    write_decls(&mut line, found.decls())?;
-    for (file, piece) in pieces.iter().enumerate() {
-        write_piece(&mut line, piece)?;
-        write_known(&mut line, found, file, piece.text())?;
-    }
+    write_everything(&mut line, found, pieces)?;
     Ok(line)
+}
+
+fn write_everything(
+    line: &mut String,
+    found: &Analysis,
+    pieces: &[Piece<FileWork>],
+) -> Result<(), AllocError> {
+    write_files(line, found)?;
+    write_decls(line, found.decls())?;
+    for (file, piece) in pieces.iter().enumerate() {
+        write_piece(line, piece)?;
+        write_known(line, found, file, text_of(piece))?;
+    }
+    Ok(())
 }
 
 // How often each file came to a gate where each came once.
 fn once_each(alloc: Global, pieces: &[Piece<FileWork>]) -> Result<String, AllocError> {
     let mut line = String::new(alloc);
     for piece in pieces {
-        let path = piece.path();
+        let path = path_of(piece);
         write!(line, " {path} 1")?;
     }
     Ok(line)
@@ -96,11 +107,17 @@ struct Expected<'a> {
 }
 
 fn note_said(line: &mut String, said: &str, expected: Expected<'_>) -> Result<(), AllocError> {
-    if said != expected.whole {
-        let workers = expected.workers;
-        write!(line, "; but by {workers} threads:{said}")?;
+    if said == expected.whole {
+        return Ok(());
     }
-    Ok(())
+    put(line, "; but by ")?;
+    write_threads(line, expected.workers)?;
+    put(line, ":")?;
+    put(line, said)
+}
+
+fn write_threads(line: &mut String, workers: usize) -> Result<(), AllocError> {
+    write!(line, "{workers} threads")
 }
 
 fn note_came(
@@ -109,11 +126,13 @@ fn note_came(
     once: &str,
     expected: Expected<'_>,
 ) -> Result<(), AllocError> {
-    if came != once {
-        let workers = expected.workers;
-        write!(line, "; but with {workers} threads there came{came}")?;
+    if came == once {
+        return Ok(());
     }
-    Ok(())
+    put(line, "; but with ")?;
+    write_threads(line, expected.workers)?;
+    put(line, " there came")?;
+    put(line, came)
 }
 
 // How often each file came to the gate.
@@ -129,10 +148,10 @@ fn note_shared(
     shared: &Shared,
     expected: Expected<'_>,
 ) -> Result<(), AllocError> {
-    let said = everything(alloc, &shared.found, shared.lent.pieces())?;
+    let said = everything(alloc, &shared.found, pieces_in(&shared.lent))?;
     note_said(line, said.as_str(), expected)?;
     let came = came(alloc, shared)?;
-    let once = once_each(alloc, shared.lent.pieces())?;
+    let once = once_each(alloc, pieces_in(&shared.lent))?;
     note_came(line, came.as_str(), once.as_str(), expected)
 }
 
@@ -158,7 +177,7 @@ pub fn note_differences<R: Threads + Wait>(
     found: &Analysis,
 ) -> Answer<()> {
     let pieces = pieces_at(alloc, files)?;
-    let whole = everything(alloc, found, pieces.pieces())?;
+    let whole = everything(alloc, found, pieces_in(&pieces))?;
     for workers in WORKERS {
         let expected = Expected {
             whole: whole.as_str(),
@@ -169,21 +188,35 @@ pub fn note_differences<R: Threads + Wait>(
     Ok(())
 }
 
-// The pieces that came back, with their stamps; how often each file came to the gate; and what is wrong in each.
-fn shown(alloc: Global, shared: &Shared) -> Result<String, AllocError> {
-    let mut line = String::new(alloc);
-    let count = shared.lent.pieces().len();
+// The pieces that came back, with their stamps.
+fn write_pieces(line: &mut String, pieces: &[Piece<FileWork>]) -> Result<(), AllocError> {
+    let count = pieces.len();
     write!(line, "{count} pieces:")?;
-    for piece in shared.lent.pieces() {
-        let path = piece.path();
-        let stamp = piece.stamp();
+    for piece in pieces {
+        let path = path_of(piece);
+        let stamp = stamp_of(piece);
         write!(line, " {path}@{stamp}")?;
     }
-    line.push_str("; came:")?;
-    shared.gate.write(&mut line)?;
-    let count = shared.found.files().len();
-    write!(line, "; {count} files: ")?;
-    write_by_path(&mut line, &shared.found, shared.lent.pieces())?;
+    put(line, "; came:")
+}
+
+fn write_count(line: &mut String, found: &Analysis) -> Result<(), AllocError> {
+    let count = found.files().len();
+    write!(line, "; {count} files: ")
+}
+
+// The pieces that came back; how often each file came to the gate; and what is wrong in each.
+fn write_shared(line: &mut String, shared: &Shared) -> Result<(), AllocError> {
+    let pieces = pieces_in(&shared.lent);
+    write_pieces(line, pieces)?;
+    shared.gate.write(line)?;
+    write_count(line, &shared.found)?;
+    write_by_path(line, &shared.found, pieces)
+}
+
+fn shown(alloc: Global, shared: &Shared) -> Result<String, AllocError> {
+    let mut line = String::new(alloc);
+    write_shared(&mut line, shared)?;
     Ok(line)
 }
 
@@ -210,7 +243,7 @@ pub fn answer<R: Threads + Wait>(
     for number in field(fields, 0).split(' ') {
         let answer = answer_with(rt, alloc, files, number.parse::<usize>()?, false)?;
         if line.is_empty() {
-            line.push_str(answer.as_str())?;
+            put(line, answer.as_str())?;
         } else if line.as_str() != answer.as_str() {
             write!(line, "; but by {number} threads: {answer}")?;
         }
@@ -226,5 +259,5 @@ pub fn meet<R: Threads + Wait>(
     files: &[&str],
 ) -> Answer<()> {
     let answer = answer_with(rt, alloc, files, files.len(), true)?;
-    Ok(line.push_str(answer.as_str())?)
+    Ok(put(line, answer.as_str())?)
 }

@@ -1,4 +1,5 @@
 // Statements in words.
+use crate::line::put;
 use proto_syntax::{
     Field, Items, Literal, MapField, Node, Number, RangeEnd, ReservedList, ReservedRange, Span,
     TypeName,
@@ -17,26 +18,34 @@ fn write_spans(
     before: &str,
 ) -> Result<(), AllocError> {
     for span in spans {
-        line.push_str(before)?;
-        line.push_str(of(text, *span))?;
+        put(line, before)?;
+        put(line, of(text, *span))?;
     }
     Ok(())
 }
 
 fn write_type(line: &mut String, text: &str, name: &TypeName) -> Result<(), AllocError> {
-    let whole = of(text, name.span);
-    write!(line, " type {whole}")?;
+    put(line, " type ")?;
+    put(line, of(text, name.span))?;
     if name.is_absolute {
-        line.push_str(" from the root")?;
+        put(line, " from the root")?;
     }
     write_spans(line, text, name.components.as_slice(), "/")
 }
 
 fn write_number(line: &mut String, text: &str, number: Number) -> Result<(), AllocError> {
-    let whole = of(text, number.span);
-    let digits = of(text, number.digits);
-    let negative = number.is_negative;
-    write!(line, " {whole} {digits} {negative}")
+    put(line, " ")?;
+    put(line, of(text, number.span))?;
+    put(line, " ")?;
+    put(line, of(text, number.digits))?;
+    put(
+        line,
+        if number.is_negative {
+            " true"
+        } else {
+            " false"
+        },
+    )
 }
 
 fn write_range(line: &mut String, text: &str, range: ReservedRange) -> Result<(), AllocError> {
@@ -44,19 +53,19 @@ fn write_range(line: &mut String, text: &str, range: ReservedRange) -> Result<()
     match range.high {
         RangeEnd::Same => Ok(()),
         RangeEnd::Number(number) => {
-            line.push_str(" to")?;
+            put(line, " to")?;
             write_number(line, text, number)
         }
         RangeEnd::Max(span) => {
-            line.push_str(" to ")?;
-            line.push_str(of(text, span))
+            put(line, " to ")?;
+            put(line, of(text, span))
         }
     }
 }
 
 fn write_literal(line: &mut String, text: &str, literal: &Literal) -> Result<(), AllocError> {
-    let whole = of(text, literal.span);
-    write!(line, " {whole}")?;
+    put(line, " ")?;
+    put(line, of(text, literal.span))?;
     write_spans(line, text, literal.parts.as_slice(), "+")
 }
 
@@ -83,22 +92,27 @@ fn write_block(
     name: Span,
     items: &Items<Node>,
 ) -> Result<(), AllocError> {
-    let name = of(text, name);
-    let count = items.len();
-    write!(line, "{form} {name} {count}")
+    put(line, form)?;
+    put(line, " ")?;
+    put(line, of(text, name))?;
+    write_count(line, items.len())
+}
+
+fn write_count(line: &mut String, count: usize) -> Result<(), AllocError> {
+    write!(line, " {count}")
 }
 
 fn write_field(line: &mut String, text: &str, field: &Field) -> Result<(), AllocError> {
-    line.push_str("field ")?;
-    line.push_str(of(text, field.name))?;
+    put(line, "field ")?;
+    put(line, of(text, field.name))?;
     write_spans(line, text, field.labels.as_slice(), " ")?;
     write_type(line, text, &field.type_name)?;
     write_spans(line, text, &[field.number], " = ")
 }
 
 fn write_map(line: &mut String, text: &str, map: &MapField) -> Result<(), AllocError> {
-    line.push_str("map ")?;
-    line.push_str(of(text, map.name))?;
+    put(line, "map ")?;
+    put(line, of(text, map.name))?;
     write_spans(line, text, map.labels.as_slice(), " ")?;
     write_type(line, text, &map.key)?;
     write_type(line, text, &map.value)?;
@@ -111,8 +125,8 @@ fn write_value(
     name: Span,
     number: Number,
 ) -> Result<(), AllocError> {
-    line.push_str("value ")?;
-    line.push_str(of(text, name))?;
+    put(line, "value ")?;
+    put(line, of(text, name))?;
     write_number(line, text, number)
 }
 
@@ -122,7 +136,14 @@ fn write_import(
     is_public: bool,
     path: &Literal,
 ) -> Result<(), AllocError> {
-    write!(line, "import {is_public}")?;
+    put(
+        line,
+        if is_public {
+            "import true"
+        } else {
+            "import false"
+        },
+    )?;
     write_literal(line, text, path)
 }
 
@@ -132,8 +153,8 @@ fn write_package(
     name: Span,
     components: &[Span],
 ) -> Result<(), AllocError> {
-    line.push_str("package ")?;
-    line.push_str(of(text, name))?;
+    put(line, "package ")?;
+    put(line, of(text, name))?;
     write_spans(line, text, components, "/")
 }
 
@@ -170,7 +191,7 @@ pub fn write_node(line: &mut String, text: &str, node: &Node) -> Result<(), Allo
         Node::MapField(map) => write_map(line, text, map.get()),
         Node::Value { name, number, .. } => write_value(line, text, *name, *number.get()),
         Node::Reserved { list, .. } => {
-            line.push_str("reserved")?;
+            put(line, "reserved")?;
             write_list(line, text, list.get())
         }
         Node::Import {
@@ -187,10 +208,10 @@ pub fn write_node(line: &mut String, text: &str, node: &Node) -> Result<(), Allo
             write_spans(line, text, &[*name, *value.get()], " option ")
         }
         Node::Syntax { value, .. } => {
-            line.push_str("syntax")?;
+            put(line, "syntax")?;
             write_literal(line, text, value.get())
         }
-        Node::Empty { .. } => line.push_str("empty"),
+        Node::Empty { .. } => put(line, "empty"),
         _ => write_holder(line, text, node),
     }
 }

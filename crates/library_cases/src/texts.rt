@@ -1,4 +1,5 @@
 // Tokens and trees of texts.
+use crate::line::put;
 use crate::places::write_place;
 use crate::statements::{inner, write_node};
 use case_notation::{Answer, field, plain};
@@ -81,7 +82,7 @@ fn write_faults(line: &mut String, text: &str, faults: &[Fault]) -> Result<(), A
 
 fn write_statement(line: &mut String, text: &str, node: &Node) -> Result<(), AllocError> {
     write_node(line, text, node)?;
-    line.push_str("; ")
+    put(line, "; ")
 }
 
 // The statements at top level and those one level below, each in words.

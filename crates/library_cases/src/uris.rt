@@ -1,4 +1,5 @@
 // Roots, paths and URIs.
+use crate::line::put;
 use case_notation::{Answer, field, plain, push_shown};
 use std::alloc::{AllocError, Global};
 use workspace_uri::{Root, escape_path, is_workspace_path};
@@ -18,13 +19,13 @@ fn write_answer(
     other: &str,
 ) -> Result<(), AllocError> {
     match call {
-        "escaped" => line.push_str(escape_path(alloc, text.as_bytes())?.as_str()),
+        "escaped" => put(line, escape_path(alloc, text.as_bytes())?.as_str()),
         "workspace path" => {
             let is_path = is_workspace_path(text);
             write!(line, "{is_path}")
         }
         _ => match Root::parse(alloc, text)? {
-            None => line.push_str("no root"),
+            None => put(line, "no root"),
             Some(root) => write_below(alloc, line, call, &root, other),
         },
     }
@@ -38,7 +39,7 @@ fn write_below(
     other: &str,
 ) -> Result<(), AllocError> {
     match call {
-        "root" => line.push_str(root.as_str()),
+        "root" => put(line, root.as_str()),
         "path" => write_path(alloc, line, root, plain(alloc, other)?.as_str()),
         _ => write_uri(alloc, line, root, plain(alloc, other)?.as_str()),
     }
@@ -48,13 +49,18 @@ fn write_below(
 fn write_path(alloc: Global, line: &mut String, root: &Root, uri: &str) -> Result<(), AllocError> {
     match root.path_of(alloc, uri)? {
         Some(path) => push_shown(line, path.as_str()),
-        None => line.push_str("no URL"),
+        None => put(line, "no URL"),
     }
 }
 
 // The URI of a path below a root, and the path that it leads back to.
 fn write_uri(alloc: Global, line: &mut String, root: &Root, path: &str) -> Result<(), AllocError> {
     let uri = root.uri_of(alloc, path)?;
-    write!(line, "{uri} :: ")?;
-    write_path(alloc, line, root, uri.as_str())
+    write_both(alloc, line, root, uri.as_str())
+}
+
+fn write_both(alloc: Global, line: &mut String, root: &Root, uri: &str) -> Result<(), AllocError> {
+    put(line, uri)?;
+    put(line, " :: ")?;
+    write_path(alloc, line, root, uri)
 }

@@ -1,4 +1,5 @@
 // Gates that count how often each file passes them.
+use crate::pieces::{path_of, stamp_of};
 use piece_collector::Piece;
 use std::alloc::{AllocError, Global};
 use std::sync::atomic::{AtomicU64, Ordering};
@@ -37,8 +38,8 @@ impl Visited {
         let mut visitors = Vec::new(alloc);
         for piece in pieces {
             visitors.push(Visitor {
-                path: String::from_str(alloc, piece.path())?,
-                stamp: piece.stamp(),
+                path: String::from_str(alloc, path_of(piece))?,
+                stamp: stamp_of(piece),
                 times: AtomicU64::new(0),
             })?;
         }
@@ -85,9 +86,8 @@ impl Visited {
     /// Writes how often each file came, how often another one did, and how often one waited in vain; the last two where it isn't 0.
     pub fn write(&self, line: &mut String) -> Result<(), AllocError> {
         for visitor in &self.visitors {
-            let path = visitor.path.as_str();
             let times = visitor.times.load(Ordering::SeqCst);
-            write!(line, " {path} {times}")?;
+            write_times(line, visitor.path.as_str(), times)?;
         }
         write_count(line, "strangers", &self.strangers)?;
         write_count(line, "misses", &self.misses)
@@ -97,8 +97,12 @@ impl Visited {
 fn write_count(line: &mut String, what: &str, count: &AtomicU64) -> Result<(), AllocError> {
     match count.load(Ordering::SeqCst) {
         0 => Ok(()),
-        count => write!(line, " {what} {count}"),
+        count => write_times(line, what, count),
     }
+}
+
+fn write_times(line: &mut String, what: &str, times: u64) -> Result<(), AllocError> {
+    write!(line, " {what} {times}")
 }
 
 impl Gate for Visited {

@@ -1,4 +1,4 @@
-// A file that was found.
+// What was met below a folder.
 
 use std::io;
 
@@ -9,6 +9,14 @@ pub struct FoundFile {
     pub path: String,
     /// What it holds.
     pub text: String,
+}
+
+// A folder that was met and isn't listed yet. Its path is the one below the root, whose own path is empty; its depth
+// is how many folders stand on that path.
+#[derive(Drop)]
+pub(crate) struct Folder {
+    pub(crate) path: String,
+    pub(crate) depth: u32,
 }
 
 // A file that was met: its path below the folder, and how many bytes it is said to have.

@@ -3,12 +3,15 @@
 
 mod fault;
 mod found;
+mod listing;
+mod reader;
 mod reading;
 mod room;
+mod runs;
 mod skipping;
 mod walk;
 
 pub use fault::FolderFault;
 pub use found::FoundFile;
-pub use reading::TextReader;
+pub use reader::FolderReader;
 pub use walk::read_folder;

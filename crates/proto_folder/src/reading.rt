@@ -2,51 +2,17 @@
 
 use crate::fault::FolderFault;
 use crate::found::{FoundFile, MetFile, ReadFile};
+use crate::reader::{FolderReader, path_in};
 use crate::room::make_room;
-use crate::skipping::skip_unread;
+use crate::runs::runs_of;
+use crate::skipping::{Skipped, tell};
 use std::alloc::{AllocError, Global};
-use std::fs;
-use std::io::{self, ErrorKind, Read};
-use std::marker::{Send, Sync};
+use std::io;
 use std::thread::{self, Threads};
 
-// The path of a name in a folder. In the folder with the empty path it is the name alone.
-pub(crate) fn path_in(alloc: Global, folder: &str, name: &str) -> Result<String, AllocError> {
-    if folder.is_empty() {
-        return String::from_str(alloc, name);
-    }
-    let length = folder.len().saturating_add(name.len()).saturating_add(1);
-    let mut path = String::with_capacity(alloc, length)?;
-    path.push_str(folder)?;
-    path.push('/')?;
-    path.push_str(name)?;
-    Ok(path)
-}
-
-/// What reads the text of a file, in any thread.
-pub trait TextReader: Send + Sync {
-    /// The text of the file at a place in the file system, about `length` bytes long. An error also where it isn't UTF-8.
-    fn read_text(&self, place: &str, length: u64) -> io::Result<String>;
-}
-
-impl TextReader for HostRuntime {
-    fn read_text(&self, place: &str, length: u64) -> io::Result<String> {
-        let capacity = usize::try_from(length)
-            .unwrap_or(usize::MAX)
-            .saturating_add(1);
-        let mut file = fs::open(self, place)?;
-        let mut bytes = Vec::with_capacity(self.alloc(), capacity)?;
-        file.read_to_end(&mut bytes)?;
-        match String::from_utf8(bytes) {
-            Ok(text) => Ok(text),
-            Err(_) => Err(io::Error::new(ErrorKind::InvalidData, "not UTF-8")),
-        }
-    }
-}
-
 // The text of a file that was met below the folder `dir`.
-fn text_of<T: TextReader>(
-    reader: &T,
+fn text_of<F: FolderReader>(
+    reader: &F,
     alloc: Global,
     dir: &str,
     file: &MetFile,
@@ -56,8 +22,8 @@ fn text_of<T: TextReader>(
 }
 
 // Reads files below the folder `dir`: the work of one thread.
-fn read_run<T: TextReader>(
-    reader: &T,
+fn read_run<F: FolderReader>(
+    reader: &F,
     alloc: Global,
     dir: &str,
     run: Vec<MetFile>,
@@ -74,25 +40,8 @@ fn read_run<T: TextReader>(
     Ok(found)
 }
 
-// Cuts files into so many runs that differ in length by at most one.
-fn runs_of(
-    alloc: Global,
-    files: Vec<MetFile>,
-    count: usize,
-) -> Result<Vec<Vec<MetFile>>, AllocError> {
-    let mut runs = Vec::new(alloc);
-    let mut left = files;
-    for number in 0..count {
-        let here = left.len().div_ceil(count - number);
-        let rest = left.split_off(here)?;
-        runs.push(left)?;
-        left = rest;
-    }
-    Ok(runs)
-}
-
 // Reads files below the folder `dir`, each run in a thread of its own where one can be started.
-pub(crate) fn read_all<R: TextReader + Threads>(
+pub(crate) fn read_all<R: FolderReader + Threads>(
     rt: &R,
     alloc: Global,
     dir: &str,
@@ -120,7 +69,7 @@ pub(crate) fn texts_of(
     for ReadFile { path, text } in files {
         match text {
             Ok(text) => found.push(FoundFile { path, text })?,
-            Err(error) => skip_unread(rt, path.as_str(), &error)?,
+            Err(error) => tell(rt, &[Skipped::unread(rt.alloc(), path.as_str(), &error)?]),
         }
     }
     Ok(found)

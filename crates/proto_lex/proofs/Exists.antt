@@ -179,7 +179,7 @@ tokens_step text n at within enough rest None None is_trivia is_longest =
     let whole : at ≡ length text = omega (arith, left, empty) in
     subst (IsGap text at) whole done
 
-tokens_are_from : (text : List ℕ) (n at : ℕ) → at ≤ length text → length text ≤ at + n → AreTokensFrom text at (tokens_from text n at)
+pub tokens_are_from : (text : List ℕ) (n at : ℕ) → at ≤ length text → length text ≤ at + n → AreTokensFrom text at (tokens_from text n at)
 tokens_are_from text zero at within enough = let whole : at ≡ length text = omega arith in subst (IsGap text at) whole done
 tokens_are_from text (suc n) at within enough =
     tokens_step text n at within enough (tokens_are_from text n) (trivia_len (drop at text)) (longest (length text - at) (drop at text)) refl refl
@@ -191,10 +191,13 @@ mark_within text true found =
     omega (arith, size)
 mark_within text false found = omega arith
 
+pub mark_inside : (text : List ℕ) → byte_order_mark_len text ≤ length text
+mark_inside text = mark_within text (starts_with nat_eq text (239 ∷ 187 ∷ 191 ∷ [])) refl
+
 pub tokens_exist : (text : List ℕ) → AreTokens text (tokens text)
 unfolding tokens
 tokens_exist text =
-    tokens_are_from text (length text) (byte_order_mark_len text) (mark_within text (starts_with nat_eq text (239 ∷ 187 ∷ 191 ∷ [])) refl) (omega arith)
+    tokens_are_from text (length text) (byte_order_mark_len text) (mark_inside text) (omega arith)
 
 -- and no others
 pub tokens_are_unique : (text : List ℕ) (ts : List Token) → AreTokens text ts → ts ≡ tokens text

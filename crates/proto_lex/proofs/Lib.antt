@@ -12,6 +12,7 @@ pub mod KindForms
 pub mod LongestFront
 pub mod Numbers
 pub mod Order
+pub mod Rest
 pub mod Strings
 pub mod Symbols
 pub mod Unique

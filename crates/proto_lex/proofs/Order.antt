@@ -4,7 +4,7 @@ use Rattle.proto_lex.specs.declared.token.Token.{Token}
 use Rattle.proto_lex.specs.Tokens.{IsGap, done, trivia, AreTokensFrom, AreTokens, byte_order_mark_len}
 use Rattle.proto_lex.specs.Laws.{IsOrderedFrom}
 
-gap_forward : (text : List ℕ) (i j : ℕ) → IsGap text i j → i ≤ j
+pub gap_forward : (text : List ℕ) (i j : ℕ) → IsGap text i j → i ≤ j
 gap_forward text i j done = omega arith
 gap_forward text i j (trivia n is_trivia after) = let more = gap_forward text (i + n) j after in omega (arith, more)
 

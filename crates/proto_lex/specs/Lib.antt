@@ -5,6 +5,7 @@ pub mod Kinds
 pub mod Laws
 pub mod NumberForms
 pub mod Numbers
+pub mod Rest
 pub mod Scanner
 pub mod Tokens
 pub mod Trivia

@@ -4,6 +4,7 @@ pub mod Views
 pub mod Uses
 pub mod ViewDiagnostics
 pub mod ScopeChains
+pub mod Settled
 pub mod Sites
 pub mod Resolved
 pub mod Laws

@@ -6,7 +6,7 @@ ghost use Rattle.proto_resolve.specs.declared.site.NameSite.{NameSite};
 ghost use Rattle.file_facts.specs.Diags.{diag};
 ghost use Rattle.import_graph.specs.Imports.{graph_of};
 ghost use Rattle.import_graph.specs.Closures.{view_of};
-ghost use Rattle.proto_resolve.specs.Files.{has_package, facts_at};
+ghost use Rattle.proto_resolve.specs.Files.{all_named, has_package, facts_at};
 ghost use Rattle.proto_resolve.specs.Views.{IsView};
 ghost use Rattle.proto_resolve.specs.Names.{is_seen, is_type, has_kind, IsThere};
 ghost use Rattle.proto_resolve.specs.ViewDiagnostics as spec;
@@ -142,6 +142,21 @@ fn has_other(decls: &[DeclRef], file: usize, own: usize) -> bool
     file != own && first_of(decls, file).is_some()
 }
 
+// Whether a file sees another one.
+fn sees_another(view: &View) -> bool
+    ensures { result ≡ list_any (λ g. not (g == view.now.file)) view.now.files }
+{
+    view.files.as_slice().iter().any(|file| *file != view.file)
+}
+
+// Whether another file of the view declares a name.
+fn is_declared_elsewhere<I: Index>(index: &I, view: &View, name: &FullName) -> bool
+    requires { IsView (I.files index.now) view.now }
+    ensures { result ≡ list_any (λ r. not (r.file == view.now.file) && is_seen view.now.files r.file) (all_named (I.files index.now) name.now) }
+{
+    sees_another(view) && is_elsewhere(index.declared_as(name), view)
+}
+
 // Adds what is wrong with the declarations.
 fn push_decl_diagnostics<I: Index>(
     index: &I,
@@ -176,7 +191,7 @@ fn push_diagnostics_of<I: Index>(
     ensures { OnOk result (found.new ≡ found.old ++ spec.decl_diagnostics (I.files index.now) view.now.file view.now.files decl.now) }
 {
     let name = &decl.full_name;
-    if is_elsewhere(index.declared_as(name), view) {
+    if is_declared_elsewhere(index, view, name) {
         found.push(diag(Problem::DeclaredElsewhere, decl.name_span))?;
     }
     if is_package(index, view, name) {

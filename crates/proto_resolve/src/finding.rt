@@ -1,6 +1,6 @@
 // What stands at a full name.
-ghost use Rattle.std.specs.Prelude.{◌≡◌, ◌==◌, ◌<◌, find, length, IfOk, IfSome};
-ghost use Rattle.std.specs.List.Sorted.{IsNonDecreasingBy};
+ghost use Rattle.std.specs.Prelude.{◌≡◌, ◌==◌, ◌<◌, ◌≤◌, find, length, nat_lt, true, false, IfOk, IfSome};
+ghost use Rattle.std.specs.List.Sorted.{IsNonDecreasingBy, IsPartitionPoint};
 ghost use Rattle.proto_resolve.specs.Files.{all_named};
 ghost use Rattle.proto_resolve.specs.Views.{IsView};
 ghost use Rattle.proto_resolve.specs.Names.{found, first_declared, is_seen, package_found, IsThere};
@@ -13,12 +13,24 @@ use crate::views::sees_package;
 use file_facts::Name;
 use std::alloc::{AllocError, Global};
 
+// The first place from which on no declaration is of an earlier file than this. Mostly that is the first of all.
+fn start_of(decls: &[DeclRef], file: usize) -> usize
+    requires { IsNonDecreasingBy (λ r. r.file) decls.now }
+    ensures within { result ≤ length decls.now }
+    ensures point { IsPartitionPoint (λ r. nat_lt r.file file ≡ true) (λ r. nat_lt r.file file ≡ false) decls.now result }
+{
+    if decls.is_empty() || decls[0].file >= file {
+        return 0;
+    }
+    decls.partition_point(|decl| decl.file < file)
+}
+
 // The first declaration of a file, among declarations by file.
 pub fn first_of(decls: &[DeclRef], file: usize) -> Option<DeclRef>
     requires { IsNonDecreasingBy (λ r. r.file) decls.now }
     ensures { result ≡ find (λ r. r.file == file) decls.now }
 {
-    let place = decls.partition_point(|decl| decl.file < file);
+    let place = start_of(decls, file);
     if place >= decls.len() || decls[place].file != file {
         return None;
     }

@@ -64,14 +64,20 @@ impl ScopeChain {
         Ok(ScopeChain { text, lengths })
     }
 
-    // The same scopes in memory of their own.
-    pub fn copy(&self, alloc: Global) -> Result<ScopeChain, AllocError>
-        ensures { IfOk result (λ p. p ≡ self.now) }
+    // The scopes in the body of what has a name and stands here, in memory of their own.
+    pub fn copied_inside(&self, alloc: Global, name: &str) -> Result<ScopeChain, AllocError>
+        ensures { IfOk result (λ p. p ≡ joined (slice_index_or self.now 0 []) name.now ∷ self.now) }
     {
-        Ok(ScopeChain {
-            text: String::from_str(alloc, self.text.as_str())?,
-            lengths: Items::from_slice(alloc, self.lengths.as_slice())?,
-        })
+        let length = self.text.len().saturating_add(name.len());
+        let mut text = String::with_capacity(alloc, length.saturating_add(1))?;
+        text.push_str(self.text.as_str())?;
+        let mut lengths = Vec::with_capacity(alloc, self.lengths.len().saturating_add(1))?;
+        lengths.extend_from_slice(self.lengths.as_slice())?;
+        let copy = ScopeChain {
+            text,
+            lengths: Items::from_vec(lengths),
+        };
+        copy.inside(name)
     }
 
     // How many scopes there are.

@@ -1,10 +1,12 @@
 // The scope in which a name is looked for, and what it means.
-ghost use Rattle.std.specs.Prelude.{◌≡◌, ◌==◌, ◌<◌, length, false, find, All, IfOk, IfSome, Some, option_copied, option_and_then};
-ghost use Rattle.proto_resolve.specs.Files.{decl_at};
+ghost use Rattle.std.specs.Prelude.{◌≡◌, ◌==◌, ◌<◌, length, false, find, All, IfOk, IfSome, Some, option_map, option_and_then};
+ghost use Rattle.proto_resolve.specs.Files.{all_named, decl_at};
 ghost use Rattle.proto_resolve.specs.Holders.{earlier, IsNext};
 ghost use Rattle.file_facts.specs.FullNames.{has_dot};
+ghost use Rattle.file_facts.specs.Text.{joined};
 ghost use Rattle.proto_resolve.specs.declared.target.Target.TheVariants.{Declared};
-ghost use Rattle.proto_resolve.specs.Names.{found, is_type, is_holder, settles, settles_at, first_text, joined_all, texts_of, scope_of, IsThere};
+ghost use Rattle.proto_resolve.specs.Names.{found, first_declared, is_type, is_holder, settles, settles_at, first_text, joined_all, texts_of, scope_of, IsThere};
+ghost use Rattle.proto_resolve.specs.Settled.{IsFirstIn};
 
 use crate::finding::{declared, found};
 use crate::full_names::{joined_all, push_component};
@@ -74,18 +76,6 @@ fn first_text(site: &NameSite) -> &str
     }
 }
 
-// How many bytes the full name of the first component has in any of the scopes, at most.
-fn most_in_scopes(site: &NameSite) -> usize {
-    let scopes = site.scopes.place();
-    if scopes.len() == 0 {
-        return 0;
-    }
-    let innermost = scopes.get(0).len();
-    innermost
-        .saturating_add(first_text(site).len())
-        .saturating_add(1)
-}
-
 fn earlier(a: Option<usize>, b: Option<usize>) -> Option<usize>
     ensures { result ≡ earlier a b }
 {
@@ -105,6 +95,20 @@ const MOST_SCOPES: usize = 64;
 // To look a name up takes about as long as to look at the packages of so many files.
 const FILES_PER_LOOKUP: usize = 4;
 
+// A scope that settles a name, and the declaration that the name's first component means there, where one was looked for and found.
+#[derive(Clone, Copy)]
+pub(crate) struct SettledScope<'s> {
+    pub(crate) scope: &'s str,
+    pub(crate) first: Option<DeclRef>,
+}
+
+// Whether a scope settles a name, and the declaration that the name's first component means there.
+#[derive(Clone, Copy)]
+struct Settling {
+    settles: bool,
+    first: Option<DeclRef>,
+}
+
 impl<I: Index> Resolver<'_, I> {
     // Whether a scope settles a name. The full name of the first component is written over `name`.
     fn settles_at(
@@ -112,36 +116,49 @@ impl<I: Index> Resolver<'_, I> {
         site: &NameSite,
         scope: &str,
         name: &mut String,
-    ) -> Result<bool, AllocError>
-        ensures { IfOk result (λ r. r ≡ settles_at (I.files self.now.index.now) self.now.view.now.file self.now.view.now.files site.now scope.now) }
+    ) -> Result<Settling, AllocError>
+        ensures value { IfOk result (λ r. r.settles ≡ settles_at (I.files self.now.index.now) self.now.view.now.file self.now.view.now.files site.now scope.now) }
+        ensures first { IfOk result (λ r. r.first ≡ first_declared self.now.view.now.file self.now.view.now.files (all_named (I.files self.now.index.now) (joined scope.now (first_text site.now)))) }
+        ensures within { IfOk result (λ r. IfSome r.first (λ d. d.file < length (I.files self.now.index.now))) }
     {
         name.clear();
         name.push_str(scope)?;
         push_component(name, first_text(site))?;
         let is_alone = site.components.len() == 1;
-        Ok(match declared(self.index, self.view, name.as_str()) {
+        let first = declared(self.index, self.view, name.as_str());
+        let settles = match first {
             Some(decl) => settles(self.index, is_alone, decl),
             None => !is_alone && sees_package(self.index, self.view, unsplit(name.as_bytes())),
-        })
+        };
+        Ok(Settling { settles, first })
     }
 
-    // The innermost scope that settles a name: where its first component is found as what ends the search.
-    pub fn scope_of<'s>(&self, site: &'s NameSite) -> Result<Option<&'s str>, AllocError>
-        ensures { IfOk result (λ r. option_copied r ≡ scope_of (I.files self.now.index.now) self.now.view.now.file self.now.view.now.files site.now) }
+    // The innermost scope that settles a name: where its first component is found as what ends the search. Full names that are looked up are
+    // written over `name`.
+    pub fn scope_of<'s>(
+        &self,
+        site: &'s NameSite,
+        name: &mut String,
+    ) -> Result<Option<SettledScope<'s>>, AllocError>
+        ensures scope { IfOk result (λ r. option_map (λ s. s.scope.now) r ≡ scope_of (I.files self.now.index.now) self.now.view.now.file self.now.view.now.files site.now) }
+        ensures first { IfOk result (λ r. IfSome r (λ s. IsFirstIn (I.files self.now.index.now) self.now.view.now site.now s.scope.now s.first)) }
     {
         if site.is_absolute {
-            return Ok(Some(""));
+            return Ok(Some(SettledScope {
+                scope: "",
+                first: None,
+            }));
         }
         let scopes = site.scopes.place();
-        let mut name = String::with_capacity(self.alloc, most_in_scopes(site))?;
         let mut number = 0;
         while number < scopes.len() {
             match self.next_scope(site, number) {
                 None => return Ok(None),
                 Some(next) => {
                     let scope = scopes.get(next);
-                    if self.settles_at(site, scope, &mut name)? {
-                        return Ok(Some(scope));
+                    let Settling { settles, first } = self.settles_at(site, scope, name)?;
+                    if settles {
+                        return Ok(Some(SettledScope { scope, first }));
                     }
                     number = next + 1;
                 }
@@ -178,18 +195,35 @@ impl<I: Index> Resolver<'_, I> {
     // What a name means, if anything, where this is its scope.
     pub fn meaning_in(
         &self,
-        scope: Option<&str>,
+        settled: Option<SettledScope<'_>>,
         site: &NameSite,
     ) -> Result<Option<Target>, AllocError>
-        ensures value { IfOk result (λ r. r ≡ option_and_then (λ s. found (I.files self.now.index.now) self.now.view.now.file self.now.view.now.files (joined_all s (texts_of site.now))) (option_copied scope.entry)) }
+        requires { IfSome settled (λ s. IsFirstIn (I.files self.now.index.now) self.now.view.now site.now s.scope.now s.first) }
+        ensures value { IfOk result (λ r. r ≡ option_and_then (λ s. found (I.files self.now.index.now) self.now.view.now.file self.now.view.now.files (joined_all s (texts_of site.now))) (option_map (λ s. s.scope.now) settled.entry)) }
         ensures within { IfOk result (λ r. IfSome r (IsThere (I.files self.now.index.now))) }
     {
-        match scope {
+        match settled {
             None => Ok(None),
-            Some(scope) => {
-                let target = self.found_in(scope, site)?;
+            Some(settled) => {
+                let target = self.meaning_at(settled, site)?;
                 Ok(target)
             }
+        }
+    }
+
+    // The same where there is a scope. What an only component means there is known.
+    fn meaning_at(
+        &self,
+        settled: SettledScope<'_>,
+        site: &NameSite,
+    ) -> Result<Option<Target>, AllocError>
+        requires { IsFirstIn (I.files self.now.index.now) self.now.view.now site.now settled.scope.now settled.first }
+        ensures value { IfOk result (λ r. r ≡ found (I.files self.now.index.now) self.now.view.now.file self.now.view.now.files (joined_all settled.entry.scope.now (texts_of site.now))) }
+        ensures within { IfOk result (λ r. IfSome r (IsThere (I.files self.now.index.now))) }
+    {
+        match settled.first {
+            Some(decl) if site.components.len() == 1 => Ok(Some(Target::Declared(decl))),
+            _ => self.found_in(settled.scope, site),
         }
     }
 

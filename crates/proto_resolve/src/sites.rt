@@ -27,8 +27,8 @@ fn components(alloc: Global, text: &str, spans: &[Span]) -> Result<Items<Compone
 fn inner(alloc: Global, text: &str, name: Span, scopes: &Scopes) -> Result<Scopes, AllocError>
     ensures { IfOk result (λ found. found ≡ spec.inner text.now name scopes.now) }
 {
-    let place = scopes.place().copy(alloc)?;
-    Scopes::of(alloc, place.inside(text_at(text, name))?)
+    let place = scopes.place().copied_inside(alloc, text_at(text, name))?;
+    Scopes::of(alloc, place)
 }
 
 fn site(

@@ -54,8 +54,9 @@ pub fn resolve_names<I: Index>(
         diagnostics: Items::new(alloc),
     };
     let resolver = Resolver { alloc, index, view };
+    let mut room = String::new(alloc);
     for (number, site) in sites.iter().enumerate() {
-        resolver.push_name(number, site, &mut names)?;
+        resolver.push_name(number, site, &mut room, &mut names)?;
     }
     Ok(names)
 }
@@ -69,25 +70,26 @@ struct ScopedName<'a> {
 }
 
 impl<I: Index> Resolver<'_, I> {
-    // Adds the uses of a name, and what is wrong with what it means.
+    // Adds the uses of a name, and what is wrong with what it means. What the room holds is written over.
     fn push_name(
         &self,
         number: usize,
         site: &NameSite,
+        room: &mut String,
         names: &mut ResolvedNames,
     ) -> Result<(), AllocError>
         ensures uses { OnOk result (names.new.uses ≡ names.old.uses ++ uses_of (I.files self.now.index.now) self.now.view.now.file self.now.view.now.files number site.now) }
         ensures diagnostics { OnOk result (names.new.diagnostics ≡ names.old.diagnostics ++ name_diagnostics (I.files self.now.index.now) self.now.view.now.file self.now.view.now.files site.now) }
     {
-        let scope = self.scope_of(site)?;
-        let target = self.meaning_in(scope, site)?;
+        let settled = self.scope_of(site, room)?;
+        let target = self.meaning_in(settled, site)?;
         push_name_diagnostic(self.index, site, &target, &mut names.diagnostics)?;
-        match (scope, target) {
-            (Some(scope), Some(target)) => {
+        match (settled, target) {
+            (Some(settled), Some(target)) => {
                 let components = site.components.as_slice();
                 let name = ScopedName {
                     number,
-                    scope,
+                    scope: settled.scope,
                     components,
                 };
                 self.push_uses(name, target, &mut names.uses)
@@ -133,6 +135,9 @@ impl<I: Index> Resolver<'_, I> {
     ) -> Result<(), AllocError>
         ensures { OnOk result (uses.new ≡ uses.old ++ uses_in (I.files self.now.index.now) self.now.view.now.file self.now.view.now.files name.entry.number name.entry.scope.now name.entry.components.now) }
     {
+        if name.components.is_empty() {
+            return Ok(());
+        }
         let len = joined_len(name.scope, name.components);
         let mut full_name = String::with_capacity(self.alloc, len)?;
         full_name.push_str(name.scope)?;

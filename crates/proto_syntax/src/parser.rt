@@ -1,15 +1,14 @@
 // The tree of a whole text.
-ghost use Rattle.std.specs.Prelude.{◌≡◌, ◌++◌, [], All, IfOk, OnOk, length};
+ghost use Rattle.std.specs.Prelude.{◌≡◌, [], All, IfOk, length};
 ghost use Rattle.proto_lex.specs.Tokens as lexer;
 ghost use Rattle.syntax_tree.specs.Lexeme.{IsWithin};
-ghost use Rattle.syntax_tree.specs.Lexeme as words;
 ghost use Rattle.syntax_tree.specs.Read as spec;
 ghost use Rattle.syntax_tree.specs.declared.lexeme.Body.TheVariants as b;
 
 use crate::read::{BodyReader, body_tree};
-use crate::scan::lexemes;
+use crate::scan::{lexemes, text_lexemes};
 use crate::skips::Matched;
-use proto_lex::{Token, lex, ordered_tokens};
+use proto_lex::{Token, ordered_tokens};
 use sqlite_items::Items;
 use std::alloc::{AllocError, Global};
 use syntax_tree::{Body, Fault, FileTree, Lexeme};
@@ -36,46 +35,18 @@ pub fn parse(alloc: Global, text: &str, tokens: &[Token]) -> Result<FileTree, Al
 
 /// The tree of a text: what `lex` and `parse` give of it together.
 ///
-/// It takes less memory than the two, since the tokens are let go before the tree grows.
+/// It takes less memory than the two, since no list of tokens is made.
 ///
 /// # Errors
 ///
-/// `AllocError` where the tokens or the tree can't grow. The text stays as it is, so the call may be made again.
+/// `AllocError` where the tree can't grow. The text stays as it is, so the call may be made again.
 #[tactic(auto, unfolding(syntax_tree::specs::Read::read, syntax_tree::specs::Read::tree_of))]
 pub fn parse_text(alloc: Global, text: &str) -> Result<FileTree, AllocError>
     ensures { IfOk result (λ tree. tree ≡ spec.read text.now) }
 {
     let mut faults = Items::new(alloc);
-    let lexemes = lexemes_of(alloc, text, &mut faults)?;
+    let lexemes = text_lexemes(alloc, text.as_bytes(), &mut faults)?;
     lexeme_tree(alloc, lexemes.as_slice(), faults)
-}
-
-// The lexemes of a text. The bad tokens become faults.
-fn lexemes_of(
-    alloc: Global,
-    text: &str,
-    faults: &mut Items<Fault>,
-) -> Result<Vec<Lexeme>, AllocError>
-    ensures lexemes { IfOk result (λ found. found.items ≡ words.lexemes text.now (lexer.tokens text.now)) }
-    ensures faults { OnOk result (faults.new ≡ faults.old ++ spec.bad_tokens (lexer.tokens text.now)) }
-{
-    let tokens = lex(alloc, text)?;
-    ordered_tokens();
-    text_lexemes(alloc, text, tokens.as_slice(), faults)
-}
-
-// The lexemes of a text and of tokens that lie in it. The bad tokens become faults.
-fn text_lexemes(
-    alloc: Global,
-    text: &str,
-    tokens: &[Token],
-    faults: &mut Items<Fault>,
-) -> Result<Vec<Lexeme>, AllocError>
-    requires { All (IsWithin (length text.now)) tokens.now }
-    ensures lexemes { IfOk result (λ found. found.items ≡ words.lexemes text.now tokens.now) }
-    ensures faults { OnOk result (faults.new ≡ faults.old ++ spec.bad_tokens tokens.now) }
-{
-    lexemes(alloc, text.as_bytes(), tokens, faults)
 }
 
 // The tree of a text and of tokens that lie in it.
@@ -85,7 +56,7 @@ fn tree_of(alloc: Global, text: &str, tokens: &[Token]) -> Result<FileTree, Allo
     ensures { IfOk result (λ tree. tree ≡ spec.tree_of text.now tokens.now) }
 {
     let mut faults = Items::new(alloc);
-    let lexemes = text_lexemes(alloc, text, tokens, &mut faults)?;
+    let lexemes = lexemes(alloc, text.as_bytes(), tokens, &mut faults)?;
     lexeme_tree(alloc, lexemes.as_slice(), faults)
 }
 

@@ -3,10 +3,11 @@
 ghost use Rattle.std.specs.Prelude.{◌≡◌, ◌≤◌, ◌<◌, ◌∷◌, [], ◌++◌, ◌==◌, length, All, IfOk, OnOk};
 ghost use Rattle.std.specs.List.{list_any};
 ghost use Rattle.std.specs.Str.{bytes_eq};
+ghost use Rattle.proto_lex.specs.Tokens.{tokens};
 ghost use Rattle.syntax_tree.specs.Lexeme as spec;
 ghost use Rattle.syntax_tree.specs.Read as tree;
 
-use proto_lex::{Kind, Token};
+use proto_lex::{Kind, Token, first_offset, next_token};
 use sqlite_items::Items;
 use std::alloc::{AllocError, Global};
 use syntax_tree::{Fault, Lexeme, Span, SyntaxProblem, Word};
@@ -182,6 +183,24 @@ pub fn lexemes(
     let mut found = Vec::with_capacity(alloc, tokens.len())?;
     'tokens: for token in tokens {
         take_token(text, *token, &mut found, faults)?;
+    }
+    Ok(found)
+}
+
+// The lexemes of a text and of all its tokens, which are taken one by one. The bad ones become faults.
+pub fn text_lexemes(
+    alloc: Global,
+    text: &[u8],
+    faults: &mut Items<Fault>,
+) -> Result<Vec<Lexeme>, AllocError>
+    ensures lexemes { IfOk result (λ found. found.items ≡ spec.lexemes text.now (tokens text.now)) }
+    ensures faults { OnOk result (faults.new ≡ faults.old ++ tree.bad_tokens (tokens text.now)) }
+{
+    let mut found = Vec::new(alloc);
+    let mut at = first_offset(text);
+    while let Some(token) = next_token(text, at) {
+        take_token(text, token, &mut found, faults)?;
+        at = token.end;
     }
     Ok(found)
 }

@@ -3,9 +3,8 @@
 use crate::failure::Failure;
 use lsp_session::{Config, DiskFile};
 use program_options::root_url;
-use proto_folder::{FoundFile, TextReader, read_folder};
+use proto_folder::{FolderReader, FoundFile, read_folder};
 use std::alloc::{AllocError, Global};
-use std::rt::Files;
 use std::thread::Threads;
 
 // Adds the files that were found below the root with this number.
@@ -21,7 +20,7 @@ fn add_found(
 }
 
 // Adds the files of the folder at a path, which is the root with this number. So many threads read them.
-fn add_files<'d, R: Files + TextReader + Eprint + AllocGlobal + Threads>(
+fn add_files<'d, R: FolderReader + Eprint + AllocGlobal + Threads>(
     rt: &R,
     files: &mut Vec<DiskFile>,
     root: usize,
@@ -55,7 +54,7 @@ fn roots_of(alloc: Global, dirs: &[&str]) -> Result<Vec<String>, AllocError> {
 
 // What a session is started with: the folders as its roots, and the files below them, which so many threads read. With no folder
 // no file is read.
-pub(crate) fn configuration<'d, R: Files + TextReader + Eprint + AllocGlobal + Threads>(
+pub(crate) fn configuration<'d, R: FolderReader + Eprint + AllocGlobal + Threads>(
     rt: &R,
     dirs: &[&'d str],
     threads: u8,
@@ -69,7 +68,7 @@ pub(crate) fn configuration<'d, R: Files + TextReader + Eprint + AllocGlobal + T
 }
 
 // What a check is started with: the files of the folder at a path, which so many threads read, below the root of all paths.
-pub(crate) fn files_of<'d, R: Files + TextReader + Eprint + AllocGlobal + Threads>(
+pub(crate) fn files_of<'d, R: FolderReader + Eprint + AllocGlobal + Threads>(
     rt: &R,
     dir: &'d str,
     threads: u8,

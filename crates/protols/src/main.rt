@@ -12,13 +12,12 @@ use crate::status::{fail, status_of, status_of_check};
 use lsp_frame::{FrameReader, FromRead, ToWrite};
 use lsp_session::{Config, Ended, OpenGate, ServeFault, check, serve};
 use program_options::options;
-use proto_folder::TextReader;
+use proto_folder::FolderReader;
 use std::alloc::Global;
 use std::env::{self, Env};
 use std::io::{self, BufReader, ErrorKind};
 use std::marker::Send;
 use std::process::ExitCode;
-use std::rt::Files;
 use std::sync::{Arc, Wait};
 use std::thread::Threads;
 
@@ -69,8 +68,7 @@ fn serve_editor<
         + Clone
         + Send
         + Drop
-        + Files
-        + TextReader
+        + FolderReader
         + Input
         + Print
         + Eprint
@@ -97,17 +95,7 @@ fn check_with<R: Threads + Wait + Clone + Send + Drop + Print + AllocGlobal + 's
 // Checks the files of the folder. With no folder it is the current one.
 fn check_files<
     'd,
-    R: Threads
-        + Wait
-        + Clone
-        + Send
-        + Drop
-        + Files
-        + TextReader
-        + Print
-        + Eprint
-        + AllocGlobal
-        + 'static,
+    R: Threads + Wait + Clone + Send + Drop + FolderReader + Print + Eprint + AllocGlobal + 'static,
 >(rt: &R, dirs: &[&'d str], workers: u8) -> Result<bool, Failure<'d>> {
     let dir = dirs.first().copied().unwrap_or(".");
     let config = files_of(rt, dir, workers)?;

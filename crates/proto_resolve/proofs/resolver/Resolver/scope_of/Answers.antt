@@ -9,7 +9,7 @@ loop-number-preserved g c =
     let test : List ℕ → Bool = settles_at (g.I.Index.files c.args.self.now.index.now) c.args.self.now.view.now.file c.args.self.now.view.now.files c.args.site.now in
     let next = c.in-Some.ensures in
     let here : c.get-scope.result.now ≡ get_or scopes c.in-Some.next [] = rw c.place-scopes.ensures at c.get-scope.ensures in
-    let fails : test (get_or scopes c.in-Some.next []) ≡ false = rw (← here) (sym c.in_ok-settles_at-in-Some.ensures ∙ c.if-branch.false) in (
+    let fails : test (get_or scopes c.in-Some.next []) ≡ false = rw (← here) (sym c.in_ok-settles-in-Some.ensures.value ∙ c.if-settles.false) in (
       omega (arith, next.1),
       c.loop-number.invariant.1
           ∙ passes_over test scopes [] c.loop-number.number c.in-Some.next next.0 (omega (arith, next.1))
@@ -17,21 +17,21 @@ loop-number-preserved g c =
           ∙ passes_one test scopes [] c.in-Some.next next.1 fails,
     )
 
-pub returns-then-branch : goal.returns-then-branch
-returns-then-branch g c =
+pub returns-then-settles-clause-scope : goal.returns-then-settles-clause-scope
+returns-then-settles-clause-scope g c =
     let scopes : List (List ℕ) = c.args.site.now.scopes in
     let test : List ℕ → Bool = settles_at (g.I.Index.files c.args.self.now.index.now) c.args.self.now.view.now.file c.args.self.now.view.now.files c.args.site.now in
     let next = c.in-Some.ensures in
     let here : c.get-scope.result.now ≡ get_or scopes c.in-Some.next [] = rw c.place-scopes.ensures at c.get-scope.ensures in
-    let holds : test (get_or scopes c.in-Some.next []) ≡ true = rw (← here) (sym c.in_ok-settles_at-in-Some.ensures ∙ c.if-branch.true) in
+    let holds : test (get_or scopes c.in-Some.next []) ≡ true = rw (← here) (sym c.in_ok-settles-in-Some.ensures.value ∙ c.if-settles.true) in
     rw c.if-site.false (ap (λ (s : List ℕ). Some s) here
     ∙ sym (c.loop-number.invariant.1
     ∙ passes_over test scopes [] c.loop-number.number c.in-Some.next next.0 (omega (arith, next.1))
     next.2
     ∙ found_at test scopes [] c.in-Some.next next.1 holds))
 
-pub returns-in-None : goal.returns-in-None
-returns-in-None g c =
+pub returns-in-None-clause-scope : goal.returns-in-None-clause-scope
+returns-in-None-clause-scope g c =
     let scopes : List (List ℕ) = c.args.site.now.scopes in
     let test : List ℕ → Bool = settles_at (g.I.Index.files c.args.self.now.index.now) c.args.self.now.view.now.file c.args.self.now.view.now.files c.args.site.now in
     let none = c.in-None.ensures in

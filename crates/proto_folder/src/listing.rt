@@ -1,0 +1,227 @@
+// The entries of folders.
+
+use crate::fault::FolderFault;
+use crate::found::{Folder, MetFile};
+use crate::reader::{FolderReader, path_in};
+use crate::skipping::Skipped;
+use std::alloc::{AllocError, Global};
+use std::fs::Metadata;
+use std::io::{self, ErrorKind};
+use std::str;
+
+// How many folders may stand in one another below the root.
+pub(crate) const MAX_DEPTH: u32 = 64;
+
+// How many entries may be listed in all, those that are skipped included.
+pub(crate) const MAX_ENTRIES: u32 = 100_000;
+
+// What was found in folders below the folder `dir`, and what ended that, if anything did.
+#[derive(Drop)]
+pub(crate) struct Listing<'d> {
+    alloc: Global,
+    dir: &'d str,
+    pub(crate) files: Vec<MetFile>,
+    // The folders that were met and aren't listed yet.
+    pub(crate) folders: Vec<Folder>,
+    pub(crate) skipped: Vec<Skipped>,
+    // How many entries were met.
+    pub(crate) entries: u32,
+    pub(crate) fault: Option<FolderFault>,
+}
+
+// Leaves a folder out that can't be listed; the root has to be.
+fn skip_unlisted(
+    listing: &mut Listing<'_>,
+    folder: &Folder,
+    error: io::Error,
+) -> Result<(), FolderFault> {
+    if folder.depth == 0 && error.kind() != ErrorKind::OutOfMemory {
+        return Err(FolderFault::Unlisted { error });
+    }
+    skip_unread(listing, folder.path.as_str(), &error)
+}
+
+// Leaves out the entry at a path that can't be read.
+fn skip_unread(
+    listing: &mut Listing<'_>,
+    path: &str,
+    error: &io::Error,
+) -> Result<(), FolderFault> {
+    let skipped = Skipped::unread(listing.alloc, path, error)?;
+    Ok(listing.skipped.push(skipped)?)
+}
+
+// Leaves out the entry at a path for a reason.
+fn skip(listing: &mut Listing<'_>, path: &str, reason: &str) -> Result<(), FolderFault> {
+    let skipped = Skipped::of(listing.alloc, path, reason)?;
+    Ok(listing.skipped.push(skipped)?)
+}
+
+// Leaves out the entry of a folder whose name isn't UTF-8.
+fn skip_named(listing: &mut Listing<'_>, folder: &Folder, name: &[u8]) -> Result<(), FolderFault> {
+    let skipped = Skipped::named(listing.alloc, folder.path.as_str(), name)?;
+    Ok(listing.skipped.push(skipped)?)
+}
+
+// Keeps a folder that was met, to be listed later.
+fn add_folder(listing: &mut Listing<'_>, holder: &Folder, path: String) -> Result<(), FolderFault> {
+    if holder.depth >= MAX_DEPTH {
+        return Err(FolderFault::TooDeep);
+    }
+    let depth = holder.depth + 1;
+    Ok(listing.folders.push(Folder { path, depth })?)
+}
+
+// Keeps what was met at a path, if it is a folder or a `.proto` file. Symbolic links aren't followed. What ends in `.proto` and is neither
+// a file nor a folder, as a pipe or a socket, can't be read.
+fn add_found(
+    listing: &mut Listing<'_>,
+    folder: &Folder,
+    path: String,
+    found: &Metadata,
+) -> Result<(), FolderFault> {
+    if found.is_dir() {
+        return add_folder(listing, folder, path);
+    }
+    if found.is_symlink() || !path.as_str().ends_with(".proto") {
+        return Ok(());
+    }
+    if !found.is_file() {
+        return skip(listing, path.as_str(), "neither a file nor a folder");
+    }
+    let length = found.len();
+    Ok(listing.files.push(MetFile { path, length })?)
+}
+
+// Looks at the entry of a folder that has this name.
+fn add_named<F: FolderReader>(
+    reader: &F,
+    listing: &mut Listing<'_>,
+    folder: &Folder,
+    name: &str,
+) -> Result<(), FolderFault> {
+    let path = path_in(listing.alloc, folder.path.as_str(), name)?;
+    let place = path_in(listing.alloc, listing.dir, path.as_str())?;
+    match reader.look_at(place.as_str()) {
+        Ok(found) => add_found(listing, folder, path, &found),
+        Err(error) => skip_unread(listing, path.as_str(), &error),
+    }
+}
+
+// Counts an entry of a folder, and looks at it unless its name begins with `.`. A name that isn't UTF-8 can't be in a
+// path, so nothing more can be known of its entry.
+fn add_entry<F: FolderReader>(
+    reader: &F,
+    listing: &mut Listing<'_>,
+    folder: &Folder,
+    name: &[u8],
+) -> Result<(), FolderFault> {
+    if listing.entries >= MAX_ENTRIES {
+        return Err(FolderFault::TooManyEntries);
+    }
+    listing.entries += 1;
+    if name.starts_with(b".") {
+        return Ok(());
+    }
+    match str::from_utf8(name) {
+        Ok(name) => add_named(reader, listing, folder, name),
+        Err(_) => skip_named(listing, folder, name),
+    }
+}
+
+// Whether a name of a listing is one of an entry: each listing has the names of the folder itself and of its holder, and nothing behind
+// the last byte 0.
+fn is_entry(name: &[u8]) -> bool {
+    !name.is_empty() && name != b".".as_slice() && name != b"..".as_slice()
+}
+
+// Takes the entries of a listing. The names are read as bytes, since not each of them has to be UTF-8.
+fn add_entries<F: FolderReader>(
+    reader: &F,
+    listing: &mut Listing<'_>,
+    folder: &Folder,
+    names: &[u8],
+) -> Result<(), FolderFault> {
+    for name in names.split(|byte| *byte == 0) {
+        if is_entry(name) {
+            add_entry(reader, listing, folder, name)?;
+        }
+    }
+    Ok(())
+}
+
+// Lists a folder.
+fn list<F: FolderReader>(
+    reader: &F,
+    listing: &mut Listing<'_>,
+    folder: &Folder,
+) -> Result<(), FolderFault> {
+    // The root's place ends with a slash, so that a symbolic link is followed there, and only there.
+    let place = path_in(listing.alloc, listing.dir, folder.path.as_str())?;
+    let mut names = Vec::new(listing.alloc);
+    let ended = reader.add_names(place.as_str(), &mut names);
+    add_entries(reader, listing, folder, names.as_slice())?;
+    match ended {
+        Ok(()) => Ok(()),
+        Err(error) => skip_unlisted(listing, folder, error),
+    }
+}
+
+fn list_each<F: FolderReader>(
+    reader: &F,
+    listing: &mut Listing<'_>,
+    folders: &[Folder],
+) -> Result<(), FolderFault> {
+    for folder in folders {
+        list(reader, listing, folder)?;
+    }
+    Ok(())
+}
+
+impl<'d> Listing<'d> {
+    // Nothing yet.
+    pub(crate) fn new(alloc: Global, dir: &'d str) -> Listing<'d> {
+        Listing {
+            alloc,
+            dir,
+            files: Vec::new(alloc),
+            folders: Vec::new(alloc),
+            skipped: Vec::new(alloc),
+            entries: 0,
+            fault: None,
+        }
+    }
+
+    // Adds what another listing has found. The first fault stays.
+    pub(crate) fn add(&mut self, other: Listing<'_>) -> Result<(), AllocError> {
+        let Listing {
+            mut files,
+            mut folders,
+            mut skipped,
+            entries,
+            fault,
+            ..
+        } = other;
+        self.files.append(&mut files)?;
+        self.folders.append(&mut folders)?;
+        self.skipped.append(&mut skipped)?;
+        self.entries = self.entries.saturating_add(entries);
+        if self.fault.is_none() {
+            self.fault = fault;
+        }
+        Ok(())
+    }
+}
+
+// Lists folders below the folder `dir`: the work of one thread. A fault ends it.
+pub(crate) fn list_run<'d, F: FolderReader>(
+    reader: &F,
+    alloc: Global,
+    dir: &'d str,
+    folders: &[Folder],
+) -> Listing<'d> {
+    let mut listing = Listing::new(alloc, dir);
+    let ended = list_each(reader, &mut listing, folders);
+    listing.fault = ended.err();
+    listing
+}
