@@ -13,6 +13,9 @@ PROGRAM = pathlib.Path(os.environ.get("PROTOLS", ROOT / "crates/protols/out/prot
 LIMIT = 60
 CHECK_LIMIT = 120
 
+# The most bytes of a reply that are read at once.
+PIECE = 1 << 20
+
 # The numbers of workers that the tests try, besides the default.
 NUMBERS = (1, 3, 4, 64)
 
@@ -120,10 +123,10 @@ class Server:
         digits = header.removeprefix(b"Content-Length: ").removesuffix(SEPARATOR)
         if not digits.isdigit():
             raise AssertionError(f"not the header of a frame: {header!r}")
-        body = b""
+        body = bytearray()
         while len(body) < int(digits):
-            body += self._read(int(digits) - len(body), deadline)
-        return body
+            body += self._read(min(int(digits) - len(body), PIECE), deadline)
+        return bytes(body)
 
     def is_silent(self, seconds):
         """Whether nothing, not even the end of the output, comes for that long."""

@@ -349,9 +349,9 @@ class Read(unittest.TestCase):
     def test_types(self):
         source = rattle_source.Source(
             "src/lib.rt",
-            "use a::Inner;\n#[derive(Drop)]\nstruct Hidden {\n    of: Inner,\n}\npub struct Seen(u8);\npub(crate) enum Kind { One }\nstruct Unit;\npub fn last() { }\n",
+            "use a::Inner;\n#[derive(Drop)]\nstruct Hidden {\n    of: Inner,\n}\npub struct Seen(u8);\npub(crate) enum Kind { One }\nstruct Unit;\nconst ONE: usize = 1;\npub fn last() { }\n",
         )
-        self.assertEqual(sorted(source.types), ["Hidden", "Kind", "Unit"])
+        self.assertEqual(sorted(source.types), ["Hidden", "Kind", "ONE", "Unit"])
         self.assertEqual(source.hidden_types()["Hidden"], ["#", "[", "derive", "(", "Drop", ")", "]", "struct", "Hidden", "{", "of", ":", "Inner", ",", "}", "a", ":", ":", "Inner"])
         self.assertEqual(source.types["Kind"][:4], ["pub", "(", "crate", ")"])
         self.assertEqual(source.words_beside(), ["pub", "struct", "Seen", "(", "u8", ")", ";"])

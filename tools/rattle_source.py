@@ -236,6 +236,15 @@ class Reader:
         self.at, self.pending = end + 1, []
 
 
+# What no other crate can name unless it is `pub`.
+HIDDEN = ("struct", "enum", "union", "const", "static")
+
+
+def is_item(words, after):
+    """Whether an item begins behind these words, whose keyword this token follows: no `const` parameter, and no function."""
+    return after != ("Code", "fn") and (not words or words[-1] in ("{", "}", ";", "]", ")"))
+
+
 def begin_of_item(words):
     """Where an item begins behind these words: with its attributes, or with `pub(crate)`."""
     begin = len(words) - 4 if words[-4:] == ["pub", "(", "crate", ")"] else len(words)
@@ -313,9 +322,9 @@ class Source:
         return self.with_imports([*self.words_within(function.start, function.body[1]), *more])
 
     def beside(self):
-        """Its tokens without the functions that are called by their names alone, without the bodies that no caller sees, without the types that no
-        other crate can name, without what it only imports or hands on, and without the modules that it names; the tokens of each of those types by
-        its name; the imports; and what it hands on by `pub use`."""
+        """Its tokens without the functions that are called by their names alone, without the bodies that no caller sees, without the types and constants
+        that no other crate can name, without what it only imports or hands on, and without the modules that it names; the tokens of each of those types
+        and constants by its name; the imports; and what it hands on by `pub use`."""
         if self.functions is None:
             return self.words(), {}, [], []
         hidden = [(it.start if it.is_named else it.body[0], it.body[1]) for it in self.functions if it.is_plain]
@@ -332,7 +341,7 @@ class Source:
             elif kind == "Code" and text == "mod" and tokens[at + 2 : at + 3] == [("Code", ";")]:
                 words = words[: begin_of_item(words[:-1] if words[-1:] == ["pub"] else words)]
                 at += 3
-            elif kind == "Code" and text in ("struct", "enum", "union") and words[-1:] != ["pub"]:
+            elif kind == "Code" and text in HIDDEN and words[-1:] != ["pub"] and is_item(words, tokens[at + 1]):
                 begin, end = begin_of_item(words), end_of_item(tokens, at)
                 types[tokens[at + 1][1]] = [*words[begin:], *(it for _, it in tokens[at:end])]
                 words, at = words[:begin], end

@@ -8,7 +8,7 @@ use crate::text::Source;
 use file_facts::{Decl, DeclKind, FullName, ScopeName, text_at};
 use sqlite_items::Items;
 use std::alloc::AllocError;
-use syntax_tree::{Node, Span};
+use syntax_tree::{Node, Span, make_room};
 
 // Where a statement stands, and so what it declares there.
 #[derive(Clone, Copy)]
@@ -60,6 +60,7 @@ fn add_own(
 ) -> Result<(), AllocError>
     ensures { OnOk result (found.new ≡ found.old ++ spec.declared place.entry.source.text.now kind name place.entry.scope.now place.entry.parent ∷ []) }
 {
+    make_room(place.source.alloc, found.len());
     found.push(declared(kind, name, place)?)
 }
 
@@ -81,6 +82,7 @@ fn add_scope(
     let own = found.len();
     let decl = declared(kind, name, place)?;
     let inner = decl.full_name.to_scope(place.source.alloc)?;
+    make_room(place.source.alloc, own);
     found.push(decl)?;
     let inside = Enclosing {
         source: place.source,

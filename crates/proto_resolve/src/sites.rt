@@ -8,7 +8,7 @@ use crate::site::{Component, NameSite, Needs};
 use file_facts::{FileFacts, PackageFact, SyntaxFact, text_at};
 use sqlite_items::Items;
 use std::alloc::{AllocError, Global};
-use syntax_tree::{Node, Span, TypeName};
+use syntax_tree::{Node, Span, TypeName, make_room};
 
 fn components(alloc: Global, text: &str, spans: &[Span]) -> Result<Items<Component>, AllocError>
     ensures { IfOk result (λ cs. cs ≡ map (spec.component text.now) spans.now) }
@@ -93,6 +93,7 @@ fn push_type(
     if is_scalar(text, name) {
         return Ok(());
     }
+    make_room(alloc, found.len());
     found.push(site(alloc, text, Needs::MessageOrEnum, name, scopes)?)
 }
 

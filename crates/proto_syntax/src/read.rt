@@ -12,7 +12,7 @@ use crate::parts::span_of;
 use crate::skips::{Matched, skips};
 use sqlite_items::{Boxed, Items};
 use std::alloc::{AllocError, Global};
-use syntax_tree::{Body, Fault, Header, Lexeme, Node, Span, SyntaxProblem, Word};
+use syntax_tree::{Body, Fault, Header, Lexeme, Node, Span, SyntaxProblem, Word, make_room};
 
 // How many tokens a statement and a block may be expected to have.
 const TOKENS_OF_A_STATEMENT: usize = 7;
@@ -103,7 +103,10 @@ fn statement_tree(
     ensures faults { OnOk result (faults.new ≡ faults.old ++ (spec.statement_tree item.now (forms.statement body item.now)).faults) }
 {
     match statement(alloc, body, item)? {
-        Some(node) => nodes.push(node),
+        Some(node) => {
+            make_room(alloc, nodes.len());
+            nodes.push(node)
+        }
         None => bad(SyntaxProblem::NotUnderstood, item, faults),
     }
 }
@@ -195,6 +198,7 @@ fn form_tree(
                 ..reader
             };
             let items = body_tree(inside, inner, faults)?;
+            make_room(reader.alloc, nodes.len());
             nodes.push(block_node(reader.alloc, span_of(item.tokens), header, items)?)
         }
     }

@@ -9,6 +9,7 @@
 mod lexeme;
 mod limit;
 mod node;
+mod room;
 
 pub use lexeme::{Body, Lexeme, Word};
 pub use limit::is_too_long;
@@ -16,3 +17,4 @@ pub use node::{
     Fault, Field, FileTree, Header, Literal, MapField, Node, Number, RangeEnd, ReservedList,
     ReservedRange, Span, SyntaxProblem, TypeName,
 };
+pub use room::make_room;
