@@ -12,11 +12,13 @@ file. Its verdict is
   UNPROVED     the crate itself isn't proved, so nothing was tried
 
 What is refused is kept in crates/NAME/wrong-bodies/verdicts.json, under a sum of all that it rests on: the edit, the edited function with its own
-proof files, what each function promises whose name stands in one of these, the crate's definitions and lemmas and all else of its sources but for
-functions, the same of the crates below it (of definitions those that it cites) and the kit's logic. Bodies of other functions don't count, but for
-those that a caller sees. An edit of anything but one body rests on the whole crate. Comments, layout and an edit's description don't count. What is
-current isn't tried again; --anew tries all. --must-fail takes the edits of must-fail/ in the same way, and keeps their verdicts in the crate's out/. --alone tries each edit in a check of its own. --gate, right after an `rt ci` that
-passed, takes the libraries as that has built them, whose statements alone are read, and also fails where verdicts.json names an edit that isn't there.
+proof files, what each function promises whose name stands in one of these, the private types and constants that they name, the crate's definitions
+and lemmas and all else of its sources but for functions, the same of the crates below it (of definitions those that it cites) and the kit's logic.
+Bodies of other functions don't count, but for those that a caller sees; nor do imports of names that nothing of this has. An edit of anything but
+one body rests on the whole crate. Comments, layout and an edit's description don't count. What is current isn't tried again; --anew tries all.
+--must-fail takes the edits of must-fail/ in the same way, and keeps their verdicts in the crate's out/. --alone tries each edit in a check of its
+own. --gate, right after an `rt ci` that passed, takes the libraries as that has built them, whose statements alone are read, and also fails where
+verdicts.json names an edit that isn't there.
 
 The status is 0 if each edit is refused, else 1. The last line is `N refused, M not; ..`.
 
