@@ -107,6 +107,21 @@ fn push_import_diagnostic<I: Index>(
     }
 }
 
+// What is wrong with the imports of a file.
+pub fn import_diagnostics<I: Index>(
+    alloc: Global,
+    index: &I,
+    file: usize,
+) -> Result<Items<Diag>, AllocError>
+    requires { file < length (I.files index.now) }
+    ensures { IfOk result (λ d. d ≡ flat_map (spec.import_diagnostics (I.files index.now) file) (enumerate_from 0 (let facts = facts_at (I.files index.now) file in facts.imports))) }
+{
+    let mut found = Items::new(alloc);
+    let imports = index.facts(file).imports.as_slice();
+    push_import_diagnostics(index, file, imports, &mut found)?;
+    Ok(found)
+}
+
 // ---- declarations
 
 // Whether another file of the view has one of the declarations, which are by file. The shorter list is walked.

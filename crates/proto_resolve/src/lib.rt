@@ -10,6 +10,7 @@
 //! diagnostics 401 to 406 is there, and that there is no other.
 #![tactic(auto)]
 
+mod alone;
 mod buckets;
 mod decls;
 mod diagnostic_laws;

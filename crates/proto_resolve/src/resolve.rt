@@ -1,8 +1,10 @@
 // The names of a file, resolved.
 ghost use Rattle.std.specs.Prelude.{◌≡◌, ◌<◌, length, IfOk};
+ghost use Rattle.file_facts.specs.Order.{in_order};
 ghost use Rattle.proto_resolve.specs.Resolved.{resolved};
 
-use crate::diagnostics::view_diagnostics;
+use crate::alone::are_alone;
+use crate::diagnostics::{import_diagnostics, view_diagnostics};
 use crate::index::Index;
 use crate::sites::names_of_file;
 use crate::uses::{NameUse, resolve_names};
@@ -21,6 +23,21 @@ pub struct Links {
     pub diags: Items<Diag>,
 }
 
+// Uses, and diagnostics in order.
+fn ordered_links(
+    alloc: Global,
+    uses: Items<NameUse>,
+    found: &Items<Diag>,
+) -> Result<Links, AllocError>
+    ensures uses { IfOk result (λ l. l.uses ≡ uses) }
+    ensures diags { IfOk result (λ l. l.diags ≡ in_order found.now) }
+{
+    Ok(Links {
+        uses,
+        diags: in_order(alloc, found.as_slice())?,
+    })
+}
+
 /// What the names of a file of the index mean, given its number from 0, its text and its tree: the uses by offset, and the
 /// diagnostics 401 to 406, each once, by start, end, number and words. An `Err` comes only where memory was refused.
 pub fn resolve_file<I: Index>(
@@ -33,13 +50,17 @@ pub fn resolve_file<I: Index>(
     requires { file < length (I.files index.now) }
     ensures { IfOk result (λ l. l ≡ resolved (I.files index.now) file text.now tree.now) }
 {
+    let facts = index.facts(file);
+    let sites = names_of_file(alloc, text, facts, tree.nodes.as_slice())?;
+    // Without an import there is nothing to search.
+    let names_nothing = sites.is_empty() && !facts.imports.is_empty();
+    if names_nothing && are_alone(index, file, facts.decls.as_slice()) {
+        // Nothing depends on what the file sees, so that isn't searched.
+        let found = import_diagnostics(alloc, index, file)?;
+        return ordered_links(alloc, Items::new(alloc), &found);
+    }
     let view = view_of(index, file)?;
-    let sites = names_of_file(alloc, text, index.facts(file), tree.nodes.as_slice())?;
     let names = resolve_names(alloc, index, &view, sites.as_slice())?;
     let found = view_diagnostics(alloc, index, &view, names.diagnostics)?;
-    let diags = in_order(alloc, found.as_slice())?;
-    Ok(Links {
-        uses: fitted(alloc, names.uses)?,
-        diags,
-    })
+    ordered_links(alloc, fitted(alloc, names.uses)?, &found)
 }
