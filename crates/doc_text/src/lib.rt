@@ -26,5 +26,6 @@ pub use laws::{
     positions_in_the_text, positions_past_the_end, ranges_turned_round, round_trips,
 };
 pub use position::{Position, Range};
+pub use scan::offset_of;
 pub use text::Text;
 pub use walk::Walk;

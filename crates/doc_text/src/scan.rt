@@ -128,8 +128,8 @@ fn run_len(text: &[u8], character: u64, encoding: Encoding) -> usize
     at
 }
 
-// The offset of a position.
-pub(crate) fn offset_of(text: &str, position: Position, encoding: Encoding) -> usize
+/// The offset of a position in a text, as [`Text::offset_of`](crate::Text::offset_of) gives it. Takes no memory.
+pub fn offset_of(text: &str, position: Position, encoding: Encoding) -> usize
     ensures value { result ≡ offset_of encoding position text.now }
     ensures boundary { IsCharBoundary text.now result }
 {

@@ -1,4 +1,5 @@
 pub mod Text
+pub mod NameTexts
 pub mod FullNames
 pub mod Numbers
 pub mod Tree

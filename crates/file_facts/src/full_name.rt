@@ -273,7 +273,7 @@ fn of_parts(alloc: Global, scope: &str, last: &str) -> Result<FullName, AllocErr
 {
     Ok(FullName {
         scope: ScopeName::of(alloc, scope)?,
-        last: Name::of(String::from_str(alloc, last)?),
+        last: Name::with_text(alloc, last)?,
     })
 }
 
@@ -298,7 +298,7 @@ impl FullName {
         }
         Ok(FullName {
             scope: scope.another()?,
-            last: Name::of(String::from_str(alloc, name)?),
+            last: Name::with_text(alloc, name)?,
         })
     }
 

@@ -11,7 +11,6 @@ ghost use Rattle.lsp_session.specs.Reports.{uri_of, version_of, report_of, numbe
 ghost use Rattle.lsp_workspace.specs.View.{file_view, files_view};
 
 use crate::diagnostics::placed;
-use doc_text::Text;
 use file_facts::Diag;
 use lsp_queries::report;
 use lsp_rpc::{Diagnostic, DocumentReport};
@@ -35,11 +34,11 @@ pub fn document_diagnostics(
     alloc: Global,
     snapshot: &Snapshot<'_>,
     path: &str,
-    text: &Text,
+    text: &str,
 ) -> Result<Vec<Diagnostic<'static>>, AllocError>
     ensures { IfOk result (λ found. map diagnostic_view found.items ≡ placed text.now (diags_at (analysis snapshot.now) path.now)) }
 {
-    placed(alloc, text.as_str(), diagnostics_at(snapshot, path))
+    placed(alloc, text, diagnostics_at(snapshot, path))
 }
 
 // The URI of the last open of a file, or else that of the path below the root.

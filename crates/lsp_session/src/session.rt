@@ -28,7 +28,7 @@ use crate::answers::{DocumentPlace, Known};
 use crate::phase::Phase;
 use crate::reply::Reply;
 use crate::reports::{document_diagnostics, workspace_reports};
-use doc_text::{Encoding, Text};
+use doc_text::{Encoding, Text, offset_of};
 use lsp_config::Config;
 use lsp_rpc::{
     Diagnostic, DidChangeParams, DidOpenParams, DocumentPosition, DocumentReport, ErrorCode, Id,
@@ -97,7 +97,7 @@ impl Session {
     }
 
     // The text at a path, where it is one of the workspace.
-    fn open_or_disk_text(&self, path: &str) -> Option<&Text>
+    fn open_or_disk_text(&self, path: &str) -> Option<&str>
         ensures { option_map (λ t. t.now) result ≡ text_at path.now (state_of self.now).files }
     {
         files::get(self.workspace.files(), path)?.text()
@@ -250,7 +250,7 @@ impl Session {
     // ---- diagnostics
 
     // What is wrong in the document of a path, which has this text.
-    fn found_in(&self, path: &str, text: &Text) -> Result<Vec<Diagnostic<'static>>, AllocError>
+    fn found_in(&self, path: &str, text: &str) -> Result<Vec<Diagnostic<'static>>, AllocError>
         requires { IsTrue (is_analysed self.now) }
         ensures { IfOk result (λ found. map diagnostic_view found.items ≡ document_diagnostics (state_of self.now).files path.now text.now) }
     {
@@ -327,7 +327,7 @@ impl Session {
         };
         match self.open_or_disk_text(path.as_str()) {
             Some(text) => {
-                let offset = text.offset_of(at.position, Encoding::Utf16);
+                let offset = offset_of(text, at.position, Encoding::Utf16);
                 Ok(Some(DocumentPlace { path, offset }))
             }
             None => Ok(None),

@@ -9,6 +9,7 @@ ghost use Rattle.lsp_workspace.specs.View.{document_view, file_view, files_view}
 
 use crate::disk::DiskFile;
 use doc_text::{Change, Encoding, Text};
+use piece_collector::SharedText;
 use std::alloc::{AllocError, Global};
 use std::collections::BTreeMap;
 
@@ -36,7 +37,7 @@ pub struct FileEntry {
     /// The document that is open there.
     pub document: Option<Document>,
     /// The text that was on disk there at the start, or that was saved last.
-    pub kept: Option<Text>,
+    pub kept: Option<SharedText>,
     /// The URI of the last open.
     pub uri: Option<String>,
 }
@@ -46,14 +47,32 @@ pub type Files = BTreeMap<String, FileEntry>;
 
 impl FileEntry {
     /// The open text, or else the kept one.
-    pub fn text(&self) -> Option<&Text>
+    pub fn text(&self) -> Option<&str>
         ensures { option_map (λ t. t.now) result ≡ text_of (file_view self.now) }
     {
         match &self.document {
-            Some(document) => Some(&document.text),
-            None => self.kept.as_ref(),
+            Some(document) => Some(document.text.as_str()),
+            None => Some(self.kept.as_ref()?.as_str()),
         }
     }
+
+    /// The same text for a board. A kept text is shared, and one that is open is copied. An `Err` comes only where memory was refused.
+    pub fn shared_text(&self, alloc: Global) -> Result<Option<SharedText>, AllocError>
+        ensures { IfOk result (λ text. text ≡ text_of (file_view self.now)) }
+    {
+        match (&self.document, &self.kept) {
+            (Some(document), _) => Ok(Some(copied(alloc, &document.text)?)),
+            (None, Some(kept)) => Ok(Some(kept.another()?)),
+            (None, None) => Ok(None),
+        }
+    }
+}
+
+/// A copy of a text that can have several owners. An `Err` comes only where memory was refused.
+pub fn copied(alloc: Global, text: &Text) -> Result<SharedText, AllocError>
+    ensures { IfOk result (λ copy. copy ≡ text.now) }
+{
+    SharedText::shared(alloc, String::from_str(alloc, text.as_str())?)
 }
 
 /// The files on disk by their paths. Of two files with one path the earlier counts. An `Err` comes only where memory was
@@ -64,7 +83,7 @@ pub fn from_disk(alloc: Global, files: Vec<DiskFile>) -> Result<Files, AllocErro
     let mut files = files;
     let mut found = BTreeMap::new(alloc);
     'files: while let Some(file) = files.pop() {
-        put_disk_file(&mut found, file)?;
+        put_disk_file(alloc, &mut found, file)?;
     }
     Ok(found)
 }
@@ -79,12 +98,12 @@ fn put(files: &mut Files, path: String, file: FileEntry) -> Result<(), AllocErro
 }
 
 // Puts a file on disk under its path, in the place of one that is there.
-fn put_disk_file(files: &mut Files, file: DiskFile) -> Result<(), AllocError>
+fn put_disk_file(alloc: Global, files: &mut Files, file: DiskFile) -> Result<(), AllocError>
     ensures { OnOk result (files_view files.new.entries ≡ with_file (string_bytes file.path) (disk_file (string_bytes file.text)) (files_view files.old.entries)) }
 {
     let entry = FileEntry {
         document: None,
-        kept: Some(Text::new(file.text)),
+        kept: Some(SharedText::shared(alloc, file.text)?),
         uri: None,
     };
     put(files, file.path, entry)
@@ -111,11 +130,18 @@ pub fn is_open(files: &Files, path: &str) -> bool
     document_at(files, path).is_some()
 }
 
-/// The text that is kept for a path.
-pub fn kept_at<'f>(files: &'f Files, path: &str) -> Option<&'f Text>
-    ensures { option_map (λ t. t.now) result ≡ option_and_then (λ f. f.kept) (file_at path.now (files_view files.now.entries)) }
+/// The text that is kept for a path, shared; `None` if none is. Takes no memory. An `Err` comes only where it is shared 2 to the power of 63
+/// times.
+pub fn shared_kept(files: &Files, path: &str) -> Result<Option<SharedText>, AllocError>
+    ensures { IfOk result (λ text. text ≡ option_and_then (λ f. f.kept) (file_at path.now (files_view files.now.entries))) }
 {
-    get(files, path)?.kept.as_ref()
+    let Some(file) = get(files, path) else {
+        return Ok(None);
+    };
+    match &file.kept {
+        Some(kept) => Ok(Some(kept.another()?)),
+        None => Ok(None),
+    }
 }
 
 /// Puts a file without a text at a path where there is none. An `Err` comes only where memory was refused. The texts stay
@@ -217,7 +243,7 @@ fn replace_document(file: &mut FileEntry, document: Document)
 }
 
 /// Keeps a text for the path of a document that is open. Where none is open, nothing changes.
-pub fn keep(files: &mut Files, path: &str, text: Text)
+pub fn keep(files: &mut Files, path: &str, text: SharedText)
     ensures { files_view files.new.entries ≡ with_kept_at path.now text (files_view files.old.entries) }
 {
     match files.get_mut(path) {
@@ -226,7 +252,7 @@ pub fn keep(files: &mut Files, path: &str, text: Text)
     }
 }
 
-fn replace_kept(file: &mut FileEntry, text: Text)
+fn replace_kept(file: &mut FileEntry, text: SharedText)
     ensures { file_view file.new ≡ with_new_kept text (file_view file.old) (file_view file.old).document }
 {
     if file.document.is_some() {

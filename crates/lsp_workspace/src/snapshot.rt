@@ -5,7 +5,6 @@ ghost use Rattle.lsp_workspace.specs.Files.{text_at};
 ghost use Rattle.lsp_workspace.specs.View.{files_view};
 
 use crate::files::{Files, get};
-use doc_text::Text;
 use import_graph::FileNo;
 use std::marker::Model;
 use work_index::Analysis;
@@ -83,14 +82,14 @@ impl<'w> Snapshot<'w> {
             return "";
         };
         match text_at(self.files, path.as_str()) {
-            Some(text) => text.as_str(),
+            Some(text) => text,
             None => "",
         }
     }
 }
 
 // The text at a path, where it is one of the workspace.
-fn text_at<'f>(files: &'f Files, path: &str) -> Option<&'f Text>
+fn text_at<'f>(files: &'f Files, path: &str) -> Option<&'f str>
     ensures { option_map (λ t. t.now) result ≡ text_at path.now (files_view files.now.entries) }
 {
     get(files, path)?.text()

@@ -16,8 +16,7 @@ use crate::files::{self, Document, Edits, FileEntry, Files};
 use crate::known::{Known, analyse, known_after};
 use crate::snapshot::Snapshot;
 use collector_laws::texts_of_events;
-use doc_text::Text;
-use piece_collector::{Board, BoardFault, Job, Piece, Verdict};
+use piece_collector::{Board, BoardFault, Job, Piece, SharedText, Verdict};
 use std::alloc::{AllocError, Global};
 use std::marker::Model;
 use std::sync::Wait;
@@ -58,11 +57,10 @@ fn set_first(
     ensures is_after { OnOk result ((opening : ℕ) (events : List Event) → IsAfter opening board.old events → IsAfter opening board.new (first_events (workspace ((path.now, file_view file.now) ∷ [])) ++ events)) }
     ensures here { board.new.is_lent ≡ false }
 {
-    let Some(text) = file.text() else {
+    let Some(text) = file.shared_text(alloc)? else {
         return Ok(());
     };
-    let copy = String::from_str(alloc, text.as_str())?;
-    board.set_text(String::from_str(alloc, path)?, copy)?;
+    board.set_shared_text(String::from_str(alloc, path)?, text)?;
     Ok(())
 }
 
@@ -85,19 +83,18 @@ fn tell(
     alloc: Global,
     board: &mut Board<FileWork>,
     path: &str,
-    text: Option<&Text>,
+    text: Option<SharedText>,
 ) -> Result<(), BoardFault>
     requires { board.old.is_lent ≡ false }
-    ensures is_after { OnOk result ((opening : ℕ) (events : List Event) → IsAfter opening board.old events → IsAfter opening board.new (text_event path.now (option_map (λ t. t.now) text.entry) ∷ events)) }
-    ensures texts { OnOk result ((q : List ℕ) → known_text q board.new ≡ update bytes_eq (λ p. known_text p board.old) path.now (option_map (λ t. t.now) text.entry) q) }
+    ensures is_after { OnOk result ((opening : ℕ) (events : List Event) → IsAfter opening board.old events → IsAfter opening board.new (text_event path.now text ∷ events)) }
+    ensures texts { OnOk result ((q : List ℕ) → known_text q board.new ≡ update bytes_eq (λ p. known_text p board.old) path.now text q) }
     ensures here { board.new.is_lent ≡ false }
     ensures exhausted { result ≡ Err BoardFault.Exhausted → board.new.last ≡ 18446744073709551615 }
     ensures err { OnErr result (board.new ≡ board.old) }
 {
     match text {
         Some(text) => {
-            let copy = String::from_str(alloc, text.as_str())?;
-            board.set_text(String::from_str(alloc, path)?, copy)?;
+            board.set_shared_text(String::from_str(alloc, path)?, text)?;
         }
         None => {
             board.remove(path);
@@ -148,8 +145,9 @@ impl Workspace {
         ensures exhausted { result ≡ Err BoardFault.Exhausted → (let board = self.new.board in board.last) ≡ 18446744073709551615 }
         ensures err { OnErr result ((self.new.board ≡ self.old.board) × ((q : List ℕ) → text_at q self.new.files ≡ text_at q self.old.files)) }
     {
+        let copy = files::copied(self.alloc, &document.text)?;
         files::make_room(self.alloc, &mut self.files, path)?;
-        tell(self.alloc, &mut self.board, path, Some(&document.text))?;
+        tell(self.alloc, &mut self.board, path, Some(copy))?;
         files::open(&mut self.files, path, uri, document);
         self.known = known_after(self.known.take(), path, true);
         Ok(())
@@ -168,7 +166,8 @@ impl Workspace {
         let Some(document) = files::edited(self.alloc, &self.files, path, edits)? else {
             return Ok(());
         };
-        tell(self.alloc, &mut self.board, path, Some(&document.text))?;
+        let copy = files::copied(self.alloc, &document.text)?;
+        tell(self.alloc, &mut self.board, path, Some(copy))?;
         files::set_document(&mut self.files, path, document);
         self.known = known_after(self.known.take(), path, true);
         Ok(())
@@ -184,7 +183,8 @@ impl Workspace {
         let Some(text) = files::open_text(self.alloc, &self.files, path)? else {
             return Ok(());
         };
-        files::keep(&mut self.files, path, text);
+        let kept = files::copied(self.alloc, &text)?;
+        files::keep(&mut self.files, path, kept);
         Ok(())
     }
 
@@ -201,7 +201,7 @@ impl Workspace {
         if !files::is_open(&self.files, path) {
             return Ok(());
         }
-        let kept = files::kept_at(&self.files, path);
+        let kept = files::shared_kept(&self.files, path)?;
         let stays = kept.is_some();
         tell(self.alloc, &mut self.board, path, kept)?;
         files::close(&mut self.files, path);

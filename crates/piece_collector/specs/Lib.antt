@@ -5,4 +5,5 @@ pub mod History
 pub mod Laws
 pub mod Lending
 pub mod Runs
+pub mod SharedText
 pub mod Views

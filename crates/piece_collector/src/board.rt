@@ -13,6 +13,7 @@ use crate::lent::Lent;
 use crate::piece::{Piece, Work};
 use crate::slot::Slot;
 use crate::slots;
+use crate::text::SharedText;
 use crate::verdict::Verdict;
 use std::alloc::{AllocError, Global};
 use std::collections::{BTreeMap, BTreeSet};
@@ -24,6 +25,8 @@ use std::marker::Model;
 /// until a job for it is given, out until the job fails, and held once a piece is taken, whether it was out or not. A
 /// new text makes it wanted again, whatever became of the job. While the pieces are lent only `take_back` and `is_lent`
 /// may be called.
+///
+/// A text is in memory once: the board, the jobs that it gives and their pieces share it.
 ///
 /// Contracts speak of what was done to a board as a list of events, the latest first. A board that stands for a list
 /// stands after each call for that list and the call's event, unless the call was refused.
@@ -79,6 +82,13 @@ impl<W: Work> Board<W> {
         }
     }
 
+    // Whether no stamp is left.
+    fn is_exhausted(&self) -> bool
+        ensures { IsTrue result ↔ (self.now.last ≡ 18446744073709551615) }
+    {
+        self.last == u64::MAX
+    }
+
     /// Sets the text of a path, which is wanted from then on, also where it had this text before. Gives its stamp: one
     /// more than the last that was given.
     ///
@@ -94,7 +104,27 @@ impl<W: Work> Board<W> {
         ensures exhausted { (result ≡ Err BoardFault.Exhausted) ↔ (self.old.last ≡ 18446744073709551615) }
         ensures err { OnErr result (self.new ≡ self.old) }
     {
-        if self.last == u64::MAX {
+        if self.is_exhausted() {
+            return Err(BoardFault::Exhausted);
+        }
+        let text = SharedText::shared(self.alloc, text)?;
+        self.set_shared_text(path, text)
+    }
+
+    /// Sets the text of a path as [`set_text`](Board::set_text) does, and is refused as that is. The text isn't copied: the board shares it
+    /// with its other owners.
+    pub fn set_shared_text(&mut self, path: String, text: SharedText) -> Result<u64, BoardFault>
+        requires { self.old.is_lent ≡ false }
+        ensures is_after { OnOk result ((opening : ℕ) (events : List Event) → IsAfter opening self.old events → IsAfter opening self.new (SetText (string_bytes path) text ∷ events)) }
+        ensures texts { OnOk result ((q : List ℕ) → known_text q self.new ≡ update bytes_eq (λ p. known_text p self.old) (string_bytes path) (Some text) q) }
+        ensures stamp { IfOk result (λ stamp. (stamp ≡ self.old.last + 1) × (stamp ≡ self.new.last)) }
+        ensures here { self.new.is_lent ≡ false }
+
+        // Only where the last stamp was given is there none left, whatever memory there is.
+        ensures exhausted { (result ≡ Err BoardFault.Exhausted) ↔ (self.old.last ≡ 18446744073709551615) }
+        ensures err { OnErr result (self.new ≡ self.old) }
+    {
+        if self.is_exhausted() {
             return Err(BoardFault::Exhausted);
         }
         let stamp = self.last + 1;

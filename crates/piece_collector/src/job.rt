@@ -1,6 +1,7 @@
 // What a worker is to make a piece of.
 ghost use Rattle.std.specs.Prelude.{◌≡◌, string_bytes};
 
+use crate::text::SharedText;
 use std::marker::Model;
 
 /// A text that is to be worked on, with its path and the stamp that it had.
@@ -8,7 +9,7 @@ use std::marker::Model;
 pub struct Job {
     path: String,
     stamp: u64,
-    text: String,
+    text: SharedText,
 }
 
 impl Model for Job {
@@ -17,13 +18,20 @@ impl Model for Job {
 
     ghost Value = { TextAt };
 
-    ghost view = { λ j. record { path = string_bytes j.path; stamp = j.stamp; text = string_bytes j.text } };
+    ghost view = { λ j. record { path = string_bytes j.path; stamp = j.stamp; text = j.text } };
 }
 
 impl Job {
     /// The job of this path, stamp and text. A board gives jobs itself; one that is made here is judged like those.
     pub fn new(path: String, stamp: u64, text: String) -> Job
         ensures { result ≡ record { path = string_bytes path; stamp = stamp; text = string_bytes text } }
+    {
+        Job::sharing(path, stamp, SharedText::own(text))
+    }
+
+    /// The job of this path and stamp, and of this text, which it may share.
+    pub(crate) fn sharing(path: String, stamp: u64, text: SharedText) -> Job
+        ensures { result ≡ record { path = string_bytes path; stamp = stamp; text = text } }
     {
         Job { path, stamp, text }
     }
@@ -57,10 +65,10 @@ impl Job {
     }
 
     /// The path, the stamp and the text.
-    pub(crate) fn into_parts(self) -> (String, u64, String)
+    pub(crate) fn into_parts(self) -> (String, u64, SharedText)
         ensures path { string_bytes result.0 ≡ self.path }
         ensures stamp { result.1 ≡ self.stamp }
-        ensures text { string_bytes result.2 ≡ self.text }
+        ensures text { result.2 ≡ self.text }
     {
         (self.path, self.stamp, self.text)
     }

@@ -20,6 +20,7 @@ mod lent;
 mod piece;
 mod slot;
 mod slots;
+mod text;
 mod verdict;
 
 pub use board::Board;
@@ -29,4 +30,5 @@ pub use job::Job;
 pub use laws::{jobs_out, last_changes, next_jobs};
 pub use lent::Lent;
 pub use piece::{Piece, Work};
+pub use text::SharedText;
 pub use verdict::Verdict;

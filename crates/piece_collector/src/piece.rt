@@ -1,7 +1,8 @@
 // What a worker makes of a text.
-ghost use Rattle.std.specs.Prelude.{◌≡◌, ℕ, List, IfOk, IfErr, string_bytes};
+ghost use Rattle.std.specs.Prelude.{◌≡◌, ℕ, List, IfOk, IfErr};
 
 use crate::job::Job;
+use crate::text::SharedText;
 use std::alloc::AllocError;
 use std::marker::Model;
 
@@ -23,9 +24,9 @@ pub trait Work: Drop {
 pub struct Piece<W: Work> {
     path: String,
     stamp: u64,
-    text: String,
+    text: SharedText,
     out: W::Out,
-    ghost true_to_text: { ∥ W.is_product_of out (string_bytes text) ∥₁ },
+    ghost true_to_text: { ∥ W.is_product_of out text ∥₁ },
 }
 
 impl<W: Work> Drop for Piece<W> {
@@ -45,7 +46,7 @@ impl<W: Work> Model for Piece<W> {
 
     ghost Value = { TextAt };
 
-    ghost view = { λ p. record { path = string_bytes p.path; stamp = p.stamp; text = string_bytes p.text } };
+    ghost view = { λ p. record { path = string_bytes p.path; stamp = p.stamp; text = p.text } };
 }
 
 impl<W: Work> Piece<W> {

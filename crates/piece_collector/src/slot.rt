@@ -1,33 +1,33 @@
 // What a board keeps for a path.
-ghost use Rattle.std.specs.Prelude.{◌≡◌, Some, None, true, false, string_bytes, cond, ◌&&◌, is_some};
+ghost use Rattle.std.specs.Prelude.{◌≡◌, Some, None, true, false, cond, ◌&&◌, is_some};
 ghost use Rattle.piece_collector.specs.Views.{is_wanting, failure_at, verdict_at};
 
 use crate::piece::{Piece, Work};
+use crate::text::SharedText;
 use crate::verdict::Verdict;
 use std::marker::Model;
 
 /// The text of a path, whether a job for it was given, and the piece that was made of it.
 #[derive(Drop)]
 pub struct Slot<W: Work> {
-    text: String,
+    text: SharedText,
     stamp: u64,
     is_out: bool,
     piece: Option<Piece<W>>,
 }
 
 impl<W: Work> Model for Slot<W> {
-    ghost use Rattle.std.specs.Prelude.{string_bytes};
     ghost use Rattle.piece_collector.specs.Views.{SlotView};
 
     ghost Value = { SlotView };
 
-    ghost view = { λ s. record { text = string_bytes s.text; stamp = s.stamp; is_out = s.is_out; piece = s.piece } };
+    ghost view = { λ s. record { text = s.text; stamp = s.stamp; is_out = s.is_out; piece = s.piece } };
 }
 
 impl<W: Work> Slot<W> {
     /// A text that is wanted.
-    pub(crate) fn new(text: String, stamp: u64) -> Slot<W>
-        ensures { result ≡ record { text = string_bytes text; stamp = stamp; is_out = false; piece = None } }
+    pub(crate) fn new(text: SharedText, stamp: u64) -> Slot<W>
+        ensures { result ≡ record { text = text; stamp = stamp; is_out = false; piece = None } }
     {
         Slot {
             text,
@@ -38,8 +38,8 @@ impl<W: Work> Slot<W> {
     }
 
     /// The text.
-    pub(crate) fn text(&self) -> &String
-        ensures { string_bytes result.now ≡ self.now.text }
+    pub(crate) fn text(&self) -> &SharedText
+        ensures { result.now ≡ self.now.text }
     {
         &self.text
     }

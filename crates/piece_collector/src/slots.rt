@@ -13,6 +13,7 @@ ghost use Rattle.piece_collector.specs.History.{is_before};
 use crate::job::Job;
 use crate::piece::{Piece, Work};
 use crate::slot::Slot;
+use crate::text::SharedText;
 use crate::verdict::Verdict;
 use std::alloc::{AllocError, Global};
 use std::collections::{BTreeMap, BTreeSet};
@@ -118,7 +119,7 @@ fn job_of<W: Work>(
     let Some(slot) = slots.get(path.as_str()) else {
         return Ok(None);
     };
-    Ok(Some(Job::new(path.clone()?, slot.stamp(), slot.text().clone()?)))
+    Ok(Some(Job::sharing(path.clone()?, slot.stamp(), slot.text().another()?)))
 }
 
 /// The job of the first wanted path among these, where none before `from` is wanted.
@@ -182,7 +183,7 @@ fn empty_all<W: Work>(
     ensures keys { keys slots.new ≡ keys slots.old }
 {
     for slot in slots.values_mut() {
-        let mut own = replace(slot, Slot::new(String::new(alloc), 0));
+        let mut own = replace(slot, Slot::new(SharedText::own(String::new(alloc)), 0));
         if let Some(piece) = own.take_piece() {
             pieces.push_reserved(piece);
         }

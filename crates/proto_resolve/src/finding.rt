@@ -110,6 +110,5 @@ fn package_found<I: Index>(
     if !sees_package(index, view, unsplit(name.as_bytes())) {
         return Ok(None);
     }
-    let name = String::from_str(alloc, name)?;
-    Ok(Some(Target::Package(Name::of(name))))
+    Ok(Some(Target::Package(Name::with_text(alloc, name)?)))
 }

@@ -20,7 +20,7 @@ pub fn push_component(text: &mut String, name: &str) -> Result<(), AllocError>
 pub fn copied(alloc: Global, text: &str) -> Result<Name, AllocError>
     ensures { IfOk result (λ n. n ≡ text.now) }
 {
-    Ok(Name::of(String::from_str(alloc, text)?))
+    Name::with_text(alloc, text)
 }
 
 // How many bytes the full name of several components in a scope has, or a little more.

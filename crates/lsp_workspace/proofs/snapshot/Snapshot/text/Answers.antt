@@ -16,7 +16,7 @@ returns-in-Some-text_at c =
     let there : slice_get (paths (workspace files)) n ≡ Some c.in-Some.path.now =
     ap (λ ps. slice_get ps n) (sym names) ∙ slice_get_read c.files.result.now (length c.files.result.now) n c.in-Some.path.now refl c.in-Some.ensures.lookup.3.0 c.in-Some.ensures.lookup.1 in
     let all = text_of_file files n c.in-Some.path.now (option_map (λ t. t.now) c.text_at.result) c.self.invariant.1 there (c.text_at.ensures ∙ ap (λ p. text_at p files) c.as_str.ensures) in
-    c.as_str-in-Some-text_at.ensures ∙ sym (unwrap_some (λ t. t.now) c.text_at.result c.in-Some-text_at.text c.in-Some-text_at.is) ∙ all ∙ ap (λ (w : Workspace). (get_or w n ([], [])).1) c.self.view_is
+    sym (unwrap_some (λ t. t.now) c.text_at.result c.in-Some-text_at.text c.in-Some-text_at.is) ∙ all ∙ ap (λ (w : Workspace). (get_or w n ([], [])).1) c.self.view_is
 
 pub returns-in-None : goal.returns-in-None
 returns-in-None c =

@@ -27,7 +27,7 @@ invariant_of-self-2 c =
     let order : AreInPathOrder new = subst AreInPathOrder (sym (c.set_document.ensures ∙ both.1)) (changed_files-order version changes path old c.self.invariant.ordered) in
     let texts : TextsChangeAt path (Some text) old new = subst (λ f. TextsChangeAt path (Some text) old f) (sym c.set_document.ensures) (document-texts path document old open_there.0 open_there.1) in
     let kept : IsKept old c.self.inside.board c.take.result = subst (λ (k : Option Known). IsKept old c.self.inside.board k) (sym c.take.ensures.value) c.self.invariant in
-    keeps path (Some text) true old new c.self.inside.board c.tell.new.board c.take.result c.known_after.result kept order c.tell.ensures.here c.in_ok-tell.ensures.texts texts refl c.known_after.ensures
+    keeps path (Some text) true old new c.self.inside.board c.tell.new.board c.take.result c.known_after.result kept order c.tell.ensures.here (rw c.in_ok-copy.ensures at c.in_ok-tell.ensures.texts) texts refl c.known_after.ensures
 
 pub returns-clause-board : goal.returns-clause-board
 returns-clause-board c =
@@ -43,4 +43,4 @@ returns-clause-board c =
     let texts : TextsChangeAt path (Some text) old new = subst (λ f. TextsChangeAt path (Some text) old f) (sym c.set_document.ensures) (document-texts path document old open_there.0 open_there.1) in
     let event = event_open path old new (Some text) both.0 (own path (Some text) old new texts) in
     subst (λ (w : WorkspaceData). (opening : ℕ) (events : List Event) → IsAfter opening w.board events → IsAfter opening c.tell.new.board (events_at path w.files new ++ events)) c.self.view_is
-    (λ opening events after. subst (λ es. IsAfter opening c.tell.new.board (es ++ events)) (sym event) (c.in_ok-tell.ensures.is_after opening events after))
+    (λ opening events after. subst (λ es. IsAfter opening c.tell.new.board (es ++ events)) (sym event) (rw c.in_ok-copy.ensures at (c.in_ok-tell.ensures.is_after opening events after)))

@@ -18,13 +18,13 @@ invariant_of-self-2 c =
     let new = files_view c.close.new.files.entries in
     let is_open_there : is_open path old ≡ true = sym c.is_open.ensures ∙ c.if-not-is_open.false in
     let open_there = some_open path old is_open_there in
-    let t = option_map (λ t. t.now) c.kept_at-kept.result in
+    let t = c.in_ok-kept.kept in
     let order : AreInPathOrder new = subst AreInPathOrder (sym c.close.ensures) (closed_files-order path old c.self.invariant.ordered) in
-    let at_once : TextsChangeAt path t old (closed_files path old) = subst (λ u. TextsChangeAt path u old (closed_files path old)) (sym c.kept_at-kept.ensures) (close-texts path old open_there.0 c.self.invariant.ordered open_there.1) in
+    let at_once : TextsChangeAt path t old (closed_files path old) = subst (λ u. TextsChangeAt path u old (closed_files path old)) (sym c.in_ok-kept.ensures) (close-texts path old open_there.0 c.self.invariant.ordered open_there.1) in
     let texts : TextsChangeAt path t old new = subst (λ f. TextsChangeAt path t old f) (sym c.close.ensures) at_once in
     let kept : IsKept old c.self.inside.board c.take.result = subst (λ (k : Option Known). IsKept old c.self.inside.board k) (sym c.take.ensures.value) c.self.invariant in
     keeps path t c.is_some-stays.result old new c.self.inside.board c.tell.new.board c.take.result c.known_after.result kept order c.tell.ensures.here c.in_ok-tell.ensures.texts texts
-    (c.is_some-stays.ensures ∙ some_map (λ t. t.now) c.kept_at-kept.result) c.known_after.ensures
+    c.is_some-stays.ensures c.known_after.ensures
 
 pub returns-clause-board : goal.returns-clause-board
 returns-clause-board c =
@@ -33,8 +33,8 @@ returns-clause-board c =
     let new = files_view c.close.new.files.entries in
     let is_open_there : is_open path old ≡ true = sym c.is_open.ensures ∙ c.if-not-is_open.false in
     let open_there = some_open path old is_open_there in
-    let t = option_map (λ t. t.now) c.kept_at-kept.result in
-    let at_once : TextsChangeAt path t old (closed_files path old) = subst (λ u. TextsChangeAt path u old (closed_files path old)) (sym c.kept_at-kept.ensures) (close-texts path old open_there.0 c.self.invariant.ordered open_there.1) in
+    let t = c.in_ok-kept.kept in
+    let at_once : TextsChangeAt path t old (closed_files path old) = subst (λ u. TextsChangeAt path u old (closed_files path old)) (sym c.in_ok-kept.ensures) (close-texts path old open_there.0 c.self.invariant.ordered open_there.1) in
     let texts : TextsChangeAt path t old new = subst (λ f. TextsChangeAt path t old f) (sym c.close.ensures) at_once in
     let event = event_open path old new t is_open_there (own path t old new texts) in
     subst (λ (w : WorkspaceData). (opening : ℕ) (events : List Event) → IsAfter opening w.board events → IsAfter opening c.tell.new.board (events_at path w.files new ++ events)) c.self.view_is

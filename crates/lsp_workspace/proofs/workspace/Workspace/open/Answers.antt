@@ -43,7 +43,7 @@ invariant_of-self-2 c =
     let order : AreInPathOrder new = subst AreInPathOrder (sym opened) (opened_files-order uri document path old c.self.invariant.ordered) in
     let texts : TextsChangeAt path (Some document.text) old new = subst (λ f. TextsChangeAt path (Some document.text) old f) (sym opened) (texts_change.opened uri document path old) in
     let kept : IsKept old c.self.inside.board c.take.result = subst (λ (k : Option Known). IsKept old c.self.inside.board k) (sym c.take.ensures.value) c.self.invariant in
-    keeps path (Some document.text) true old new c.self.inside.board c.tell.new.board c.take.result c.known_after.result kept order c.tell.ensures.here c.in_ok-tell.ensures.texts texts refl c.known_after.ensures
+    keeps path (Some document.text) true old new c.self.inside.board c.tell.new.board c.take.result c.known_after.result kept order c.tell.ensures.here (rw c.in_ok-copy.ensures at c.in_ok-tell.ensures.texts) texts refl c.known_after.ensures
 
 pub returns-clause-files : goal.returns-clause-files
 returns-clause-files c =
@@ -64,4 +64,4 @@ returns-clause-board c =
     let texts : TextsChangeAt path (Some document.text) old new = subst (λ f. TextsChangeAt path (Some document.text) old f) (sym opened) (texts_change.opened uri document path old) in
     let event : event_at path new ≡ text_event path (Some document.text) = ap (text_event path) (own path (Some document.text) old new texts) in
     subst (λ (w : WorkspaceData). (opening : ℕ) (events : List Event) → IsAfter opening w.board events → IsAfter opening c.tell.new.board (event_at path new ∷ events)) c.self.view_is
-    (λ opening events after. subst (λ e. IsAfter opening c.tell.new.board (e ∷ events)) (sym event) (c.in_ok-tell.ensures.is_after opening events after))
+    (λ opening events after. subst (λ e. IsAfter opening c.tell.new.board (e ∷ events)) (sym event) (rw c.in_ok-copy.ensures at (c.in_ok-tell.ensures.is_after opening events after)))

@@ -9,7 +9,7 @@ use Rattle.piece_collector.proofs.IsAfter.{stands_set}
 use Rattle.piece_collector.proofs.Texts.{texts_put}
 use Rattle.piece_collector.specs.History.{is_before}
 use Rattle.piece_collector.proofs.Passed.{passed_same, passed_set}
-use Rattle.piece_collector.proofs.board.Board.set_text.Goals as goal
+use Rattle.piece_collector.proofs.board.Board.set_shared_text.Goals as goal
 
 pub invariant_of-self-in_err-insert-2 : goal.invariant_of-self-in_err-insert-2
 invariant_of-self-in_err-insert-2 g c = record {
@@ -36,7 +36,7 @@ invariant_of-self-2 g c =
 
 pub returns-clause-is_after : goal.returns-clause-is_after
 returns-clause-is_after g c = λ o es s.
-    stands_set c.self.inside.slots c.insert-2.new.self c.self.inside.last c.self.inside.is_lent _ o es (string_bytes c.args.path) (string_bytes c.args.text) c.self.view_is c.requires
+    stands_set c.self.inside.slots c.insert-2.new.self c.self.inside.last c.self.inside.is_lent _ o es (string_bytes c.args.path) c.args.text c.self.view_is c.requires
     (λ q. btree_map_updates_text (string_bytes c.args.path) c.self.inside.slots c.insert-2.new.self _ c.in_ok-insert-2.ensures.updates q ∙ ap (λ x. update bytes_eq (get_by_text c.self.inside.slots) (string_bytes c.args.path) (Some x) q) c.new.ensures)
     s
 
