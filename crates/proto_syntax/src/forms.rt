@@ -12,7 +12,7 @@ use sqlite_items::{Boxed, Items};
 use std::alloc::{AllocError, Global};
 use syntax_tree::{
     Body, Field, Header, Lexeme, Literal, MapField, Node, RangeEnd, ReservedList, ReservedRange,
-    Span, Word,
+    Span, Spans, Word,
 };
 
 // ---- fields
@@ -22,7 +22,7 @@ fn plain_field(
     alloc: Global,
     tokens: &mut TokenReader<'_>,
     span: Span,
-    labels: Items<Span>,
+    labels: Spans,
 ) -> Result<Node, Unread>
     ensures { Reads (spec.plain_field span labels tokens.old.rest.now) result tokens.new.rest.now }
 {
@@ -44,7 +44,7 @@ fn map_field(
     alloc: Global,
     tokens: &mut TokenReader<'_>,
     span: Span,
-    labels: Items<Span>,
+    labels: Spans,
 ) -> Result<Node, Unread>
     ensures { Reads (spec.map_field span labels tokens.old.rest.now) result tokens.new.rest.now }
 {

@@ -9,7 +9,7 @@ ghost use Rattle.syntax_tree.specs.Cut as cut;
 use crate::cut::ends_in;
 use sqlite_items::{Boxed, Items};
 use std::alloc::{AllocError, Global};
-use syntax_tree::{Lexeme, Literal, Number, Span, TypeName, Word};
+use syntax_tree::{Lexeme, Literal, Number, Span, Spans, TypeName, Word};
 
 // Why a part wasn't read.
 #[derive(Debug, Drop)]
@@ -141,7 +141,7 @@ impl<'a> TokenReader<'a> {
             return Err(Unread::NoForm);
         };
         let is_absolute = self.eat(Word::Dot);
-        let components = self.full(alloc)?;
+        let components = Spans::of(self.full(alloc)?);
         let last = last_of(first.span, components.as_slice());
         Ok(TypeName {
             span: between(first.span, last),
@@ -217,18 +217,19 @@ impl<'a> TokenReader<'a> {
     }
 
     #[tactic(auto, unfolding(syntax_tree::specs::Forms::labels))]
-    pub fn labels(&mut self, alloc: Global) -> Result<Items<Span>, Unread>
+    pub fn labels(&mut self, alloc: Global) -> Result<Spans, Unread>
         ensures { Reads (forms.labels self.old.rest.now) result self.new.rest.now }
     {
         let Some(first) = self.label() else {
-            return Ok(Items::new(alloc));
+            return Ok(Spans::of(Items::new(alloc)));
         };
-        let mut found = room_for_one(alloc)?;
-        found.push(first)?;
-        if let Some(second) = self.label() {
-            found.push(second)?;
-        }
-        Ok(found)
+        let Some(second) = self.label() else {
+            return Ok(Spans::one(first));
+        };
+        let mut both = Items::new(alloc);
+        both.push(first)?;
+        both.push(second)?;
+        Ok(Spans::of(both))
     }
 
     #[tactic(auto, unfolding(syntax_tree::specs::Forms::in_parentheses))]

@@ -1,3 +1,4 @@
+pub mod SpanLists
 pub mod Lexeme
 pub mod Cut
 pub mod Parts

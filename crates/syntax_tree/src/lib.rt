@@ -10,6 +10,7 @@ mod lexeme;
 mod limit;
 mod node;
 mod room;
+mod spans;
 
 pub use lexeme::{Body, Lexeme, Word};
 pub use limit::is_too_long;
@@ -18,3 +19,4 @@ pub use node::{
     ReservedRange, Span, SyntaxProblem, TypeName,
 };
 pub use room::make_room;
+pub use spans::Spans;

@@ -1,4 +1,5 @@
 // The tree of a text: its statements, and what is wrong with those that aren't read.
+use crate::spans::Spans;
 use proto_lex::Reason;
 use sqlite_items::{Boxed, Items};
 
@@ -28,7 +29,7 @@ pub struct TypeName {
     /// Whether a dot stands before the first component.
     pub is_absolute: bool,
     /// The identifiers in order; one at least.
-    pub components: Items<Span>,
+    pub components: Spans,
 }
 
 /// An integer as it is written, perhaps behind a minus.
@@ -74,7 +75,7 @@ pub struct Field {
     /// The whole statement, its `;` included.
     pub span: Span,
     /// The words `repeated` and `optional` that stand before the type, two at most.
-    pub labels: Items<Span>,
+    pub labels: Spans,
     pub type_name: TypeName,
     pub name: Span,
     /// The field's number, an integer token.
@@ -87,7 +88,7 @@ pub struct MapField {
     /// The whole statement, its `;` included.
     pub span: Span,
     /// The words `repeated` and `optional` that stand before `map`, two at most.
-    pub labels: Items<Span>,
+    pub labels: Spans,
     /// The type of the keys.
     pub key: TypeName,
     /// The type of the values.
