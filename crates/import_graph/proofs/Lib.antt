@@ -14,6 +14,7 @@ pub mod PathOrder
 pub mod Turns
 pub mod Mutual
 pub mod Outlooks
+pub mod MovedImports
 pub mod Representatives
 pub mod Sharing
 pub mod Flagged

@@ -11,3 +11,4 @@ pub mod Ties
 pub mod Outlooks
 pub mod Condensed
 pub mod Shared
+pub mod Moves

@@ -5,7 +5,8 @@
 //! sees itself, the files that it imports, and what public imports lead to from there. The definitions are in specs/:
 //! Imports.antt says what imports name, Views.antt what is seen and reached as walks from file to file, and Closures.antt
 //! gives the same as functions of the graph; the laws say that both agree. Outlooks.antt says what a graph says of one file,
-//! which `same_outlook` compares.
+//! which `same_outlook` compares. Where files come or leave, the others get other numbers: Moves.antt says what it is for a file
+//! to look as before under the new ones, which `moved_outlook` tests.
 //!
 //! Which files lead to one another is found once, when the graph is made; that tells whether an import closes a cycle, and
 //! where it could not, a search would. What a file sees is searched when it is asked for, in time that grows with what the search meets:
@@ -19,6 +20,7 @@ mod file_search;
 mod graph;
 mod imports;
 mod laws;
+mod moves;
 mod outlook;
 mod paths;
 mod seen_by;
@@ -30,6 +32,7 @@ mod tour;
 pub use graph::Graph;
 pub use imports::{FileImports, ImportEdge};
 pub use laws::{closure_law, one_view, view_law};
+pub use moves::moved_outlook;
 pub use outlook::same_outlook;
 pub use paths::{FileNo, NamedFacts, are_in_path_order};
 pub use shared_facts::SharedFacts;

@@ -3,6 +3,7 @@ use Rattle.std.proofs.Common.{◌≡◌, ◌∙◌, sym, ap, ap₂, inl, inr, �
 use Rattle.std.specs.Prelude.{All, is_some, option_and_then, option_map, if◌then◌else◌}
 use Rattle.std.specs.Option.{option_map_or, option_or}
 use Rattle.std.specs.List.{cons_option, enumerate_from, filter_map, flat_map, list_any}
+use Rattle.std.proofs.Math.ListN.{get_or-map}
 use Rattle.std.proofs.Math.Path.{fun_ext}
 use Rattle.std.proofs.lemmas.Bool.{cases_Bool}
 use Rattle.std.proofs.lemmas.List.{map-append}
@@ -123,7 +124,7 @@ first_kinded f view es = option_or (find (λ e. is_own f e.0) es) (find (λ e. i
 
 module _ (f : ℕ) (view : List ℕ) where
   -- of f itself, or of a file of the view
-  abbrev near : DeclRef → Bool
+  abbrev pub near : DeclRef → Bool
   near r = (r.file == f) || is_seen view r.file
 
   own_near : (r : DeclRef) → is_own f r ≡ true → near r ≡ true
@@ -156,21 +157,38 @@ module _ (f : ℕ) (view : List ℕ) where
         any_made (λ e. is_another f view e.0) (with_kind files) (filter near (all_named files name))
         ∙ any-filter_same (is_another f view) near true another_near (all_named files name)
 
-  module _ (move : DeclRef → DeclRef) (keeps : (r : DeclRef) → (let s = move r in s.file) ≡ r.file) (es : List Kinded) where
-    found_moved : (test : ℕ → Bool) → find (λ e. test (let r = e.0 in r.file)) (map (moved move) es) ≡ option_map (moved move) (find (λ e. test (let r = e.0 in r.file)) es)
-    found_moved test =
-        find_made (λ e. test (let r = e.0 in r.file)) (moved move) es
-        ∙ ap (λ (q : Kinded → Bool). option_map (moved move) (find q es)) (fun_ext (λ e. ap test (keeps e.0)))
+    -- those of them that are kept are near
+    near_ones : (P : DeclRef → Type 0) → ((r : DeclRef) → near r ≡ true → P r) → (rs : List DeclRef) → All (λ e. P e.0) (map (with_kind files) (filter near rs))
+    near_ones P each [] = All-nil (λ e. P e.0)
+    near_ones P each (r ∷ rs) = elim (cases_Bool (near r)) [
+      | inl passes ↦ rw passes (All-cons (λ e. P e.0) (with_kind files r) (map (with_kind files) (filter near rs)) (each r passes) (near_ones P each rs))
+      | inr fails ↦ rw fails (near_ones P each rs)
+    ]
 
-    first_moved : first_kinded f view (map (moved move) es) ≡ option_map (moved move) (first_kinded f view es)
-    first_moved =
-        ap₂ (λ (a b : Option Kinded). option_or a b) (found_moved (λ g. g == f)) (found_moved (λ g. is_seen view g))
-        ∙ either_made (moved move) (find (λ e. is_own f e.0) es) (find (λ e. is_visible view e.0) es)
+-- To the file f' with its view, what `move` makes of a declaration is its own where the declaration was f's own, and is seen where f saw it.
+pub record KeepsPlace (f : ℕ) (view : List ℕ) (f' : ℕ) (view' : List ℕ) (move : DeclRef → DeclRef) (r : DeclRef) : Type 0 where
+  pub own : is_own f' (move r) ≡ is_own f r
+  pub seen : is_visible view' (move r) ≡ is_visible view r
 
-    elsewhere_moved : list_any (λ e. is_another f view e.0) (map (moved move) es) ≡ list_any (λ e. is_another f view e.0) es
-    elsewhere_moved =
-        any_made (λ e. is_another f view e.0) (moved move) es
-        ∙ ap (λ (q : Kinded → Bool). list_any q es) (fun_ext (λ e. ap (λ (g : ℕ). not (g == f) && is_seen view g) (keeps e.0)))
+module _ (f : ℕ) (view : List ℕ) (f' : ℕ) (view' : List ℕ) (move : DeclRef → DeclRef) (es : List Kinded) (keeps : All (λ e. KeepsPlace f view f' view' move e.0) es) where
+  found_moved : (test test' : DeclRef → Bool) → All (λ e. test' (move e.0) ≡ test e.0) es
+      → find (λ e. test' e.0) (map (moved move) es) ≡ option_map (moved move) (find (λ e. test e.0) es)
+  found_moved test test' agree =
+      find_made (λ e. test' e.0) (moved move) es
+      ∙ ap (λ (o : Option Kinded). option_map (moved move) o) (find_agree (λ e. test' (move e.0)) (λ e. test e.0) es agree)
+
+  first_moved : first_kinded f' view' (map (moved move) es) ≡ option_map (moved move) (first_kinded f view es)
+  first_moved =
+      ap₂ (λ (a b : Option Kinded). option_or a b)
+      (found_moved (is_own f) (is_own f') (λ k d lt. let kept = keeps k d lt in kept.own))
+      (found_moved (is_visible view) (is_visible view') (λ k d lt. let kept = keeps k d lt in kept.seen))
+      ∙ either_made (moved move) (find (λ e. is_own f e.0) es) (find (λ e. is_visible view e.0) es)
+
+  elsewhere_moved : list_any (λ e. is_another f' view' e.0) (map (moved move) es) ≡ list_any (λ e. is_another f view e.0) es
+  elsewhere_moved =
+      any_made (λ e. is_another f' view' e.0) (moved move) es
+      ∙ any_agree (λ e. is_another f' view' (move e.0)) (λ e. is_another f view e.0) es
+      (λ k d lt. let kept = keeps k d lt in ap₂ (λ (own seen : Bool). not own && seen) kept.own kept.seen)
 
 -- ---- targets
 
@@ -228,58 +246,67 @@ within_by_name : (name : List ℕ) (o : Option PackageFact) → is_within name o
 within_by_name name None = refl
 within_by_name name (Some p) = refl
 
-within_alike : (name : List ℕ) (a b : FileFacts) → package_name a ≡ package_name b → is_within name a.«package» ≡ is_within name b.«package»
-within_alike name a b same =
-    within_by_name name a.«package»
-    ∙ ap (λ (o : Option (List ℕ)). option_map_or (λ n. begins n name) o false) same
-    ∙ sym (within_by_name name b.«package»)
+-- the full name of a file's package, by the file's number
+abbrev pub package_at : List NamedFacts → ℕ → Option (List ℕ)
+package_at files g = package_name (facts_at files g)
+
+abbrev begins_there : List ℕ → Option (List ℕ) → Bool
+begins_there name o = option_map_or (λ n. begins n name) o false
+
+any_package : (files : List NamedFacts) (name : List ℕ) (view : List ℕ) → list_any (has_package files name) view ≡ list_any (begins_there name) (map (package_at files) view)
+any_package files name view =
+    any_agree (has_package files name) (λ g. begins_there name (package_at files g)) view
+    (λ k d lt. let facts = facts_at files (get_or view k d) in within_by_name name facts.«package»)
+    ∙ sym (any_made (begins_there name) (package_at files) view)
 
 -- ---- what is found
 
-module _ (old new : List NamedFacts) (f : ℕ) (move : DeclRef → DeclRef) (keeps : (r : DeclRef) → (let s = move r in s.file) ≡ r.file) (view : List ℕ)
-    (packages : All (λ g. package_name (facts_at old g) ≡ package_name (facts_at new g)) view) where
+module _ (old new : List NamedFacts) (f f' : ℕ) (move : DeclRef → DeclRef) (view view' : List ℕ)
+    (keeps : (r : DeclRef) → near f view r ≡ true → KeepsPlace f view f' view' move r) (packages : map (package_at old) view ≡ map (package_at new) view') where
   -- the declarations of the name are the same, but for their numbers
   abbrev IsNamed : List ℕ → Type 0
-  IsNamed name = seen_named new f view name ≡ map (moved move) (seen_named old f view name)
+  IsNamed name = seen_named new f' view' name ≡ map (moved move) (seen_named old f view name)
 
   abbrev old_first : List ℕ → Option DeclRef
   old_first name = first_declared f view (all_named old name)
 
   abbrev new_first : List ℕ → Option DeclRef
-  new_first name = first_declared f view (all_named new name)
+  new_first name = first_declared f' view' (all_named new name)
 
   abbrev old_has : List ℕ → Bool
   old_has name = list_any (has_package old name) view
 
   abbrev new_has : List ℕ → Bool
-  new_has name = list_any (has_package new name) view
+  new_has name = list_any (has_package new name) view'
 
   has_alike : (name : List ℕ) → old_has name ≡ new_has name
-  has_alike name = any_agree (has_package old name) (has_package new name) view
-      (λ k d lt. within_alike name (facts_at old (get_or view k d)) (facts_at new (get_or view k d)) (packages k d lt))
+  has_alike name = any_package old name view ∙ ap (list_any (begins_there name)) packages ∙ sym (any_package new name view')
 
   module _ (name : List ℕ) (named : IsNamed name) where
+    kept : All (λ e. KeepsPlace f view f' view' move e.0) (seen_named old f view name)
+    kept = near_ones f view old name (KeepsPlace f view f' view' move) keeps (all_named old name)
+
     first_alike : option_map (with_kind new) (new_first name) ≡ option_map (moved move) (option_map (with_kind old) (old_first name))
     first_alike =
-        sym (first_is f view new name)
-        ∙ ap (λ (es : List Kinded). first_kinded f view es) named
-        ∙ first_moved f view move keeps (seen_named old f view name)
+        sym (first_is f' view' new name)
+        ∙ ap (λ (es : List Kinded). first_kinded f' view' es) named
+        ∙ first_moved f view f' view' move (seen_named old f view name) kept
         ∙ ap (λ (o : Option Kinded). option_map (moved move) o) (first_is f view old name)
 
-    found_alike : found new f view name ≡ option_map (target_after move) (found old f view name)
+    found_alike : found new f' view' name ≡ option_map (target_after move) (found old f view name)
     found_alike =
         ap (λ (o : Option DeclRef). target_by name o (new_has name)) (first_without move old new (old_first name) (new_first name) first_alike)
         ∙ target_moved move name (old_first name) (new_has name)
         ∙ ap (λ (has : Bool). option_map (target_after move) (target_by name (old_first name) has)) (sym (has_alike name))
 
-    kind_alike : (test : DeclKind → Bool) → has_kind old test (found old f view name) ≡ has_kind new test (found new f view name)
+    kind_alike : (test : DeclKind → Bool) → has_kind old test (found old f view name) ≡ has_kind new test (found new f' view' name)
     kind_alike test =
         kind_by old name test (old_first name) (old_has name)
         ∙ sym (kind_kept move test (option_map (with_kind old) (old_first name)))
         ∙ ap (λ (o : Option Kinded). kind_passes test o) (sym first_alike)
         ∙ sym (kind_by new name test (new_first name) (new_has name))
 
-    settles_alike : (alone : Bool) → settles old alone (found old f view name) ≡ settles new alone (found new f view name)
+    settles_alike : (alone : Bool) → settles old alone (found old f view name) ≡ settles new alone (found new f' view' name)
     settles_alike alone =
         settled_by old name alone (old_first name) (old_has name)
         ∙ ap (λ (has : Bool). settled alone has (option_map (with_kind old) (old_first name))) (has_alike name)
@@ -287,12 +314,12 @@ module _ (old new : List NamedFacts) (f : ℕ) (move : DeclRef → DeclRef) (kee
         ∙ ap (λ (o : Option Kinded). settled alone (new_has name) o) (sym first_alike)
         ∙ sym (settled_by new name alone (new_first name) (new_has name))
 
-    elsewhere_alike : is_declared_elsewhere old f view name ≡ is_declared_elsewhere new f view name
+    elsewhere_alike : is_declared_elsewhere old f view name ≡ is_declared_elsewhere new f' view' name
     elsewhere_alike =
         sym (elsewhere_is f view old name)
-        ∙ sym (elsewhere_moved f view move keeps (seen_named old f view name))
-        ∙ ap (λ (es : List Kinded). list_any (λ e. is_another f view e.0) es) (sym named)
-        ∙ elsewhere_is f view new name
+        ∙ sym (elsewhere_moved f view f' view' move (seen_named old f view name) kept)
+        ∙ ap (λ (es : List Kinded). list_any (λ e. is_another f' view' e.0) es) (sym named)
+        ∙ elsewhere_is f' view' new name
 
   -- ---- what names mean
 
@@ -313,17 +340,17 @@ module _ (old new : List NamedFacts) (f : ℕ) (move : DeclRef → DeclRef) (kee
   prefixes_named site s all = each_made IsNamed (λ c. c.0) (prefixes s site.components)
       (All-tail IsNamed (joined_all s (texts_of site)) (map (λ c. c.0) (prefixes s site.components)) (others_named site s all))
 
-  abbrev scope_by : List NamedFacts → NameSite → Bool → Option (List ℕ)
-  scope_by files site absolute = if absolute then Some [] else find (settles_at files f view site) site.scopes
+  abbrev scope_by : List NamedFacts → ℕ → List ℕ → NameSite → Bool → Option (List ℕ)
+  scope_by files g seen site absolute = if absolute then Some [] else find (settles_at files g seen site) site.scopes
 
-  scope_by_alike : (site : NameSite) (absolute : Bool) → All (AreNamed site) (if absolute then [] ∷ [] else site.scopes) → scope_by old site absolute ≡ scope_by new site absolute
+  scope_by_alike : (site : NameSite) (absolute : Bool) → All (AreNamed site) (if absolute then [] ∷ [] else site.scopes) → scope_by old f view site absolute ≡ scope_by new f' view' site absolute
   scope_by_alike site true all = refl
-  scope_by_alike site false all = find_agree (settles_at old f view site) (settles_at new f view site) site.scopes
+  scope_by_alike site false all = find_agree (settles_at old f view site) (settles_at new f' view' site) site.scopes
       (λ k d lt. let s : List ℕ = get_or site.scopes k d in settles_alike (joined s (first_text site)) (first_named site s (all k d lt)) (length (texts_of site) == 1))
 
-  scope_by_named : (site : NameSite) (absolute : Bool) → All (AreNamed site) (if absolute then [] ∷ [] else site.scopes) → (s : List ℕ) → scope_by new site absolute ≡ Some s → AreNamed site s
+  scope_by_named : (site : NameSite) (absolute : Bool) → All (AreNamed site) (if absolute then [] ∷ [] else site.scopes) → (s : List ℕ) → scope_by new f' view' site absolute ≡ Some s → AreNamed site s
   scope_by_named site true all s e = let same : [] ≡ s = cc (e) in subst (AreNamed site) same (All-head (AreNamed site) [] [] all)
-  scope_by_named site false all s e = found_has (settles_at new f view site) (AreNamed site) site.scopes s all e
+  scope_by_named site false all s e = found_has (settles_at new f' view' site) (AreNamed site) site.scopes s all e
 
   -- so are those of all names for which a name asks
   abbrev IsAsked : NameSite → Type 0
@@ -332,10 +359,10 @@ module _ (old new : List NamedFacts) (f : ℕ) (move : DeclRef → DeclRef) (kee
   in_scopes : (site : NameSite) → IsAsked site → All (AreNamed site) (scopes_asked site)
   in_scopes site asked = each_part IsNamed (names_asked_in site) (scopes_asked site) asked
 
-  scope_alike : (site : NameSite) → IsAsked site → scope_of old f view site ≡ scope_of new f view site
+  scope_alike : (site : NameSite) → IsAsked site → scope_of old f view site ≡ scope_of new f' view' site
   scope_alike site asked = scope_by_alike site site.is_absolute (in_scopes site asked)
 
-  scope_named : (site : NameSite) → IsAsked site → (s : List ℕ) → scope_of new f view site ≡ Some s → AreNamed site s
+  scope_named : (site : NameSite) → IsAsked site → (s : List ℕ) → scope_of new f' view' site ≡ Some s → AreNamed site s
   scope_named site asked = scope_by_named site site.is_absolute (in_scopes site asked)
 
   -- ---- uses
@@ -348,7 +375,7 @@ module _ (old new : List NamedFacts) (f : ℕ) (move : DeclRef → DeclRef) (kee
   use_made i span None = refl
   use_made i span (Some t) = refl
 
-  use_alike : (i : ℕ) (c : List ℕ × Span) → IsNamed c.0 → use_at new f view i c ≡ option_map after (use_at old f view i c)
+  use_alike : (i : ℕ) (c : List ℕ × Span) → IsNamed c.0 → use_at new f' view' i c ≡ option_map after (use_at old f view i c)
   use_alike i c named =
       ap (λ (o : Option Target). option_map (λ t. record { span = c.1; name = i; target = t }) o) (found_alike c.0 named)
       ∙ use_made i c.1 (found old f view c.0)
@@ -357,7 +384,7 @@ module _ (old new : List NamedFacts) (f : ℕ) (move : DeclRef → DeclRef) (kee
   with_first None us = refl
   with_first (Some u) us = refl
 
-  uses_in_alike : (i : ℕ) (cs : List (List ℕ × Span)) → All (λ c. IsNamed c.0) cs → filter_map (use_at new f view i) cs ≡ map after (filter_map (use_at old f view i) cs)
+  uses_in_alike : (i : ℕ) (cs : List (List ℕ × Span)) → All (λ c. IsNamed c.0) cs → filter_map (use_at new f' view' i) cs ≡ map after (filter_map (use_at old f view i) cs)
   uses_in_alike i [] all = refl
   uses_in_alike i (c ∷ cs) all =
       ap₂ (λ (o : Option NameUse) (us : List NameUse). cons_option o us)
@@ -368,7 +395,7 @@ module _ (old new : List NamedFacts) (f : ℕ) (move : DeclRef → DeclRef) (kee
   if_there true us = refl
   if_there false us = refl
 
-  uses_at_alike : (i : ℕ) (site : NameSite) (s : List ℕ) → AreNamed site s → uses_at new f view i site s ≡ map after (uses_at old f view i site s)
+  uses_at_alike : (i : ℕ) (site : NameSite) (s : List ℕ) → AreNamed site s → uses_at new f' view' i site s ≡ map after (uses_at old f view i site s)
   uses_at_alike i site s all =
       let name : List ℕ = joined_all s (texts_of site) in
       ap₂ (λ (there : Bool) (us : List NameUse). if there then us else [])
@@ -377,105 +404,117 @@ module _ (old new : List NamedFacts) (f : ℕ) (move : DeclRef → DeclRef) (kee
       ∙ if_there (is_some (found old f view name)) (uses_in old f view i s site.components)
 
   uses_by_scope : (i : ℕ) (site : NameSite) (o : Option (List ℕ)) → ((s : List ℕ) → o ≡ Some s → AreNamed site s)
-      → option_map_or (uses_at new f view i site) o [] ≡ map after (option_map_or (uses_at old f view i site) o [])
+      → option_map_or (uses_at new f' view' i site) o [] ≡ map after (option_map_or (uses_at old f view i site) o [])
   uses_by_scope i site None named = refl
   uses_by_scope i site (Some s) named = uses_at_alike i site s (named s refl)
 
-  uses_of_alike : (i : ℕ) (site : NameSite) → IsAsked site → uses_of new f view i site ≡ map after (uses_of old f view i site)
+  uses_of_alike : (i : ℕ) (site : NameSite) → IsAsked site → uses_of new f' view' i site ≡ map after (uses_of old f view i site)
   uses_of_alike i site asked =
-      uses_by_scope i site (scope_of new f view site) (scope_named site asked)
+      uses_by_scope i site (scope_of new f' view' site) (scope_named site asked)
       ∙ ap (λ (o : Option (List ℕ)). map after (option_map_or (uses_at old f view i site) o [])) (sym (scope_alike site asked))
 
-  abbrev uses_from : List NamedFacts → ℕ → List NameSite → List NameUse
-  uses_from files n sites = flat_map (λ e. uses_of files f view e.0 e.1) (enumerate_from n sites)
+  abbrev uses_from : List NamedFacts → ℕ → List ℕ → ℕ → List NameSite → List NameUse
+  uses_from files g seen n sites = flat_map (λ e. uses_of files g seen e.0 e.1) (enumerate_from n sites)
 
-  uses_alike : (n : ℕ) (sites : List NameSite) → All IsAsked sites → uses_from new n sites ≡ map after (uses_from old n sites)
+  uses_alike : (n : ℕ) (sites : List NameSite) → All IsAsked sites → uses_from new f' view' n sites ≡ map after (uses_from old f view n sites)
   uses_alike n [] all = refl
   uses_alike n (site ∷ sites) all =
       ap₂ (λ (us vs : List NameUse). us ++ vs) (uses_of_alike n site (All-head IsAsked site sites all)) (uses_alike (n + 1) sites (All-tail IsAsked site sites all))
-      ∙ sym (map-append after (uses_of old f view n site) (uses_from old (n + 1) sites))
+      ∙ sym (map-append after (uses_of old f view n site) (uses_from old f view (n + 1) sites))
 
   -- ---- what is wrong
 
   diagnostics_by_kind : (n : NameSite) (t : Option Target) → has_kind old (is_type n.needs) t ≡ has_kind new (is_type n.needs) (option_map (target_after move) t)
-      → diagnostics_of_meaning old f view n t ≡ diagnostics_of_meaning new f view n (option_map (target_after move) t)
+      → diagnostics_of_meaning old f view n t ≡ diagnostics_of_meaning new f' view' n (option_map (target_after move) t)
   diagnostics_by_kind n None e = refl
   diagnostics_by_kind n (Some t) e = ap (λ (fits : Bool). if fits then [] else diag m.WrongKind n.span ∷ []) e
 
-  meaning_diagnostics : (n : NameSite) (name : List ℕ) → IsNamed name → diagnostics_of_meaning old f view n (found old f view name) ≡ diagnostics_of_meaning new f view n (found new f view name)
+  meaning_diagnostics : (n : NameSite) (name : List ℕ) → IsNamed name → diagnostics_of_meaning old f view n (found old f view name) ≡ diagnostics_of_meaning new f' view' n (found new f' view' name)
   meaning_diagnostics n name named =
       diagnostics_by_kind n (found old f view name)
       (kind_alike name named (is_type n.needs) ∙ ap (λ (t : Option Target). has_kind new (is_type n.needs) t) (found_alike name named))
-      ∙ ap (λ (t : Option Target). diagnostics_of_meaning new f view n t) (sym (found_alike name named))
+      ∙ ap (λ (t : Option Target). diagnostics_of_meaning new f' view' n t) (sym (found_alike name named))
 
-  abbrev diagnostics_by_scope : List NamedFacts → NameSite → Option (List ℕ) → List Diag
-  diagnostics_by_scope files n o = diagnostics_of_meaning files f view n (option_and_then (λ s. found files f view (joined_all s (texts_of n))) o)
+  abbrev diagnostics_by_scope : List NamedFacts → ℕ → List ℕ → NameSite → Option (List ℕ) → List Diag
+  diagnostics_by_scope files g seen n o = diagnostics_of_meaning files g seen n (option_and_then (λ s. found files g seen (joined_all s (texts_of n))) o)
 
-  scope_diagnostics : (n : NameSite) (o : Option (List ℕ)) → ((s : List ℕ) → o ≡ Some s → AreNamed n s) → diagnostics_by_scope old n o ≡ diagnostics_by_scope new n o
+  scope_diagnostics : (n : NameSite) (o : Option (List ℕ)) → ((s : List ℕ) → o ≡ Some s → AreNamed n s) → diagnostics_by_scope old f view n o ≡ diagnostics_by_scope new f' view' n o
   scope_diagnostics n None named = refl
   scope_diagnostics n (Some s) named = meaning_diagnostics n (joined_all s (texts_of n)) (whole_named n s (named s refl))
 
-  name_diagnostics_alike : (n : NameSite) → IsAsked n → name_diagnostics old f view n ≡ name_diagnostics new f view n
+  name_diagnostics_alike : (n : NameSite) → IsAsked n → name_diagnostics old f view n ≡ name_diagnostics new f' view' n
   name_diagnostics_alike n asked =
-      ap (λ (o : Option (List ℕ)). diagnostics_by_scope old n o) (scope_alike n asked)
-      ∙ scope_diagnostics n (scope_of new f view n) (scope_named n asked)
+      ap (λ (o : Option (List ℕ)). diagnostics_by_scope old f view n o) (scope_alike n asked)
+      ∙ scope_diagnostics n (scope_of new f' view' n) (scope_named n asked)
 
-  decl_diagnostics_alike : (d : Decl) → IsNamed d.full_name → decl_diagnostics old f view d ≡ decl_diagnostics new f view d
+  decl_diagnostics_alike : (d : Decl) → IsNamed d.full_name → decl_diagnostics old f view d ≡ decl_diagnostics new f' view' d
   decl_diagnostics_alike d named =
       ap₂ (λ (elsewhere has : Bool). (if elsewhere then diag m.DeclaredElsewhere d.name_span ∷ [] else []) ++ (if has then diag m.NameIsPackage d.name_span ∷ [] else []))
       (elsewhere_alike d.full_name named) (has_alike d.full_name)
 
 -- ---- the whole
 
--- the diagnostics of an import by what it names and whether it closes a cycle
-abbrev import_diagnostics_by : ImportFact → Option ℕ × Bool → List Diag
-import_diagnostics_by i (None, closes) = diag m.ImportNotFound i.span ∷ []
-import_diagnostics_by i (Some g, closes) = if closes then diag m.ImportCycle i.span ∷ [] else []
+-- whether an import names a file, and whether it closes a cycle
+abbrev pub said_of_import : Option ℕ × Bool → Bool × Bool
+said_of_import i = (is_some i.0, i.1)
 
-target_diagnostics : (files : List NamedFacts) (f : ℕ) (i : ImportFact) (t : Option ℕ) → diagnostics_of_target files f i t ≡ import_diagnostics_by i (import_outlook (graph_of files) f t)
+abbrev import_diagnostics_by : ImportFact → Bool × Bool → List Diag
+import_diagnostics_by i (false, closes) = diag m.ImportNotFound i.span ∷ []
+import_diagnostics_by i (true, closes) = if closes then diag m.ImportCycle i.span ∷ [] else []
+
+target_diagnostics : (files : List NamedFacts) (f : ℕ) (i : ImportFact) (t : Option ℕ)
+    → diagnostics_of_target files f i t ≡ import_diagnostics_by i (said_of_import (import_outlook (graph_of files) f t))
 target_diagnostics files f i None = refl
 target_diagnostics files f i (Some g) = refl
 
-import_diagnostics_said : (files : List NamedFacts) (f : ℕ) (e : ℕ × ImportFact) → import_diagnostics files f e ≡ import_diagnostics_by e.1 (get_or (imports_outlook (graph_of files) f) e.0 (None, false))
+abbrev all_said : List NamedFacts → ℕ → List (Bool × Bool)
+all_said files f = map said_of_import (imports_outlook (graph_of files) f)
+
+import_diagnostics_said : (files : List NamedFacts) (f : ℕ) (e : ℕ × ImportFact) → import_diagnostics files f e ≡ import_diagnostics_by e.1 (get_or (all_said files f) e.0 (false, false))
 import_diagnostics_said files f e =
     target_diagnostics files f e.1 (target_at (graph_of files) f e.0)
-    ∙ ap (import_diagnostics_by e.1) (sym (said_at (graph_of files) f e.0))
+    ∙ ap (λ (i : Option ℕ × Bool). import_diagnostics_by e.1 (said_of_import i)) (sym (said_at (graph_of files) f e.0))
+    ∙ ap (import_diagnostics_by e.1) (sym (get_or-map said_of_import (imports_outlook (graph_of files) f) e.0 (None, false)))
 
-import_diagnostics_alike : (old new : List NamedFacts) (f : ℕ) → imports_outlook (graph_of old) f ≡ imports_outlook (graph_of new) f → (e : ℕ × ImportFact) → import_diagnostics old f e ≡ import_diagnostics new f e
-import_diagnostics_alike old new f same e =
+import_diagnostics_alike : (old new : List NamedFacts) (f f' : ℕ) → all_said old f ≡ all_said new f' → (e : ℕ × ImportFact) → import_diagnostics old f e ≡ import_diagnostics new f' e
+import_diagnostics_alike old new f f' same e =
     import_diagnostics_said old f e
-    ∙ ap (λ (said : List (Option ℕ × Bool)). import_diagnostics_by e.1 (get_or said e.0 (None, false))) same
-    ∙ sym (import_diagnostics_said new f e)
+    ∙ ap (λ (said : List (Bool × Bool)). import_diagnostics_by e.1 (get_or said e.0 (false, false))) same
+    ∙ sym (import_diagnostics_said new f' e)
 
 abbrev joined_diagnostics : Bool → List Diag → List Diag → List Diag → List Diag
 joined_diagnostics closed of_names of_imports of_decls = (if closed then of_names else []) ++ (of_imports ++ of_decls)
 
-module _ (old new : List NamedFacts) (f : ℕ) (move : DeclRef → DeclRef) (text : List ℕ) (tree : FileTree) (keeps : (r : DeclRef) → (let s = move r in s.file) ≡ r.file)
-    (same : AsksTheSame old new f move (names_asked (sites_at new f text tree) (decls_at new f))) where
+-- What the file f is told among old files and the file f' among new ones: the imports are as they were but for the files that they name,
+-- and the declarations of each of the names are those that `move` makes of the old ones.
+pub record IsToldTheSame (old new : List NamedFacts) (f f' : ℕ) (move : DeclRef → DeclRef) (names : List (List ℕ)) : Type 0 where
+  pub own : facts_at old f ≡ facts_at new f'
+  pub closed : is_closed (graph_of old) f ≡ is_closed (graph_of new) f'
+  pub imports : map said_of_import (imports_outlook (graph_of old) f) ≡ map said_of_import (imports_outlook (graph_of new) f')
+  pub packages : map (package_at old) (view_of (graph_of old) f) ≡ map (package_at new) (view_of (graph_of new) f')
+  pub keeps : (r : DeclRef) → near f (view_of (graph_of old) f) r ≡ true → KeepsPlace f (view_of (graph_of old) f) f' (view_of (graph_of new) f') move r
+  pub named : All (λ name. seen_named new f' (view_of (graph_of new) f') name ≡ map (moved move) (seen_named old f (view_of (graph_of old) f) name)) names
+
+module _ (old new : List NamedFacts) (f f' : ℕ) (move : DeclRef → DeclRef) (text : List ℕ) (tree : FileTree)
+    (same : IsToldTheSame old new f f' move (names_asked (sites_at new f' text tree) (decls_at new f'))) where
   abbrev view : List ℕ
-  view = view_of (graph_of new) f
+  view = view_of (graph_of old) f
+
+  abbrev view' : List ℕ
+  view' = view_of (graph_of new) f'
 
   abbrev sites : List NameSite
-  sites = sites_at new f text tree
+  sites = sites_at new f' text tree
 
   abbrev decls : List Decl
-  decls = decls_at new f
-
-  view_same : view_of (graph_of old) f ≡ view
-  view_same = ap (λ said. said.0) same.imports
-
-  closed_same : is_closed (graph_of old) f ≡ is_closed (graph_of new) f
-  closed_same = ap (λ said. said.1.0) same.imports
-
-  imports_same : imports_outlook (graph_of old) f ≡ imports_outlook (graph_of new) f
-  imports_same = ap (λ said. said.1.1) same.imports
+  decls = decls_at new f'
 
   sites_same : sites_at old f text tree ≡ sites
   sites_same = ap (λ (facts : FileFacts). names_of_file text facts tree.nodes) same.own
 
-  -- the declarations of a name that f sees are the same, but for their numbers
+  -- the declarations of a name that the file sees are the same, but for their numbers
   abbrev SameNamed : List ℕ → Type 0
-  SameNamed name = IsNamed old new f move keeps view same.packages name
+  SameNamed name = IsNamed old new f f' move view view' same.keeps same.packages name
 
   sites_asked : All (λ site. All SameNamed (asked_by site)) sites
   sites_asked = each_part SameNamed asked_by sites (all_left SameNamed (flat_map asked_by sites) (map (λ d. d.full_name) decls) same.named)
@@ -483,43 +522,72 @@ module _ (old new : List NamedFacts) (f : ℕ) (move : DeclRef → DeclRef) (tex
   decls_asked : All (λ d. SameNamed d.full_name) decls
   decls_asked = each_made SameNamed (λ d. d.full_name) decls (all_right SameNamed (flat_map asked_by sites) (map (λ d. d.full_name) decls) same.named)
 
-  uses_same : uses new f view sites ≡ map (use_after move) (uses old f (view_of (graph_of old) f) (sites_at old f text tree))
+  uses_same : uses new f' view' sites ≡ map (use_after move) (uses old f view (sites_at old f text tree))
   uses_same =
-      uses_alike old new f move keeps view same.packages 0 sites sites_asked
-      ∙ ap₂ (λ (seen : List ℕ) (ns : List NameSite). map (use_after move) (uses old f seen ns)) (sym view_same) (sym sites_same)
+      uses_alike old new f f' move view view' same.keeps same.packages 0 sites sites_asked
+      ∙ ap (λ (ns : List NameSite). map (use_after move) (uses old f view ns)) (sym sites_same)
 
-  names_same : flat_map (name_diagnostics old f (view_of (graph_of old) f)) (sites_at old f text tree) ≡ flat_map (name_diagnostics new f view) sites
+  names_same : flat_map (name_diagnostics old f view) (sites_at old f text tree) ≡ flat_map (name_diagnostics new f' view') sites
   names_same =
-      ap₂ (λ (seen : List ℕ) (ns : List NameSite). flat_map (name_diagnostics old f seen) ns) view_same sites_same
-      ∙ flat_agree (name_diagnostics old f view) (name_diagnostics new f view) sites
-      (λ k d lt. name_diagnostics_alike old new f move keeps view same.packages (get_or sites k d) (sites_asked k d lt))
+      ap (λ (ns : List NameSite). flat_map (name_diagnostics old f view) ns) sites_same
+      ∙ flat_agree (name_diagnostics old f view) (name_diagnostics new f' view') sites
+      (λ k d lt. name_diagnostics_alike old new f f' move view view' same.keeps same.packages (get_or sites k d) (sites_asked k d lt))
 
   abbrev imports_of : FileFacts → List (ℕ × ImportFact)
   imports_of facts = enumerate_from 0 facts.imports
 
-  of_imports_same : flat_map (import_diagnostics old f) (imports_of (facts_at old f)) ≡ flat_map (import_diagnostics new f) (imports_of (facts_at new f))
+  of_imports_same : flat_map (import_diagnostics old f) (imports_of (facts_at old f)) ≡ flat_map (import_diagnostics new f') (imports_of (facts_at new f'))
   of_imports_same =
       ap (λ (facts : FileFacts). flat_map (import_diagnostics old f) (imports_of facts)) same.own
-      ∙ ap (λ (of_import : ℕ × ImportFact → List Diag). flat_map of_import (imports_of (facts_at new f))) (fun_ext (import_diagnostics_alike old new f imports_same))
+      ∙ ap (λ (of_import : ℕ × ImportFact → List Diag). flat_map of_import (imports_of (facts_at new f'))) (fun_ext (import_diagnostics_alike old new f f' same.imports))
 
-  decls_same : flat_map (decl_diagnostics old f (view_of (graph_of old) f)) (decls_at old f) ≡ flat_map (decl_diagnostics new f view) decls
+  decls_same : flat_map (decl_diagnostics old f view) (decls_at old f) ≡ flat_map (decl_diagnostics new f' view') decls
   decls_same =
-      ap₂ (λ (seen : List ℕ) (facts : FileFacts). flat_map (decl_diagnostics old f seen) facts.decls) view_same same.own
-      ∙ flat_agree (decl_diagnostics old f view) (decl_diagnostics new f view) decls
-      (λ k d lt. decl_diagnostics_alike old new f move keeps view same.packages (get_or decls k d) (decls_asked k d lt))
+      ap (λ (facts : FileFacts). flat_map (decl_diagnostics old f view) facts.decls) same.own
+      ∙ flat_agree (decl_diagnostics old f view) (decl_diagnostics new f' view') decls
+      (λ k d lt. decl_diagnostics_alike old new f f' move view view' same.keeps same.packages (get_or decls k d) (decls_asked k d lt))
 
-  diagnostics_same : view_diagnostics old f (sites_at old f text tree) ≡ view_diagnostics new f sites
+  diagnostics_same : view_diagnostics old f (sites_at old f text tree) ≡ view_diagnostics new f' sites
   diagnostics_same =
       ap₂ (λ (closed : Bool) (of_names : List Diag). joined_diagnostics closed of_names
-      (flat_map (import_diagnostics old f) (imports_of (facts_at old f))) (flat_map (decl_diagnostics old f (view_of (graph_of old) f)) (decls_at old f)))
-      closed_same names_same
-      ∙ ap₂ (λ (of_imports of_decls : List Diag). joined_diagnostics (is_closed (graph_of new) f) (flat_map (name_diagnostics new f view) sites) of_imports of_decls)
+      (flat_map (import_diagnostics old f) (imports_of (facts_at old f))) (flat_map (decl_diagnostics old f view) (decls_at old f)))
+      same.closed names_same
+      ∙ ap₂ (λ (of_imports of_decls : List Diag). joined_diagnostics (is_closed (graph_of new) f') (flat_map (name_diagnostics new f' view') sites) of_imports of_decls)
       of_imports_same decls_same
 
-  resolved_same : resolved new f text tree ≡ links_after move (resolved old f text tree)
+  -- a file that is told the same is linked as before, but for what `move` makes of the declarations
+  pub resolved_same : resolved new f' text tree ≡ links_after move (resolved old f text tree)
   resolved_same =
       ap₂ (λ (listed : List NameUse) (wrong : List Diag). let links : Links = record { uses = listed; diags = in_order wrong } in links)
       uses_same (sym diagnostics_same)
 
+-- ---- the same number
+
+maps_agree : {X Y : Type 0} (g h : X → Y) (xs : List X) → All (λ x. g x ≡ h x) xs → map g xs ≡ map h xs
+maps_agree g h [] all = refl
+maps_agree {Y = Y} g h (x ∷ xs) all = ap₂ (λ (y : Y) (ys : List Y). y ∷ ys) (All-head (λ x. g x ≡ h x) x xs all) (maps_agree g h xs (All-tail (λ x. g x ≡ h x) x xs all))
+
+module _ (old new : List NamedFacts) (f : ℕ) (move : DeclRef → DeclRef) (keeps : (r : DeclRef) → (let s = move r in s.file) ≡ r.file) (names : List (List ℕ))
+    (same : AsksTheSame old new f move names) where
+  abbrev view_of_new : List ℕ
+  view_of_new = view_of (graph_of new) f
+
+  view_same : view_of (graph_of old) f ≡ view_of_new
+  view_same = ap (λ said. said.0) same.imports
+
+  told_the_same : IsToldTheSame old new f f move names
+  told_the_same = record {
+    own = same.own;
+    closed = ap (λ said. said.1.0) same.imports;
+    imports = ap (λ said. map said_of_import said.1.1) same.imports;
+    packages = ap (λ (seen : List ℕ). map (package_at old) seen) view_same ∙ maps_agree (package_at old) (package_at new) view_of_new same.packages;
+    keeps = λ r here. record {
+      own = ap (λ (g : ℕ). g == f) (keeps r);
+      seen = ap (λ (g : ℕ). is_seen view_of_new g) (keeps r) ∙ ap (λ (seen : List ℕ). is_seen seen r.file) (sym view_same);
+    };
+    named = λ k d lt. same.named k d lt ∙ ap (λ (seen : List ℕ). map (moved move) (seen_named old f seen (get_or names k d))) (sym view_same);
+  }
+
 pub asked_law : AskedLaw
-asked_law old new f move text tree keeps same = resolved_same old new f move text tree keeps same
+asked_law old new f move text tree keeps same =
+    resolved_same old new f f move text tree (told_the_same old new f move keeps (names_asked (sites_at new f text tree) (decls_at new f)) same)

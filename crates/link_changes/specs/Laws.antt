@@ -1,10 +1,12 @@
--- Laws of what a change of declarations leaves as it was.
-use Rattle.std.specs.Prelude.{◌≡◌, ◌≢◌, ℕ, ◌==◌, ◌||◌, List, true, false, All, filter, length, map}
+-- Laws of what a change of declarations, or of the numbers of files, leaves as it was.
+use Rattle.std.specs.Prelude.{◌≡◌, ◌≢◌, ℕ, ◌<◌, ◌==◌, ◌||◌, List, true, false, Option, Some, All, filter, length, map}
+use Rattle.std.specs.Option.{unwrap_or}
 use Rattle.syntax_tree.specs.declared.node.FileTree.{FileTree}
 use Rattle.file_facts.specs.declared.fact.DeclKind.{DeclKind}
 use Rattle.import_graph.specs.declared.paths.NamedFacts.{NamedFacts}
 use Rattle.import_graph.specs.Closures.{view_of}
 use Rattle.import_graph.specs.Imports.{graph_of}
+use Rattle.import_graph.specs.Moves.{IsMovedOutlook, place}
 use Rattle.import_graph.specs.Outlooks.{outlook}
 use Rattle.proto_resolve.specs.declared.target.DeclRef.{DeclRef}
 use Rattle.proto_resolve.specs.Files.{all_named, decl_at, decls_at, facts_at}
@@ -48,3 +50,20 @@ TouchedLaw = (old new : List NamedFacts) (touched : Touched) (f : ℕ) (asked : 
     → has_all asked (names_asked (sites_at new f text tree) (decls_at new f)) ≡ true
     → ((name : List ℕ) → may_ask asked name ≡ true → is_touched touched name ≡ false)
     → resolved new f text tree ≡ links_after (decl_after touched.by) (resolved old f text tree)
+
+-- the same declaration where files have other numbers; that of a file that left stays
+abbrev pub decl_moved : List (Option ℕ) → DeclRef → DeclRef
+decl_moved to r = record { file = unwrap_or (place to r.file) r.file; number = r.number }
+
+-- The file f has the number f' among the new files, the imports say the same of it under the new numbers, and each file that it sees,
+-- itself among them, has the facts that it had.
+pub record MovesAlike (old new : List NamedFacts) (f f' : ℕ) (to : List (Option ℕ)) : Type 0 where
+  pub there : f < length old
+  pub moves : place to f ≡ Some f'
+  pub imports : IsMovedOutlook to (outlook (graph_of old) f) (outlook (graph_of new) f')
+  pub facts : All (λ g. (g' : ℕ) → place to g ≡ Some g' → facts_at new g' ≡ facts_at old g) (view_of (graph_of old) f)
+
+-- a file that sees the same files under other numbers is linked as before, but for the numbers of files
+abbrev pub MovedLaw : Type 0
+MovedLaw = (old new : List NamedFacts) (f f' : ℕ) (to : List (Option ℕ)) (text : List ℕ) (tree : FileTree) → MovesAlike old new f f' to
+    → resolved new f' text tree ≡ links_after (decl_moved to) (resolved old f text tree)

@@ -1,5 +1,5 @@
-// Laws of what a change of declarations leaves as it was. Each is proved for all files, and its function does nothing.
-ghost use Rattle.link_changes.specs.Laws.{AskedLaw, TouchedLaw};
+// Laws of what a change of declarations or of the numbers of files leaves as it was. Each is proved for all files, and its function does nothing.
+ghost use Rattle.link_changes.specs.Laws.{AskedLaw, MovedLaw, TouchedLaw};
 
 /// A law: what is known of a file by what it sees depends, of all declarations, on those of the full names for which it asks. If
 /// they are the same but for their numbers, what is known is the same but for these.
@@ -11,4 +11,10 @@ pub fn asked_law()
 /// declarations.
 pub fn touched_law()
     ensures { TouchedLaw }
+{}
+
+/// A law: a file that sees the same files as before, with the same facts, under other numbers, is linked as before, but for the
+/// numbers of files.
+pub fn moved_law()
+    ensures { MovedLaw }
 {}
