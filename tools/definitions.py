@@ -45,7 +45,7 @@ PRIVATE = {
     "proto_facts": {"Seen", "Reach"},
     "file_facts": {"NameTexts", "Seen", "Reach"},
     "import_graph": {"Condensed", "Fronts", "Components", "Ties", "Tours", "Shared"},
-    "proto_resolve": {"Places", "Views", "Tables", "Replaced"},
+    "proto_resolve": {"Places", "Views", "Tables", "Replaced", "Moved"},
     "doc_text": {"Bytes", "Walks"},
     "lsp_queries": {"Searching"},
     "lsp_rpc": {"Writing"},

@@ -36,7 +36,7 @@ enumerate_both n (x ∷ xs) ys =
     let e : n + 1 + length xs ≡ n + length (x ∷ xs) = omega arith in
     ap (λ l. (n, x) ∷ l) (enumerate_both (n + 1) xs ys ∙ ap (λ k. enumerate_from (n + 1) xs ++ enumerate_from k ys) e)
 
-decls_behind : (n m : ℕ) (files : List NamedFacts) → flat_map refs (enumerate_from (n + m) files) ≡ map (renumbered n) (flat_map refs (enumerate_from m files))
+pub decls_behind : (n m : ℕ) (files : List NamedFacts) → flat_map refs (enumerate_from (n + m) files) ≡ map (renumbered n) (flat_map refs (enumerate_from m files))
 decls_behind n m [] = refl
 decls_behind n m (f ∷ fs) =
     let next : n + m + 1 ≡ n + (m + 1) = omega arith in

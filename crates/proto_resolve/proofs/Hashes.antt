@@ -132,7 +132,7 @@ one_alone hashes hash parted some first second =
 
 -- ---- those of one number
 
-read_mapped : {A B : Type 0} (f : A → B) (xs : List A) (k : ℕ) (d : A) → get_or (map f xs) k (f d) ≡ f (get_or xs k d)
+pub read_mapped : {A B : Type 0} (f : A → B) (xs : List A) (k : ℕ) (d : A) → get_or (map f xs) k (f d) ≡ f (get_or xs k d)
 read_mapped f [] zero d = refl
 read_mapped f [] (suc k) d = refl
 read_mapped f (x ∷ xs) zero d = refl

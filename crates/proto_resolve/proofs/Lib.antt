@@ -34,3 +34,6 @@ pub mod Outlines
 pub mod Replaced
 pub mod DiagnosticsSaid
 pub mod BaseChanges
+pub mod Walked
+pub mod MovedFiles
+pub mod MovedBuckets

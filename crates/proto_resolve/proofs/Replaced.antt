@@ -31,7 +31,7 @@ use Rattle.proto_resolve.proofs.InBuckets.{buckets_moved}
 use Rattle.proto_resolve.proofs.Order.{files_from, refs, refs_from, IsFrom}
 use Rattle.proto_resolve.proofs.Same.{counted_both, same_all, same_kept, same_mapped, same_moved}
 
-abbrev another : ℕ → DeclRef → Bool
+abbrev pub another : ℕ → DeclRef → Bool
 another f r = not (r.file == f)
 
 abbrev of_file : ℕ → DeclRef → Bool
@@ -40,10 +40,10 @@ of_file f r = r.file == f
 is_there : (a b : ℕ) → a ≡ b → (a == b) ≡ true
 is_there a b e = grind (arith, nat_tests)
 
-is_elsewhere : (a b : ℕ) → (a ≡ b → ⊥) → (a == b) ≡ false
+pub is_elsewhere : (a b : ℕ) → (a ≡ b → ⊥) → (a == b) ≡ false
 is_elsewhere a b other = grind (arith, nat_tests)
 
-not_there : (a b : ℕ) → not (a == b) ≡ true → a ≢ b
+pub not_there : (a b : ℕ) → not (a == b) ≡ true → a ≢ b
 not_there a b e same = absurd (cc (e, is_there a b same))
 
 -- ---- the declarations of one file, and those of the others
@@ -60,7 +60,7 @@ none_behind f n files lt =
     keeps_none (of_file f) (flat_map refs (enumerate_from n files))
     (All-weaker (λ r. n ≤ r.file) (λ r. of_file f r ≡ false) (λ r from. is_elsewhere r.file f (λ e. omega (arith, lt, from, e))) (flat_map refs (enumerate_from n files)) (files_from n files))
 
-none_else : (n : ℕ) (decls : List Decl) → filter (another n) (refs_of n decls) ≡ []
+pub none_else : (n : ℕ) (decls : List Decl) → filter (another n) (refs_of n decls) ≡ []
 none_else n decls = keeps_none (another n) (refs_of n decls) (All-weaker (IsFrom n 0) (λ r. another n r ≡ false) (λ r from. ap not (is_there r.file n from.0)) (refs_of n decls) (refs_from n 0 decls))
 
 abbrev decls_in : NamedFacts → List Decl
@@ -128,10 +128,10 @@ module _ (old : List NamedFacts) (f : ℕ) (facts : FileFacts) (there : f < leng
 
 -- ---- parts of the declarations of one file
 
-abbrev numbered : ℕ → ℕ → DeclRef
+abbrev pub numbered : ℕ → ℕ → DeclRef
 numbered f n = record { file = f; number = n }
 
-numbered_from : (f n : ℕ) (decls : List Decl) → map (λ (d : ℕ × Decl). numbered f d.0) (enumerate_from n decls) ≡ map (numbered f) (range_with_len n (length decls))
+pub numbered_from : (f n : ℕ) (decls : List Decl) → map (λ (d : ℕ × Decl). numbered f d.0) (enumerate_from n decls) ≡ map (numbered f) (range_with_len n (length decls))
 numbered_from f n [] = refl
 numbered_from f n (x ∷ xs) = ap (λ (rs : List DeclRef). record { file = f; number = n } ∷ rs) (numbered_from f (n + 1) xs)
 
@@ -177,7 +177,7 @@ module _ (files : List NamedFacts) (f : ℕ) (there : f < length files) where
       subst (λ n. filter (of_file n) (all_decls files) ≡ refs_of n (decls_in (get_or files f file))) first (own_from 0 f files file there)
       ∙ ap (λ (fs : FileFacts). refs_of f fs.decls) (sym (get_or-map (λ (file : NamedFacts). file.facts) files f file no_facts there))
 
-  parted : (p : DeclRef → Bool) → length (filter p (all_decls files)) ≡ length (filter p (filter (another f) (all_decls files) ++ refs_of f (decls_at files f)))
+  pub parted : (p : DeclRef → Bool) → length (filter p (all_decls files)) ≡ length (filter p (filter (another f) (all_decls files) ++ refs_of f (decls_at files f)))
   parted p =
       same_moved (all_decls files) (filter (another f) (all_decls files) ++ filter (of_file f) (all_decls files)) (IsPermutation-filter_both (another f) (of_file f) (λ r. twice (of_file f r)) (all_decls files)) p
       ∙ ap (λ rs. length (filter p (filter (another f) (all_decls files) ++ rs))) own_decls
@@ -191,10 +191,10 @@ module _ (files : List NamedFacts) (f : ℕ) (there : f < length files) where
 -- ---- their entries
 
 module _ (text : DeclRef → List ℕ) (rs stay part : List DeclRef) (same : (p : DeclRef → Bool) → length (filter p rs) ≡ length (filter p (stay ++ part))) where
-  names_gathered : AreRearranged (map (hashed text) rs) (map (hashed text) stay ++ map (hashed text) part)
+  pub names_gathered : AreRearranged (map (hashed text) rs) (map (hashed text) stay ++ map (hashed text) part)
   names_gathered p = same_mapped (hashed text) rs (stay ++ part) same p ∙ ap (λ es. length (filter p es)) (map-append (hashed text) stay part)
 
-  holders_gathered : (holder : DeclRef → Bool) → AreRearranged (map (hashed text) (filter holder rs)) (map (hashed text) (filter holder stay) ++ map (hashed text) (filter holder part))
+  pub holders_gathered : (holder : DeclRef → Bool) → AreRearranged (map (hashed text) (filter holder rs)) (map (hashed text) (filter holder stay) ++ map (hashed text) (filter holder part))
   holders_gathered holder p =
       same_mapped (hashed text) (filter holder rs) (filter holder (stay ++ part)) (same_kept rs (stay ++ part) same holder) p
       ∙ ap (λ es. length (filter p es)) (ap (map (hashed text)) (filter-append holder stay part) ∙ map-append (hashed text) (filter holder stay) (filter holder part))

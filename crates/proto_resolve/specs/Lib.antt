@@ -16,6 +16,7 @@ pub mod Entries
 pub mod Bases
 pub mod Buckets
 pub mod Replaced
+pub mod Moved
 pub mod Finding
 pub mod FindingLaws
 pub mod Seen

@@ -49,6 +49,33 @@ fn deal(entries: &[HashedDecl], lists: &mut Vec<Vec<HashedDecl>>) -> Result<(), 
     Ok(())
 }
 
+// Counts for each of the entries one more of its bucket.
+fn count_entries(entries: &[HashedDecl], counts: &mut Vec<usize>)
+    requires { 0 < vec_len counts.old }
+    ensures { vec_len counts.new ≡ vec_len counts.old }
+{
+    for entry in entries {
+        let number = bucket_of(entry.hash, counts.len());
+        counts[number] = counts[number].saturating_add(1);
+    }
+}
+
+// How many of the entries of runs each bucket gets, so that its list takes no more memory than that.
+fn counts_of(
+    alloc: Global,
+    runs: &[Vec<HashedDecl>],
+    count: usize,
+) -> Result<Vec<usize>, AllocError>
+    requires { 0 < count }
+    ensures { IfOk result (λ v. vec_len v ≡ count) }
+{
+    let mut counts = vec![in alloc; 0; count]?;
+    for run in runs {
+        count_entries(run.as_slice(), &mut counts);
+    }
+    Ok(counts)
+}
+
 // The entries of runs, in the lists of their buckets, of which there are so many.
 fn dealt(
     alloc: Global,
@@ -59,10 +86,10 @@ fn dealt(
     ensures len { IfOk result (λ v. vec_len v ≡ count) }
     ensures each { IfOk result (λ v. (n : ℕ) → n < count → slice_index_or (map (λ list. list.items) v.items) n [] ≡ filter (is_in count n) (flat_map (λ run. run.items) runs.now)) }
 {
+    let counts = counts_of(alloc, runs, count)?;
     let mut lists = Vec::with_capacity(alloc, count)?;
-    for _list in 0..count {
-        // On average a bucket gets at most twice as many, and few buckets get a quarter more than that.
-        lists.push(Vec::with_capacity(alloc, 2 * DECLS_FOR_EACH + DECLS_FOR_EACH / 2)?)?;
+    for number in 0..count {
+        lists.push(Vec::with_capacity(alloc, counts[number])?)?;
     }
     for run in runs {
         deal(run.as_slice(), &mut lists)?;
@@ -96,16 +123,19 @@ fn bucket_count(runs: &[Vec<HashedDecl>]) -> usize
 }
 
 impl Buckets {
-    // The entries of runs in buckets, each put in order. An `Err` comes only where memory was refused.
+    // The entries of runs in buckets, each put in order. The runs are dropped as soon as their entries are dealt. An `Err` comes only
+    // where memory was refused.
     pub fn of<O: EntryOrder>(
         alloc: Global,
         files: &[NamedFacts],
-        runs: &[Vec<HashedDecl>],
+        runs: Vec<Vec<HashedDecl>>,
     ) -> Result<Buckets, AllocError>
         requires { IsTotalOrder (O.order files.now) }
-        ensures { IfOk result (λ b. AreInBuckets (O.order files.now) (flat_map (λ run. run.items) runs.now) b.list.items) }
+        ensures { IfOk result (λ b. AreInBuckets (O.order files.now) (flat_map (λ run. run.items) runs.items) b.list.items) }
     {
-        let lists = dealt(alloc, runs, bucket_count(runs))?;
+        let count = bucket_count(runs.as_slice());
+        let lists = dealt(alloc, runs.as_slice(), count)?;
+        drop(runs);
         let mut list = Vec::with_capacity(alloc, lists.len())?;
         for entries in lists {
             list.push(put_in_order::<O>(alloc, files, entries)?)?;

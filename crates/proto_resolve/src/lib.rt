@@ -24,6 +24,7 @@ mod holders;
 mod index;
 mod kept;
 mod laws;
+mod moving;
 mod name_entries;
 mod name_table;
 mod naming;

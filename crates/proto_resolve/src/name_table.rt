@@ -1,6 +1,6 @@
 // Files with their declarations by name.
 ghost use Rattle.std.specs.Prelude.{◌≡◌, ◌<◌, ◌≤◌, length, take, All, false, IfOk};
-ghost use Rattle.std.specs.List.{flat_map};
+ghost use Rattle.std.specs.List.{flat_map, insert, remove};
 ghost use Rattle.std.specs.List.Sorted.{IsNonDecreasing};
 ghost use Rattle.file_facts.specs.Text.{joined};
 ghost use Rattle.proto_resolve.specs.Buckets.{AreInBuckets};
@@ -8,15 +8,17 @@ ghost use Rattle.proto_resolve.specs.Files.{all_named, facts_at};
 ghost use Rattle.proto_resolve.specs.Holders.{is_held, IsLast};
 ghost use Rattle.file_facts.specs.FullNames.{AreNameParts, has_dot, hash_of};
 ghost use Rattle.proto_resolve.specs.Outlines.{with_facts};
+ghost use Rattle.proto_resolve.specs.Replaced.{WereInBuckets};
 ghost use Rattle.proto_resolve.specs.Seen.{exports};
-ghost use Rattle.proto_resolve.specs.Tables.{by_name, by_scope, name_at};
+ghost use Rattle.proto_resolve.specs.Tables.{by_name, by_scope, holder_entries, name_at, name_entries};
 
 use crate::buckets::Buckets;
 use crate::entry_order::{ByName, ByScope};
 use crate::hashed::{HashedDecl, with_text};
 use crate::holders::last_place;
-use crate::kept::kept_of;
-use crate::name_entries::{NameEntries, entries_beside};
+use crate::kept::{Kept, kept_of};
+use crate::moving::Change;
+use crate::name_entries::{NameEntries, OwnEntries, entries_beside};
 use crate::naming::{FullNames, LastComponents};
 use crate::packages::unsplit;
 use crate::replacing::{change_holders, change_names};
@@ -54,9 +56,9 @@ impl Model for NameTable {
 fn names_in_buckets(
     alloc: Global,
     files: &[NamedFacts],
-    runs: &[Vec<HashedDecl>],
+    runs: Vec<Vec<HashedDecl>>,
 ) -> Result<Buckets, AllocError>
-    ensures { IfOk result (λ b. AreInBuckets (by_name (name_at files.now)) (flat_map (λ run. run.items) runs.now) b.list.items) }
+    ensures { IfOk result (λ b. AreInBuckets (by_name (name_at files.now)) (flat_map (λ run. run.items) runs.items) b.list.items) }
 {
     Buckets::of::<ByName>(alloc, files, runs)
 }
@@ -65,9 +67,9 @@ fn names_in_buckets(
 fn holders_in_buckets(
     alloc: Global,
     files: &[NamedFacts],
-    runs: &[Vec<HashedDecl>],
+    runs: Vec<Vec<HashedDecl>>,
 ) -> Result<Buckets, AllocError>
-    ensures { IfOk result (λ b. AreInBuckets (by_scope (name_at files.now)) (flat_map (λ run. run.items) runs.now) b.list.items) }
+    ensures { IfOk result (λ b. AreInBuckets (by_scope (name_at files.now)) (flat_map (λ run. run.items) runs.items) b.list.items) }
 {
     Buckets::of::<ByScope>(alloc, files, runs)
 }
@@ -108,6 +110,51 @@ fn is_slow(
     Ok(moves / 32 > all)
 }
 
+// The table of the files, where the buckets have entries of other files, before a change: those are gone, and these come. An `Err` comes
+// only where memory was refused.
+fn with_entries(
+    alloc: Global,
+    files: Vec<NamedFacts>,
+    names: Buckets,
+    holders: Buckets,
+    gone: &OwnEntries,
+    come: &OwnEntries,
+) -> Result<NameTable, AllocError>
+    requires names { WereInBuckets (λ old. by_name (name_at old)) name_entries files.items gone.now.names.items come.now.names.items names.list.items }
+    requires holders { WereInBuckets (λ old. by_scope (name_at old)) holder_entries files.items gone.now.holders.items come.now.holders.items holders.list.items }
+    ensures { IfOk result (λ t. t ≡ files.items) }
+{
+    if is_slow(alloc, &names, gone.names.as_slice(), come.names.as_slice())?
+        || is_slow(
+            alloc,
+            &holders,
+            gone.holders.as_slice(),
+            come.holders.as_slice(),
+        )?
+    {
+        return NameTable::of(alloc, NameEntries::of(alloc, files)?);
+    }
+    let mut names = names;
+    let mut holders = holders;
+    change_names(
+        files.as_slice(),
+        gone.names.as_slice(),
+        come.names.as_slice(),
+        &mut names,
+    )?;
+    change_holders(
+        files.as_slice(),
+        gone.holders.as_slice(),
+        come.holders.as_slice(),
+        &mut holders,
+    )?;
+    Ok(NameTable {
+        files,
+        names,
+        holders,
+    })
+}
+
 impl NameTable {
     /// The table of the files of some entries. An `Err` comes only where memory was refused.
     pub fn of(alloc: Global, entries: NameEntries) -> Result<NameTable, AllocError>
@@ -118,8 +165,8 @@ impl NameTable {
             names,
             holders,
         } = entries;
-        let names = names_in_buckets(alloc, files.as_slice(), names.as_slice())?;
-        let holders = holders_in_buckets(alloc, files.as_slice(), holders.as_slice())?;
+        let names = names_in_buckets(alloc, files.as_slice(), names)?;
+        let holders = holders_in_buckets(alloc, files.as_slice(), holders)?;
         Ok(NameTable {
             files,
             names,
@@ -141,16 +188,14 @@ impl NameTable {
             holders,
         } = entries;
         let seen = files.as_slice();
-        let name_runs = names.as_slice();
-        let holder_runs = holders.as_slice();
         let (made_names, made_holders) = thread::join(
             rt,
             || -> Result<Buckets, AllocError>
-                ensures { IfOk result (λ b. AreInBuckets (by_name (name_at seen.entry.now)) (flat_map (λ run. run.items) name_runs.entry.now) b.list.items) }
-            { names_in_buckets(alloc, seen, name_runs) },
+                ensures { IfOk result (λ b. AreInBuckets (by_name (name_at seen.entry.now)) (flat_map (λ run. run.items) names.items) b.list.items) }
+            { names_in_buckets(alloc, seen, names) },
             || -> Result<Buckets, AllocError>
-                ensures { IfOk result (λ b. AreInBuckets (by_scope (name_at seen.entry.now)) (flat_map (λ run. run.items) holder_runs.entry.now) b.list.items) }
-            { holders_in_buckets(alloc, seen, holder_runs) },
+                ensures { IfOk result (λ b. AreInBuckets (by_scope (name_at seen.entry.now)) (flat_map (λ run. run.items) holders.items) b.list.items) }
+            { holders_in_buckets(alloc, seen, holders) },
         );
         Ok(NameTable {
             names: made_names?,
@@ -230,8 +275,8 @@ impl NameTable {
     {
         let NameTable {
             mut files,
-            mut names,
-            mut holders,
+            names,
+            holders,
         } = self;
         let kept = kept_of(
             files[file].facts.get().decls.as_slice(),
@@ -240,28 +285,61 @@ impl NameTable {
         let gone = entries_beside(alloc, files.as_slice(), file, kept)?;
         files[file].facts = facts;
         let come = entries_beside(alloc, files.as_slice(), file, kept)?;
-        if is_slow(alloc, &names, gone.names.as_slice(), come.names.as_slice())?
-            || is_slow(
-                alloc,
-                &holders,
-                gone.holders.as_slice(),
-                come.holders.as_slice(),
-            )?
+        with_entries(alloc, files, names, holders, &gone, &come)
+    }
+
+    /// The table with one more file, which gets the number `at`, counted from 0: those from there on have one more. Only the names of
+    /// that file get places, and all others stay in theirs, except where the table is made anew sooner. An `Err` comes only where memory was
+    /// refused; the table is gone then.
+    pub fn with_file(
+        self,
+        alloc: Global,
+        at: usize,
+        file: NamedFacts,
+    ) -> Result<NameTable, AllocError>
+        requires { at ≤ length self }
+        ensures { IfOk result (λ t. t ≡ insert self at file) }
+    {
+        let NameTable {
+            mut files,
+            mut names,
+            mut holders,
+        } = self;
+        files.insert(at, file)?;
+        names.renumber(Change::Comes, at);
+        holders.renumber(Change::Comes, at);
+        let gone = OwnEntries {
+            names: Vec::new(alloc),
+            holders: Vec::new(alloc),
+        };
+        let come = entries_beside(alloc, files.as_slice(), at, Kept { front: 0, back: 0 })?;
+        with_entries(alloc, files, names, holders, &gone, &come)
+    }
+
+    /// The table without the file of the number `at`, counted from 0: those behind it have one less. Only the names of that file leave
+    /// their places, and all others stay in theirs, except where the table is made anew sooner. An `Err` comes only where memory was
+    /// refused; the table is gone then.
+    pub fn without_file(self, alloc: Global, at: usize) -> Result<NameTable, AllocError>
+        requires { at < length self }
+        ensures { IfOk result (λ t. t ≡ remove self at) }
+    {
+        let NameTable {
+            mut files,
+            mut names,
+            mut holders,
+        } = self;
+        let gone = entries_beside(alloc, files.as_slice(), at, Kept { front: 0, back: 0 })?;
+        if is_slow(alloc, &names, gone.names.as_slice(), &[])?
+            || is_slow(alloc, &holders, gone.holders.as_slice(), &[])?
         {
+            files.remove(at);
             return NameTable::of(alloc, NameEntries::of(alloc, files)?);
         }
-        change_names(
-            files.as_slice(),
-            gone.names.as_slice(),
-            come.names.as_slice(),
-            &mut names,
-        )?;
-        change_holders(
-            files.as_slice(),
-            gone.holders.as_slice(),
-            come.holders.as_slice(),
-            &mut holders,
-        )?;
+        names.leave_out(gone.names.as_slice());
+        holders.leave_out(gone.holders.as_slice());
+        names.renumber(Change::Leaves, at);
+        holders.renumber(Change::Leaves, at);
+        files.remove(at);
         Ok(NameTable {
             files,
             names,

@@ -52,9 +52,9 @@ pub fn resolve_file<I: Index>(
 {
     let facts = index.facts(file);
     let sites = names_of_file(alloc, text, facts, tree.nodes.as_slice())?;
-    // Without an import there is nothing to search.
-    let names_nothing = sites.is_empty() && !facts.imports.is_empty();
-    if names_nothing && are_alone(index, file, facts.decls.as_slice()) {
+    // A file without imports sees itself alone, so there is nothing to search.
+    let imports_without_names = sites.is_empty() && !facts.imports.is_empty();
+    if imports_without_names && are_alone(index, file, facts.decls.as_slice()) {
         // Nothing depends on what the file sees, so that isn't searched.
         let found = import_diagnostics(alloc, index, file)?;
         return ordered_links(alloc, Items::new(alloc), &found);

@@ -1,5 +1,6 @@
 // An index that holds its files.
-ghost use Rattle.std.specs.Prelude.{◌≡◌, ◌<◌, length, IfOk};
+ghost use Rattle.std.specs.Prelude.{◌≡◌, ◌<◌, ◌≤◌, length, IfOk};
+ghost use Rattle.std.specs.List.{insert, remove};
 ghost use Rattle.import_graph.specs.Imports.{graph_of};
 ghost use Rattle.import_graph.specs.Paths.{IsInPathOrder};
 ghost use Rattle.proto_resolve.specs.Bases.{IsBaseOf};
@@ -127,6 +128,48 @@ impl Table {
         let names = names.replace(alloc, file, facts)?;
         let base = base.changed(alloc, names.files(), file, same_package)?;
         Ok(Table::of_parts(names, base))
+    }
+
+    /// The table with one more file, which gets the number `at`, counted from 0: those from there on have one more; and the graph of the
+    /// files before. Of the names only that file's are put in order; the graph and the rest are made anew. An `Err` comes only where
+    /// memory was refused; the table is gone then.
+    pub fn with_file(
+        self,
+        alloc: Global,
+        at: usize,
+        file: NamedFacts,
+    ) -> Result<(Table, Graph), AllocError>
+        requires within { at ≤ length self }
+        requires ordered { IsInPathOrder (insert self at file) }
+        ensures table { IfOk result (λ r. r.0 ≡ insert self at file) }
+        ensures graph { IfOk result (λ r. r.1 ≡ graph_of self) }
+    {
+        let Table { names, base } = self;
+        let names = names.with_file(alloc, at, file)?;
+        let made = TableBase::of(alloc, names.files())?;
+        Ok((Table::of_parts(names, made), base.graph))
+    }
+
+    /// The table without the file of the number `at`, counted from 0: those behind it have one less; and the graph of the files
+    /// before. Of the names only that file's leave their places; the graph and the rest are made anew. An `Err` comes only where memory
+    /// was refused; the table is gone then.
+    pub fn without_file(self, alloc: Global, at: usize) -> Result<(Table, Graph), AllocError>
+        requires { at < length self }
+        ensures table { IfOk result (λ r. r.0 ≡ remove self at) }
+        ensures graph { IfOk result (λ r. r.1 ≡ graph_of self) }
+    {
+        let Table { names, base } = self;
+        let names = names.without_file(alloc, at)?;
+        let made = TableBase::of(alloc, names.files())?;
+        Ok((Table::of_parts(names, made), base.graph))
+    }
+
+    /// The graph of the files alone; the rest of the table is gone then.
+    pub fn into_graph(self) -> Graph
+        ensures { result ≡ graph_of self }
+    {
+        let Table { base, .. } = self;
+        base.graph
     }
 
     /// All declarations, by path, then offset.

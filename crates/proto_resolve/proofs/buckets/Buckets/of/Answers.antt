@@ -19,6 +19,6 @@ returns g c =
     sym (map-id _)
     ∙ (YieldsList-end (YieldsList-from_vec c.in_ok-lists.lists.items c.into_iter-entries-iterator.ensures.into_iter_gives.0 (search rules)) c.loop-entries.yielded _ c.loop-entries.yielded_by _ c.next.new.self c.in-None.is c.next.ensures.steps).0 in
     let lists : List (List HashedDecl) = map (λ list. list.items) c.in_ok-lists.lists.items in
-    let many : length lists ≡ c.bucket_count.result = omega (arith, length-map c.in_ok-lists.lists.items (λ list. list.items), c.in_ok-lists.ensures.len) in
-    in_buckets (g.O.EntryOrder.order c.args.files.now) (flat_map (λ run. run.items) c.args.runs.now) lists c.loop-entries.list.items c.bucket_count.result
-    c.bucket_count.ensures many c.in_ok-lists.ensures.each (rw whole at c.loop-entries.invariant)
+    let many : length lists ≡ c.bucket_count-count.result = omega (arith, length-map c.in_ok-lists.lists.items (λ list. list.items), c.in_ok-lists.ensures.len) in
+    in_buckets (g.O.EntryOrder.order c.args.files.now) (flat_map (λ run. run.items) c.args.runs.items) lists c.loop-entries.list.items c.bucket_count-count.result
+    c.bucket_count-count.ensures many (rw c.as_slice-2.ensures.value at c.in_ok-lists.ensures.each) (rw whole at c.loop-entries.invariant)

@@ -10,8 +10,8 @@ pub invariant_of-result : goal.invariant_of-result
 invariant_of-result c = record {
   names_are = subst (λ es. AreInBuckets (by_name (name_at c.entries.inside.files.items)) es c.in_ok-names.names.list.items)
       (flat_items (λ run. run.items) c.entries.inside.names.items ∙ c.entries.invariant.names_are)
-      (rw (c.as_slice.ensures.value, c.as_slice-2.ensures.value) at c.in_ok-names.ensures);
+      (rw c.as_slice.ensures.value at c.in_ok-names.ensures);
   holders_are = buckets_moved (by_scope (name_at c.entries.inside.files.items)) (flat_map (λ run. run.items) c.entries.inside.holders.items) (holder_entries c.entries.inside.files.items) c.in_ok-holders.holders.list.items
       (λ p. c.entries.invariant.holders_are p ∙ ap (λ es. length (filter p es)) (sym (flat_items (λ run. run.items) c.entries.inside.holders.items)))
-      (rw (c.as_slice-3.ensures.value, c.as_slice-4.ensures.value) at c.in_ok-holders.ensures);
+      (rw c.as_slice-2.ensures.value at c.in_ok-holders.ensures);
 }

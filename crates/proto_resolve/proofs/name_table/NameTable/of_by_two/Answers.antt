@@ -10,8 +10,8 @@ pub invariant_of-result : goal.invariant_of-result
 invariant_of-result g c = record {
   names_are = subst (λ es. AreInBuckets (by_name (name_at c.entries.inside.files.items)) es c.in_ok-made_names.field-0.list.items)
       (flat_items (λ run. run.items) c.entries.inside.names.items ∙ c.entries.invariant.names_are)
-      (rw (c.in_ok-made_names.was, c.as_slice-seen.ensures.value, c.as_slice-name_runs.ensures.value) at c.join-made_names.ensures.first);
+      (rw (c.in_ok-made_names.was, c.as_slice-seen.ensures.value) at c.join-made_names.ensures.first);
   holders_are = buckets_moved (by_scope (name_at c.entries.inside.files.items)) (flat_map (λ run. run.items) c.entries.inside.holders.items) (holder_entries c.entries.inside.files.items) c.in_ok-made_holders.field-0.list.items
       (λ p. c.entries.invariant.holders_are p ∙ ap (λ es. length (filter p es)) (sym (flat_items (λ run. run.items) c.entries.inside.holders.items)))
-      (rw (c.in_ok-made_holders.was, c.as_slice-seen.ensures.value, c.as_slice-holder_runs.ensures.value) at c.join-made_names.ensures.second);
+      (rw (c.in_ok-made_holders.was, c.as_slice-seen.ensures.value) at c.join-made_names.ensures.second);
 }

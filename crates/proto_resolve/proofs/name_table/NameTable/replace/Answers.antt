@@ -1,5 +1,4 @@
-use Rattle.std.proofs.Common.{◌≡◌, ◌∙◌, ◌<◌, List, ap, length, subst}
-use Rattle.std.specs.Prelude.{IfOk}
+use Rattle.std.proofs.Common.{◌≡◌, ◌∙◌, ◌<◌, List, ap, length}
 use Rattle.file_facts.specs.declared.fact.FileFacts.{FileFacts}
 use Rattle.import_graph.specs.declared.paths.NamedFacts.{NamedFacts}
 use Rattle.proto_resolve.specs.Outlines.{with_facts}
@@ -17,36 +16,26 @@ entries_beside-requires-2-clause-kept c =
     let new : c.as_slice-4.result.now ≡ with_facts old c.args.file c.args.facts = c.as_slice-4.ensures.value ∙ facts_set old c.args.file c.index_mut.result.now c.args.facts there c.index_mut.ensures.value in
     rw new kept.within_after
 
-pub change_names-requires : goal.change_names-requires
-change_names-requires c =
+pub with_entries-requires-clause-names : goal.with_entries-requires-clause-names
+with_entries-requires-clause-names c =
     let old : List NamedFacts = c.self.inside.files.items in
     let seen : c.args.self ≡ old = cc in
     let there : c.args.file < length old = rw seen at c.requires in
     let kept = kept_there old c.args.file c.index.result.now c.args.facts c.as_slice.result.now c.as_slice-2.result.now c.kept_of-kept.result.front c.kept_of-kept.result.back there c.index.ensures
     (c.as_slice.ensures ∙ ap (λ (fs : FileFacts). fs.decls) c.get.ensures) (c.as_slice-2.ensures ∙ ap (λ (fs : FileFacts). fs.decls) c.get-2.ensures) c.kept_of-kept.ensures in
     let new : c.as_slice-4.result.now ≡ with_facts old c.args.file c.args.facts = c.as_slice-4.ensures.value ∙ facts_set old c.args.file c.index_mut.result.now c.args.facts there c.index_mut.ensures.value in
-    let now : c.as_slice-7.result.now ≡ with_facts old c.args.file c.args.facts = c.as_slice-7.ensures.value ∙ facts_set old c.args.file c.index_mut.result.now c.args.facts there c.index_mut.ensures.value in
-    rw now
-    (names_were old c.args.file c.args.facts there c.kept_of-kept.result.front c.kept_of-kept.result.back kept c.as_slice-8.result.now c.as_slice-9.result.now c.self.inside.names.list.items
-    (c.as_slice-8.ensures.value ∙ rw c.as_slice-3.ensures.value at c.in_ok-gone.ensures.names) (c.as_slice-9.ensures.value ∙ rw new at c.in_ok-come.ensures.names) c.self.invariant.names_are)
+    rw (facts_set old c.args.file c.index_mut.result.now c.args.facts there c.index_mut.ensures.value)
+    (names_were old c.args.file c.args.facts there c.kept_of-kept.result.front c.kept_of-kept.result.back kept c.in_ok-gone.gone.names.items c.in_ok-come.come.names.items c.self.inside.names.list.items
+    (rw c.as_slice-3.ensures.value at c.in_ok-gone.ensures.names) (rw new at c.in_ok-come.ensures.names) c.self.invariant.names_are)
 
-pub change_holders-requires : goal.change_holders-requires
-change_holders-requires c =
+pub with_entries-requires-clause-holders : goal.with_entries-requires-clause-holders
+with_entries-requires-clause-holders c =
     let old : List NamedFacts = c.self.inside.files.items in
     let seen : c.args.self ≡ old = cc in
     let there : c.args.file < length old = rw seen at c.requires in
     let kept = kept_there old c.args.file c.index.result.now c.args.facts c.as_slice.result.now c.as_slice-2.result.now c.kept_of-kept.result.front c.kept_of-kept.result.back there c.index.ensures
     (c.as_slice.ensures ∙ ap (λ (fs : FileFacts). fs.decls) c.get.ensures) (c.as_slice-2.ensures ∙ ap (λ (fs : FileFacts). fs.decls) c.get-2.ensures) c.kept_of-kept.ensures in
     let new : c.as_slice-4.result.now ≡ with_facts old c.args.file c.args.facts = c.as_slice-4.ensures.value ∙ facts_set old c.args.file c.index_mut.result.now c.args.facts there c.index_mut.ensures.value in
-    let now : c.as_slice-10.result.now ≡ with_facts old c.args.file c.args.facts = c.as_slice-10.ensures.value ∙ facts_set old c.args.file c.index_mut.result.now c.args.facts there c.index_mut.ensures.value in
-    rw now
-    (holders_were old c.args.file c.args.facts there c.kept_of-kept.result.front c.kept_of-kept.result.back kept c.as_slice-11.result.now c.as_slice-12.result.now c.self.inside.holders.list.items
-    (c.as_slice-11.ensures.value ∙ rw c.as_slice-3.ensures.value at c.in_ok-gone.ensures.holders) (c.as_slice-12.ensures.value ∙ rw new at c.in_ok-come.ensures.holders) c.self.invariant.holders_are)
-
-pub returns-then-branch : goal.returns-then-branch
-returns-then-branch c =
-    let old : List NamedFacts = c.self.inside.files.items in
-    let seen : c.args.self ≡ old = cc in
-    let there : c.args.file < length old = rw seen at c.requires in
-    let new : c.in_ok-of.field-0 ≡ with_facts old c.args.file c.args.facts = c.in_ok-of.ensures ∙ facts_set old c.args.file c.index_mut.result.now c.args.facts there c.index_mut.ensures.value in
-    rw seen (subst (λ (fs : List NamedFacts). IfOk c.of-then-branch.result (λ t. t ≡ fs)) new c.of-then-branch.ensures)
+    rw (facts_set old c.args.file c.index_mut.result.now c.args.facts there c.index_mut.ensures.value)
+    (holders_were old c.args.file c.args.facts there c.kept_of-kept.result.front c.kept_of-kept.result.back kept c.in_ok-gone.gone.holders.items c.in_ok-come.come.holders.items c.self.inside.holders.list.items
+    (rw c.as_slice-3.ensures.value at c.in_ok-gone.ensures.holders) (rw new at c.in_ok-come.ensures.holders) c.self.invariant.holders_are)
