@@ -1,8 +1,10 @@
-// The analysis after a change of one file's text: that of the changed workspace, whatever the change tells the other files.
-ghost use Rattle.std.specs.Prelude.{◌≡◌, ◌<◌, [], false, length, map, slice_index_or, IfOk, IsTrue};
+// The analysis after changes of files' texts: that of the changed workspace, whatever the changes tell the other files.
+ghost use Rattle.std.specs.Prelude.{◌≡◌, ◌==◌, ◌<◌, All, length, IsTrue};
+ghost use Rattle.std.specs.List.{list_any};
 ghost use Rattle.piece_collector.specs.Board.{Ascends};
-ghost use Rattle.work_index.specs.Changes.{with_text};
+ghost use Rattle.work_index.specs.Changes.{IsBefore};
 ghost use Rattle.work_index.specs.Pieces.{workspace_of};
+ghost use Rattle.work_index.specs.Workspace.{analysis};
 
 use crate::analyses::write_by_number;
 use crate::pieces::{is_alike, number_of, pieces_after, pieces_at, pieces_in};
@@ -11,69 +13,102 @@ use piece_collector::Piece;
 use std::alloc::{AllocError, Global};
 use work_index::{Analysis, FileWork, analyse_again, analyse_here};
 
-// Whether some pieces are those before a change of one file's text, given its number.
-fn differ_at(before: &[Piece<FileWork>], after: &[Piece<FileWork>], number: usize) -> bool
-    ensures within { IsTrue result → number < length after.now }
-    ensures text { IsTrue result → workspace_of before.now ≡ with_text (workspace_of after.now) number (slice_index_or (map (λ p. p.text) before.now) number []) }
+// Whether all numbers are below this one.
+fn are_below(numbers: &[usize], count: usize) -> bool
+    ensures { IsTrue result → All (λ f. f < count) numbers.now }
 {
-    if before.len() != after.len() || number >= after.len() {
+    numbers.iter().all(|number| *number < count)
+}
+
+// Whether a number is one of these.
+fn is_among(numbers: &[usize], number: usize) -> bool
+    ensures { result ≡ list_any (λ m. m == number) numbers.now }
+{
+    numbers.contains(&number)
+}
+
+// Whether some pieces are those before changes of the texts of these files, given their numbers.
+fn differ_at(before: &[Piece<FileWork>], after: &[Piece<FileWork>], changed: &[usize]) -> bool
+    ensures { IsTrue result → IsBefore (analysis (workspace_of before.now)) (workspace_of after.now) changed.now }
+{
+    if before.len() != after.len() || !are_below(changed, after.len()) {
         return false;
     }
     for (file, piece) in before.iter().enumerate() {
-        if !is_alike(piece, &after[file], file == number) {
+        if !is_alike(piece, &after[file], is_among(changed, file)) {
             return false;
         }
     }
     true
 }
 
-// The analysis after a change of one file's text, from the one before. None where that is not how the pieces differ.
+// The analysis after changes of files' texts, from the one before. None where that is not how the pieces differ.
 fn analysed_again(
     alloc: Global,
     before: &[Piece<FileWork>],
     after: &[Piece<FileWork>],
-    number: usize,
+    changed: &[usize],
 ) -> Result<Option<Analysis>, AllocError>
     requires { Ascends before.now }
 {
     let earlier = analyse_here(alloc, before)?;
-    if !differ_at(before, after, number) {
+    if !differ_at(before, after, changed) {
         return Ok(None);
     }
-    Ok(Some(analyse_again(alloc, earlier, number, after)?))
+    Ok(Some(analyse_again(alloc, earlier, changed, after)?))
 }
 
-// Writes what is wrong in files after a change.
+// Writes what is wrong in files after changes.
 fn write_after(
     alloc: Global,
     line: &mut String,
     before: &[Piece<FileWork>],
     after: &[Piece<FileWork>],
-    number: usize,
+    changed: &[usize],
 ) -> Result<(), AllocError>
     requires { Ascends before.now }
 {
-    match analysed_again(alloc, before, after, number)? {
+    match analysed_again(alloc, before, after, changed)? {
         Some(found) => write_by_number(line, &found, after),
         None => Ok(()),
     }
 }
 
-fn write_changed(alloc: Global, line: &mut String, files: &[&str], change: &str) -> Answer<()> {
-    let before = pieces_at(alloc, files)?;
-    let after = pieces_after(alloc, files, &[change])?;
-    let (path, _) = first_word(change);
-    let number = number_of(pieces_in(&before), path)?;
-    Ok(write_after(alloc, line, pieces_in(&before), pieces_in(&after), number)?)
+// The numbers of the files that these changes change.
+fn numbers_of(alloc: Global, pieces: &[Piece<FileWork>], changes: &[&str]) -> Answer<Vec<usize>> {
+    let mut numbers = Vec::new(alloc);
+    for change in changes {
+        let (path, _) = first_word(change);
+        numbers.push(number_of(pieces, path)?)?;
+    }
+    Ok(numbers)
 }
 
-/// Writes the answer to a call on files, the last of which changes one of the others and has `> ` at the front.
+fn write_changed(alloc: Global, line: &mut String, files: &[&str], changes: &[&str]) -> Answer<()> {
+    let before = pieces_at(alloc, files)?;
+    let after = pieces_after(alloc, files, changes)?;
+    let changed = numbers_of(alloc, pieces_in(&before), changes)?;
+    Ok(write_after(
+        alloc,
+        line,
+        pieces_in(&before),
+        pieces_in(&after),
+        changed.as_slice(),
+    )?)
+}
+
+/// Writes the answer to a call on files, behind which stand changes of some of them, each with `> ` at the front.
 pub fn answer(alloc: Global, line: &mut String, fields: &[&str]) -> Answer<()> {
-    let Some((last, files)) = fields.split_last() else {
-        return Err(Trouble::Unknown("no files"));
-    };
-    match last.strip_prefix("> ") {
-        Some(change) => write_changed(alloc, line, files, change),
-        None => Err(Trouble::Unknown("no change")),
+    let mut files = Vec::new(alloc);
+    let mut changes = Vec::new(alloc);
+    for field in fields {
+        match field.strip_prefix("> ") {
+            Some(change) => changes.push(change)?,
+            None => files.push(*field)?,
+        }
     }
+    if changes.is_empty() {
+        return Err(Trouble::Unknown("no change"));
+    }
+    write_changed(alloc, line, files.as_slice(), changes.as_slice())
 }

@@ -9,13 +9,13 @@ ghost use Rattle.lsp_config.specs.Configuration.{files_of};
 ghost use Rattle.lsp_config.specs.Fault.{ComesWhileChecking};
 ghost use Rattle.lsp_config.specs.Sending.{SendsPrefix};
 
-use crate::analysing::analyse_files;
+use crate::diagnosing::diagnose_files;
 use crate::lines::{has_errors, push_lines};
 use doc_text::{Encoding, Walk};
 use file_facts::Diag;
 use lsp_config::{Config, ServeFault};
 use lsp_frame::{ByteSink, write_bytes};
-use lsp_workspace::Snapshot;
+use lsp_workspace::DiagnosedFiles;
 use std::alloc::Global;
 use std::marker::Send;
 use std::mem;
@@ -84,7 +84,7 @@ fn send_lines<K: ByteSink>(
 fn send_all<K: ByteSink>(
     alloc: Global,
     writer: &mut K,
-    files: &Snapshot<'_>,
+    files: &DiagnosedFiles,
 ) -> Result<(), ServeFault>
     ensures ok { OnOk result (Appends (K.written writer.old) (K.written writer.new) (listing files.now)) }
     ensures err { OnErr result (SendsPrefix (K.written writer.old) (K.written writer.new) (listing files.now)) }
@@ -98,7 +98,7 @@ fn send_all<K: ByteSink>(
             writer,
             files.path(number),
             files.text(number),
-            files.analysis().diagnostics(number),
+            files.diagnosis().diagnostics(number),
         )?;
     }
     Ok(())
@@ -108,7 +108,7 @@ fn send_all<K: ByteSink>(
 fn send_and_judge<K: ByteSink>(
     alloc: Global,
     writer: &mut K,
-    files: &Snapshot<'_>,
+    files: &DiagnosedFiles,
 ) -> Result<bool, ServeFault>
     ensures prefix { SendsPrefix (K.written writer.old) (K.written writer.new) (listing files.now) }
     ensures whole { OnOk result (Appends (K.written writer.old) (K.written writer.new) (listing files.now)) }
@@ -131,8 +131,8 @@ fn send_and_judge<K: ByteSink>(
 /// are files: 0 counts as 1, and over 64 as 64. Each enters the gate before it works on a text, and before it links a file, and
 /// all have ended when the first line is written. How many there are takes no part in what is written.
 ///
-/// What is known of the files is never freed, since freeing it takes a good part of a check's time: call it where the process ends
-/// soon after.
+/// The tree of each file is dropped once the file is linked. The rest of what is known of the files is never freed, since freeing it
+/// takes a good part of a check's time: call it where the process ends soon after.
 ///
 /// The only faults are `Write` where the sink failed, `Memory` where memory was refused, also to a worker, or where a job
 /// couldn't be sent, and `ThreadRefused` where a thread was or where no worker is left. Whatever it ends with, what was written
@@ -159,10 +159,10 @@ pub fn check<R: Threads + Wait + Clone + Send + Drop + 'static, K: ByteSink, G: 
     ensures calm { OnOk result (NoError (K.counts writer.old) (K.counts writer.new)) }
     ensures once { (K.counts writer.new).errors ≤ (K.counts writer.old).errors + 1 }
 {
-    match analyse_files(rt, alloc, gate, config, workers) {
-        Ok(workspace) => {
-            let found = send_and_judge(alloc, writer, &workspace.snapshot());
-            mem::forget(workspace);
+    match diagnose_files(rt, alloc, gate, config, workers) {
+        Ok(files) => {
+            let found = send_and_judge(alloc, writer, &files);
+            mem::forget(files);
             found
         }
         Err(fault) => Err(fault),

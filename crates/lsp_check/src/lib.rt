@@ -1,8 +1,8 @@
 //! The check of a workspace, without an editor: a line for each diagnostic.
 #![tactic(auto)]
 
-mod analysing;
 mod checking;
+mod diagnosing;
 mod lines;
 
 pub use checking::check;

@@ -7,7 +7,7 @@ ghost use Rattle.lsp_check.specs.Listing.{place_of, words_of, line_at, lines_of,
 use doc_text::{Position, Walk};
 use file_facts::{Diag, Problem};
 use itoa::Buffer;
-use lsp_workspace::Snapshot;
+use lsp_workspace::DiagnosedFiles;
 use sqlite_items::Items;
 use std::alloc::AllocError;
 
@@ -87,8 +87,8 @@ fn any_error(diags: &Items<Diag>) -> bool
 }
 
 // Whether one of the diagnostics of the workspace is an error, and not an information.
-pub fn has_errors(files: &Snapshot<'_>) -> bool
+pub fn has_errors(files: &DiagnosedFiles) -> bool
     ensures { result ≡ has_errors files.now }
 {
-    files.analysis().all_diagnostics().iter().any(any_error)
+    files.diagnosis().all_diagnostics().iter().any(any_error)
 }

@@ -1,21 +1,25 @@
--- The workspace of files beside the texts of a board, and after a change of the text of one file.
-use Rattle.std.proofs.Common.{◌≡◌, ◌<◌, ℕ, zero, suc, List, [], ◌∷◌, Bool, true, false, cond, Option, Some, None, length, get_or, nat_cmp, refl, sym, ap, subst, ◌∙◌, arith, option_map}
-use Rattle.std.specs.Prelude.{bytes_eq}
+-- The workspace of files beside the texts of a board, and after changes of the texts of files.
+use Rattle.std.proofs.Common.{◌≡◌, ◌≢◌, ◌<◌, ◌==◌, ℕ, zero, suc, List, [], ◌∷◌, ◌++◌, Bool, true, false, cond, Option, Some, None, length, get_or, set, nat_cmp, refl, sym, ap, subst, ◌∙◌, arith, option_map}
+use Rattle.std.specs.Prelude.{All, Contains, bytes_eq, if◌then◌else◌}
 use Rattle.std.specs.Cmp.Lexicographic.{slice_cmp, bytes_decides}
 use Rattle.std.specs.Map.{lookup}
-use Rattle.std.specs.List.{position}
+use Rattle.std.specs.List.{list_any, position}
 use Rattle.std.specs.List.Sorted.{IsStrictlySortedBy}
-use Rattle.std.proofs.lemmas.List.{length-map}
+use Rattle.std.proofs.lemmas.Bool.Decides.{nat_tests}
+use Rattle.std.proofs.lemmas.List.{length-map, get_or-set_other, ext_get_or}
+use Rattle.std.proofs.lemmas.List.Elements.{All-nil, All-push, Contains-append_left, Contains-push}
 use Rattle.std.proofs.lemmas.List.Quantifiers.{position-Some}
 use Rattle.std.proofs.lemmas.Cmp.{nat_list_eq_equiv}
 use Rattle.std.proofs.lemmas.Simd.{map-map}
 use Rattle.collector_laws.proofs.Lists.{one_list}
+use Rattle.std.proofs.lemmas.Map.Views.{Contains-from_any}
 use Rattle.piece_collector.specs.Board.{text_for, IsTextsIn}
 use Rattle.piece_collector.specs.Views.{TextAt, SlotView, BoardView, slot_of, text_in}
-use Rattle.work_index.specs.Changes.{with_text, IsBefore}
+use Rattle.work_index.specs.Changes.{IsBefore}
 use Rattle.work_index.specs.Pieces.{workspace_of}
 use Rattle.work_index.specs.Workspace.{Workspace, AnalysisData, analysis}
 use Rattle.lsp_workspace.specs.Files.{Files, text_at, workspace, AreInPathOrder}
+use Rattle.lsp_workspace.specs.Kept.{with_number}
 use Rattle.lsp_workspace.specs.Texts.{HoldsTexts, TextsChangeAt}
 use Rattle.lsp_workspace.proofs.PathOrder.{Ascend, paths, ascend-workspace, order-apart}
 use Rattle.lsp_workspace.proofs.TextChanges.{same_test}
@@ -53,6 +57,10 @@ held_texts files board ts order holds are =
 
 -- ---- another text of one file
 
+-- the workspace with another text of a file
+abbrev with_text : Workspace → ℕ → List ℕ → Workspace
+with_text w file text = set w file (get_or (paths w) file [], text)
+
 symm : (p q : List ℕ) → bytes_eq p q ≡ bytes_eq q p
 symm p q = nat_list_eq_equiv.symm p q
 
@@ -80,16 +88,6 @@ text-set path q t (e ∷ es) (suc n) at =
         sym (ap (λ c. cond c (Some t) (Some e.1)) other)
     by false b is = is
 
-pub back : (w : Workspace) (n : ℕ) (t : List ℕ) (d : List ℕ × List ℕ) → n < length w → w ≡ with_text (with_text w n t) n (get_or w n d).1
-back [] n t d there = absurd (omega (arith, there))
-back (e ∷ es) zero t d there = refl
-back (e ∷ es) (suc n) t d there = ap (λ l. e ∷ l) (back es n t d (omega (arith, there)))
-
-pub twice : (w : Workspace) (n : ℕ) (t u : List ℕ) → with_text (with_text w n t) n u ≡ with_text w n u
-twice [] n t u = refl
-twice (e ∷ es) zero t u = refl
-twice (e ∷ es) (suc n) t u = ap (λ l. e ∷ l) (twice es n t u)
-
 pub paths-with : (w : Workspace) (n : ℕ) (t : List ℕ) → paths (with_text w n t) ≡ paths w
 paths-with [] n t = refl
 paths-with (e ∷ es) zero t = refl
@@ -100,7 +98,7 @@ length-with [] n t = refl
 length-with (e ∷ es) zero t = refl
 length-with (e ∷ es) (suc n) t = ap suc (length-with es n t)
 
-is_at_position : (path : List ℕ) (w : Workspace) (n : ℕ) → position (λ p. bytes_eq p path) (paths w) ≡ Some n → IsAt path n w
+pub is_at_position : (path : List ℕ) (w : Workspace) (n : ℕ) → position (λ p. bytes_eq p path) (paths w) ≡ Some n → IsAt path n w
 is_at_position path w n is =
     let found = position-Some (λ p. bytes_eq p path) (paths w) n [] is in
     (omega (arith, found.0, length-map w (λ file. file.0)), (bytes_decides _ path).0 found.1, found.2)
@@ -114,29 +112,52 @@ changed_workspace path t n old new before after changes is =
     one_list (workspace new) (with_text w n t) (ascend-workspace new after) ascends
     (λ q. text_in_workspace new after q ∙ changes q ∙ ap (cond (bytes_eq path q) (Some t)) (sym (text_in_workspace old before q)) ∙ sym (text-set path q t w n (is_at_position path w n is)))
 
--- an analysis of the files, or of the files before a change of the text of a file, is one of the files before a change of that text
-pub before_change : (path t : List ℕ) (n : ℕ) (a : AnalysisData) (old new : Files) → AreInPathOrder old → AreInPathOrder new → TextsChangeAt path (Some t) old new → position (λ p. bytes_eq p path) a.paths ≡ Some n
-    → a ≡ analysis (workspace old) → IsBefore a (workspace new) n
-before_change path t n a old new before after changes at is =
+-- ---- the analysis before changes
+
+-- a number that isn't among some and one more is another one, and isn't among those
+pub unlisted : (n k : ℕ) (numbers : List ℕ) → (Contains (with_number n numbers) k → ⊥) → (k ≢ n) × (Contains numbers k → ⊥)
+unlisted n k numbers out = by (list_any (λ m. m == n) numbers) refl out
+  where
+    equal : (x y : ℕ) → (y == x) ≡ true → x ≡ y
+    equal x y is = grind (arith, nat_tests)
+
+    has : list_any (λ m. m == n) numbers ≡ true → Contains numbers n
+    has is = Contains-from_any {eq = λ x y. y == x} equal n numbers is
+
+    by : (b : Bool) → list_any (λ m. m == n) numbers ≡ b → (Contains (if b then numbers else numbers ++ n ∷ []) k → ⊥) → (k ≢ n) × (Contains numbers k → ⊥)
+    by true is out = ((λ same. out (subst (Contains numbers) (sym same) (has is))), out)
+    by false is out = ((λ same. out (subst (Contains (numbers ++ n ∷ [])) (sym same) (Contains-push numbers n))), (λ there. out (Contains-append_left numbers (n ∷ []) k there)))
+
+listed : (P : ℕ → Type 0) (n : ℕ) (numbers : List ℕ) → P n → All P numbers → All P (with_number n numbers)
+listed P n numbers here all = by (list_any (λ m. m == n) numbers)
+  where
+    by : (b : Bool) → All P (if b then numbers else numbers ++ n ∷ [])
+    by true = all
+    by false = All-push P numbers n all here
+
+-- an analysis of the files before changes of some texts is one before a change of one more
+pub before_more : (path t : List ℕ) (n : ℕ) (changed : List ℕ) (a : AnalysisData) (old new : Files) → AreInPathOrder old → AreInPathOrder new → TextsChangeAt path (Some t) old new → position (λ p. bytes_eq p path) a.paths ≡ Some n
+    → IsBefore a (workspace old) changed → IsBefore a (workspace new) (with_number n changed)
+before_more path t n changed a old new before after changes at was =
     let w = workspace old in
-    let found : position (λ p. bytes_eq p path) (paths w) ≡ Some n = ap (λ b. position (λ p. bytes_eq p path) b.paths) (sym is) ∙ at in
+    let found : position (λ p. bytes_eq p path) (paths w) ≡ Some n = ap (position (λ p. bytes_eq p path)) (sym was.paths) ∙ ap (λ b. position (λ p. bytes_eq p path) b.paths) (sym was.is) ∙ at in
     let now : workspace new ≡ with_text w n t = changed_workspace path t n old new before after changes found in
     let within : n < length w = (is_at_position path w n found).0 in
     record {
-      within = omega (arith, within, ap length now, length-with w n t);
-      text = (get_or w n ([], [])).1;
-      is = is ∙ ap analysis (back w n t ([], []) within ∙ ap (λ v. with_text v n (get_or w n ([], [])).1) (sym now));
+      old = was.old;
+      paths = was.paths ∙ sym (ap paths now ∙ paths-with w n t);
+      within = subst (λ (count : ℕ). All (λ f. f < count) (with_number n changed)) (sym (ap length now ∙ length-with w n t)) (listed (λ f. f < length w) n changed within was.within);
+      others = λ k out.
+          let apart = unlisted n k changed out in
+          was.others k apart.1 ∙ sym (ap (λ v. get_or v k ([], [])) now ∙ get_or-set_other w n k _ ([], []) apart.0);
+      is = was.is;
     }
 
-pub before_changes : (path t : List ℕ) (n : ℕ) (a : AnalysisData) (old new : Files) → AreInPathOrder old → AreInPathOrder new → TextsChangeAt path (Some t) old new → position (λ p. bytes_eq p path) a.paths ≡ Some n
-    → IsBefore a (workspace old) n → IsBefore a (workspace new) n
-before_changes path t n a old new before after changes at was =
-    let w = workspace old in
-    let found : position (λ p. bytes_eq p path) (paths w) ≡ Some n =
-    ap (position (λ p. bytes_eq p path)) (sym (paths-with w n was.text)) ∙ ap (λ b. position (λ p. bytes_eq p path) b.paths) (sym was.is) ∙ at in
-    let now : workspace new ≡ with_text w n t = changed_workspace path t n old new before after changes found in
-    record {
-      within = omega (arith, was.within, ap length now, length-with w n t);
-      text = was.text;
-      is = was.is ∙ ap analysis (sym (twice w n t was.text) ∙ ap (λ v. with_text v n was.text) (sym now));
-    }
+-- where no text has changed, it is that of the files, and the other way round
+pub of_now : (a : AnalysisData) (w : Workspace) → a ≡ analysis w → IsBefore a w []
+of_now a w is = record { old = w; paths = refl; within = All-nil (λ f. f < length w); others = λ n out. refl; is = is }
+
+pub now_of : (a : AnalysisData) (w : Workspace) → IsBefore a w [] → a ≡ analysis w
+now_of a w was =
+    let long : length was.old ≡ length w = sym (length-map was.old (λ f. f.0)) ∙ ap length was.paths ∙ length-map w (λ f. f.0) in
+    was.is ∙ ap analysis (ext_get_or ([], []) was.old w long (λ n there. was.others n (λ has. absurd (omega (arith, has.1)))))

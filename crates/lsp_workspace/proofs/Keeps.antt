@@ -1,15 +1,11 @@
 -- What a workspace keeps beside its files stays true.
-use Rattle.std.proofs.Common.{◌≡◌, ℕ, ◌<◌, List, [], ◌∷◌, Bool, true, false, cond, Option, Some, None, Result, Ok, Err, is_some, inl, inr, ◌≤◌, length, get_or, refl, sym, ap, subst, ◌∙◌, arith, nat_cmp, zero, suc}
-use Rattle.std.specs.Prelude.{◌⊎◌, option_and_then, option_map, bytes_eq, IfSome, MatchOption, OnOk, OnErr, ⊤, unwrap_or, if◌then◌else◌}
-use Rattle.std.specs.List.{position, slice_get}
-use Rattle.std.specs.List.Sorted.{IsStrictlySortedBy}
-use Rattle.std.specs.Cmp.Lexicographic.{slice_cmp, bytes_decides}
+use Rattle.std.proofs.Common.{◌≡◌, ℕ, ◌<◌, List, [], ◌∷◌, Bool, true, false, cond, Option, Some, None, Result, Ok, Err, is_some, inl, inr, ◌≤◌, length, get_or, refl, sym, ap, subst, ◌∙◌, arith}
+use Rattle.std.specs.Prelude.{◌⊎◌, ◌==◌, not, option_and_then, option_map, bytes_eq, IfSome, IsTrue, OnOk, OnErr, unwrap_or, if◌then◌else◌}
+use Rattle.std.specs.List.{slice_get}
 use Rattle.std.specs.Map.{lookup, update}
-use Rattle.std.specs.Ordering.{is_eq}
-use Rattle.std.specs.declared.cmp.Ordering.TheVariants.{Less}
-use Rattle.std.proofs.lemmas.Cmp.{nat_list_eq_equiv}
+use Rattle.std.proofs.lemmas.Bool.{and_parts}
+use Rattle.std.proofs.lemmas.Bool.Decides.{nat_tests}
 use Rattle.std.proofs.lemmas.List.{length-map}
-use Rattle.std.proofs.lemmas.Map.Text.{is_eq-slice_cmp}
 use Rattle.std.proofs.lemmas.Option.{get_or_from_slice_get, slice_get_cases}
 use Rattle.piece_collector.specs.Board.{IsTextsIn}
 use Rattle.piece_collector.specs.Views.{BoardView, TextAt, known_text}
@@ -17,12 +13,13 @@ use Rattle.work_index.specs.Changes.{IsBefore}
 use Rattle.work_index.specs.Pieces.{workspace_of}
 use Rattle.work_index.specs.Workspace.{Workspace, AnalysisData, analysis}
 use Rattle.lsp_workspace.specs.Files.{OpenDocument, File, Files, file_at, set_file, text_at, workspace, with_open_file, with_document, closed_at, closed_files, AreInPathOrder}
-use Rattle.lsp_workspace.specs.Kept.{IsOf, IsKept, DifferAt}
+use Rattle.lsp_workspace.specs.Kept.{IsOf, IsKept, DifferAt, is_current}
 use Rattle.lsp_workspace.specs.Steps.{with_document_at}
 use Rattle.lsp_workspace.specs.Texts.{open_document, is_open, text_event, event_at, events_at, TextsChangeAt}
 use Rattle.lsp_workspace.specs.declared.known.Known.{Known}
-use Rattle.lsp_workspace.proofs.Held.{same_workspace, text_in_workspace, held_texts, before_change, before_changes}
-use Rattle.lsp_workspace.proofs.PathOrder.{AreBehind, Ascend, paths, from_disk-order, ascend-workspace}
+use Rattle.lsp_workspace.proofs.Earlier.{known_fresh, path-at, text-at}
+use Rattle.lsp_workspace.proofs.Held.{same_workspace, text_in_workspace, held_texts, now_of}
+use Rattle.lsp_workspace.proofs.PathOrder.{paths, from_disk-order, ascend-workspace}
 use Rattle.lsp_workspace.proofs.TextChanges.{set-texts, without-texts}
 
 -- ---- options and results
@@ -88,40 +85,7 @@ some_open path files there = by (open_document path files) refl there
     by None is e = cc
     by (Some d) is e = (d, is)
 
--- ---- what is known after a change
-
-pub known_marked : (path : List ℕ) (text : Option (List ℕ)) (old new : Files) (known : Known) (file : ℕ) (r : Option Known) → DifferAt path text old new → true ≡ is_some text → IsOf known (workspace old) → position (λ p. bytes_eq p path) known.analysis.paths ≡ Some file
-    → IfSome r (λ k. k.analysis ≡ known.analysis) → IfSome r (λ k. k.changed ≡ Some file) → IfSome r (λ k. MatchOption known.changed ⊤ (λ other. other ≡ file)) → IfSome r (λ k. IsOf k (workspace new))
-known_marked path None old new known file r differ some of at same changed only = cc
-known_marked path (Some t) old new known file None differ some of at same changed only = tt
-known_marked path (Some t) old new known file (Some k) differ some of at same changed only =
-    let before : IsBefore known.analysis (workspace new) file = by known.changed of only in
-    subst (λ (c : Option ℕ). MatchOption c (k.analysis ≡ analysis (workspace new)) (λ n. IsBefore k.analysis (workspace new) n)) (sym changed) (subst (λ (a : AnalysisData). IsBefore a (workspace new) file) (sym same) before)
-  where
-    by : (c : Option ℕ) → MatchOption c (known.analysis ≡ analysis (workspace old)) (λ n. IsBefore known.analysis (workspace old) n) → MatchOption c ⊤ (λ other. other ≡ file) → IsBefore known.analysis (workspace new) file
-    by None of only = before_change path t file known.analysis old new differ.old_order differ.new_order differ.texts at of
-    by (Some n) of only = before_changes path t file known.analysis old new differ.old_order differ.new_order differ.texts at (subst (λ (m : ℕ). IsBefore known.analysis (workspace old) m) only of)
-
 -- ---- the files by their numbers
-
-at-behind : (p : List ℕ) (w : Workspace) (n : ℕ) (d : List ℕ × List ℕ) → AreBehind p (paths w) → n < length w → slice_cmp nat_cmp p (get_or w n d).0 ≡ Less
-at-behind p [] n d all there = absurd (omega (arith, there))
-at-behind p (e ∷ w) zero d all there = all.0
-at-behind p (e ∷ w) (suc n) d all there = at-behind p w n d all.1 (omega (arith, there))
-
-text-at : (w : Workspace) (n : ℕ) (d : List ℕ × List ℕ) → Ascend w → n < length w → lookup (bytes_eq (get_or w n d).0) w ≡ Some (get_or w n d).1
-unfolding IsStrictlySortedBy
-text-at [] n d order there = absurd (omega (arith, there))
-text-at (e ∷ w) zero d order there = ap (λ b. cond b (Some e.1) (lookup (bytes_eq e.0) w)) ((bytes_decides e.0 e.0).1 refl)
-text-at (e ∷ w) (suc n) d order there =
-    let p = (get_or w n d).0 in
-    let other : bytes_eq p e.0 ≡ false = nat_list_eq_equiv.symm p e.0 ∙ sym (is_eq-slice_cmp e.0 p) ∙ ap is_eq (at-behind e.0 w n d order.0 (omega (arith, there))) in
-    ap (λ b. cond b (Some e.1) (lookup (bytes_eq p) w)) other ∙ text-at w n d order.1 (omega (arith, there))
-
-path-at : (w : Workspace) (n : ℕ) (d : List ℕ × List ℕ) → n < length w → get_or (paths w) n d.0 ≡ (get_or w n d).0
-path-at [] n d there = absurd (omega (arith, there))
-path-at (e ∷ w) zero d there = refl
-path-at (e ∷ w) (suc n) d there = path-at w n d (omega (arith, there))
 
 -- the text at the path of a file is that of the file
 pub text_of_file : (files : Files) (n : ℕ) (path : List ℕ) (text : Option (List ℕ)) → AreInPathOrder files → slice_get (paths (workspace files)) n ≡ Some path → text ≡ text_at path files → unwrap_or text [] ≡ (get_or (workspace files) n ([], [])).1
@@ -145,10 +109,27 @@ lent_workspace files before lent_board ts known k is are =
     let there : IsTextsIn (record before { is_lent = true }) ts = subst (λ b. IsTextsIn b ts) is are in
     held_texts files before ts k.ordered k.texts (record { ascends = there.ascends; each = there.each })
 
-pub keeps_refreshed : (files : Files) (before lent_board after : BoardView) (known : Option Known) (a : AnalysisData) → IsKept files before known → lent_board ≡ record before { is_lent = true } → after ≡ record lent_board { is_lent = false } → a ≡ analysis (workspace files)
-    → IsKept files after (Some (record { analysis = a; changed = None }))
-keeps_refreshed files before lent_board after known a k is back fresh =
-    subst (λ b. IsKept files b (Some (record { analysis = a; changed = None }))) (sym (back ∙ ap {A = BoardView} (λ (b : BoardView). record b { is_lent = false }) is)) (record { ordered = k.ordered; here = refl; texts = k.texts; is_of = fresh })
+pub keeps_refreshed : (files : Files) (before lent_board after : BoardView) (known : Option Known) (now : Known) (a : AnalysisData) → IsKept files before known → lent_board ≡ record before { is_lent = true } → after ≡ record lent_board { is_lent = false }
+    → now.analysis ≡ a → now.changed.items ≡ [] → a ≡ analysis (workspace files) → IsKept files after (Some now)
+keeps_refreshed files before lent_board after known now a k is back made current fresh =
+    let of : IsOf now (workspace files) = known_fresh (workspace files) now (ascend-workspace files k.ordered) (made ∙ fresh) current in
+    subst (λ b. IsKept files b (Some now)) (sym (back ∙ ap {A = BoardView} (λ (b : BoardView). record b { is_lent = false }) is)) (record { ordered = k.ordered; here = refl; texts = k.texts; is_of = of })
+
+empty : (numbers : List ℕ) → IsTrue (length numbers == 0) → numbers ≡ []
+empty [] is = refl
+empty (x ∷ numbers) is = absurd (grind (arith, nat_tests))
+
+not_moved : (moved : Bool) → not moved ≡ true → moved ≡ false
+not_moved false is = refl
+not_moved true is = sym is
+
+-- an analysis that is current is that of the files
+pub known_now : (files : Files) (known : Option Known) (k : Known) → IfSome known (λ k. IsOf k (workspace files)) → known ≡ Some k → IsTrue (is_current known) → k.analysis ≡ analysis (workspace files)
+known_now files known k of is current =
+    let both = and_parts (length k.changed.items == 0) (not k.moved) (subst (λ (o : Option Known). IsTrue (is_current o)) is current) in
+    let none : k.changed.items ≡ [] = empty k.changed.items both.0 in
+    let of' : IsOf k (workspace files) = subst (λ (o : Option Known). IfSome o (λ k. IsOf k (workspace files))) is of in
+    now_of k.analysis (workspace files) (subst (λ (numbers : List ℕ). IsBefore k.analysis (workspace files) numbers) none (of'.before (not_moved k.moved both.1)))
 
 -- where no file is left
 pub keeps_nothing : (files : Files) (board : BoardView) → files ≡ [] → board.is_lent ≡ false → ((q : List ℕ) → known_text q board ≡ None) → IsKept files board None

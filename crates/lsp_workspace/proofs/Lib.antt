@@ -6,4 +6,5 @@ pub mod WorkspaceLemmas
 pub mod TextChanges
 pub mod Held
 pub mod FirstEvents
+pub mod Earlier
 mod Keeps

@@ -1,21 +1,37 @@
 -- What a workspace keeps beside its files.
-use Rattle.std.specs.Prelude.{◌≡◌, ℕ, List, Bool, false, Option, Some, None, is_none, MatchOption, IfSome}
+use Rattle.std.specs.Prelude.{◌≡◌, ℕ, ◌==◌, ◌<◌, ◌&&◌, not, List, [], ◌∷◌, ◌++◌, Bool, false, Option, Some, None, Contains, bytes_eq, length, map, slice_index_or, IfSome, if◌then◌else◌}
+use Rattle.std.specs.Cmp.Lexicographic.{slice_cmp}
+use Rattle.std.specs.List.{list_any}
+use Rattle.std.specs.List.Sorted.{IsStrictlySortedBy}
+use Rattle.std.specs.Map.{lookup}
+use Rattle.std.specs.Ordering.{nat_cmp}
+use Rattle.import_graph.specs.Moves.{place}
 use Rattle.piece_collector.specs.Views.{BoardView}
 use Rattle.work_index.specs.Changes.{IsBefore}
-use Rattle.work_index.specs.Workspace.{Workspace, analysis}
+use Rattle.work_index.specs.Workspace.{Workspace, AnalysisData, analysis}
 use Rattle.lsp_workspace.specs.Files.{Files, workspace, AreInPathOrder}
 use Rattle.lsp_workspace.specs.Texts.{HoldsTexts, TextsChangeAt}
 use Rattle.lsp_workspace.specs.View.{WorkspaceData}
 use Rattle.lsp_workspace.specs.declared.known.Known.{Known}
 
--- the analysis is that of the workspace, or of the workspace before a change of the text of one file
-abbrev pub IsOf : Known → Workspace → Type 0
-IsOf known w = MatchOption known.changed (known.analysis ≡ analysis w) (λ file. IsBefore known.analysis w file)
+-- The analysis is that of an earlier workspace, which was in the order of its paths. Each file of that but those with these numbers is
+-- in the workspace, with the same text.
+pub record IsOfEarlier (a : AnalysisData) (w : Workspace) (files : List ℕ) : Type 0 where
+  pub old : Workspace
+  pub ordered : IsStrictlySortedBy (slice_cmp nat_cmp) (map (λ f. f.0) old)
+  pub is : a ≡ analysis old
+  pub stayed : (n : ℕ) → n < length old → (Contains files n → ⊥) → (let file = slice_index_or old n ([], []) in lookup (bytes_eq file.0) w ≡ Some file.1)
+
+-- Where no file came or left, the analysis is that of the workspace before changes of the texts of the changed files. In any case each
+-- file of which it is and that isn't among these is in the workspace as it was.
+pub record IsOf (known : Known) (w : Workspace) : Type 0 where
+  pub before : known.moved ≡ false → IsBefore known.analysis w known.changed.items
+  pub earlier : IsOfEarlier known.analysis w known.changed.items
 
 -- whether it is that of the workspace as it is
 abbrev pub is_current : Option Known → Bool
 is_current None = false
-is_current (Some known) = is_none known.changed
+is_current (Some known) = (length known.changed.items == 0) && not known.moved
 
 abbrev pub workspace_data : Files → BoardView → Option Known → WorkspaceData
 workspace_data files board known = record { files = files; board = board; is_current = is_current known }
@@ -32,3 +48,21 @@ pub record DifferAt (path : List ℕ) (text : Option (List ℕ)) (old new : File
   pub old_order : AreInPathOrder old
   pub new_order : AreInPathOrder new
   pub texts : TextsChangeAt path text old new
+
+-- these numbers and one more, which is added unless it is there
+abbrev pub with_number : ℕ → List ℕ → List ℕ
+with_number n numbers = if list_any (λ m. m == n) numbers then numbers else numbers ++ n ∷ []
+
+-- ---- the numbers of files
+
+-- The file g, which isn't among the changed ones, had the path that the file n of the workspace has.
+pub record IsUnchangedAt (paths : List (List ℕ)) (changed : List ℕ) (w : Workspace) (g n : ℕ) : Type 0 where
+  pub there : g < length paths
+  pub unchanged : Contains changed g → ⊥
+  pub here : n < length w
+  pub path : slice_index_or paths g [] ≡ (let file = slice_index_or w n ([], []) in file.0)
+
+-- each number that is listed at the number of a file is that of a file of the workspace with the same path, and the file isn't among
+-- the changed ones
+abbrev pub AreNumbersNow : List (List ℕ) → List ℕ → Workspace → List (Option ℕ) → Type 0
+AreNumbersNow paths changed w to = (g n : ℕ) → place to g ≡ Some n → IsUnchangedAt paths changed w g n

@@ -116,6 +116,13 @@ pub fn get<'f>(files: &'f Files, path: &str) -> Option<&'f FileEntry>
     files.get(path)
 }
 
+/// The text at a path, if it is one of the workspace. Takes no memory.
+pub fn text_at<'f>(files: &'f Files, path: &str) -> Option<&'f str>
+    ensures { option_map (λ t. t.now) result ≡ text_at path.now (files_view files.now.entries) }
+{
+    get(files, path)?.text()
+}
+
 // The document that is open at a path.
 fn document_at<'f>(files: &'f Files, path: &str) -> Option<&'f Document>
     ensures { option_map (λ d. document_view d.now) result ≡ open_document path.now (files_view files.now.entries) }
@@ -192,6 +199,20 @@ pub fn open_text(alloc: Global, files: &Files, path: &str) -> Result<Option<Text
     };
     let text = String::from_str(alloc, document.text.as_str())?;
     Ok(Some(Text::new(text)))
+}
+
+/// The same text, in memory that can have several owners.
+pub fn shared_open_text(
+    alloc: Global,
+    files: &Files,
+    path: &str,
+) -> Result<Option<SharedText>, AllocError>
+    ensures { IfOk result (λ text. text ≡ option_map (λ d. d.text) (open_document path.now (files_view files.now.entries))) }
+{
+    let Some(document) = document_at(files, path) else {
+        return Ok(None);
+    };
+    Ok(Some(copied(alloc, &document.text)?))
 }
 
 /// The document that is open at a path with these edits made, each change at places of the text that those before it leave;

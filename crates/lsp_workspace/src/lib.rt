@@ -2,10 +2,11 @@
 //!
 //! [`Files`] are the documents that are open and the texts that are kept for their paths. A [`Workspace`] owns them, the board of
 //! their texts with the work on each, and the analysis of all: its calls open, change, save and close a document, hand out and
-//! take the work on the texts, and analyse. A [`Snapshot`] shows the files with their analysis. Offsets are in bytes; nothing here
-//! knows how an editor or a command line writes them.
+//! take the work on the texts, and analyse. A [`Snapshot`] shows the files with their analysis. [`DiagnosedFiles`] are what is left of a
+//! workspace whose texts don't change any more. Offsets are in bytes; nothing here knows how an editor or a command line writes them.
 #![tactic(auto)]
 
+mod diagnosed;
 mod disk;
 mod files;
 mod known;
@@ -13,6 +14,7 @@ mod laws;
 mod snapshot;
 mod workspace;
 
+pub use diagnosed::DiagnosedFiles;
 pub use disk::DiskFile;
 pub use files::{Document, Edits, FileEntry, Files, from_disk, get};
 pub use laws::{

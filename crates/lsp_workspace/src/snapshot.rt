@@ -4,7 +4,7 @@ ghost use Rattle.work_index.specs.Workspace as index;
 ghost use Rattle.lsp_workspace.specs.Files.{text_at};
 ghost use Rattle.lsp_workspace.specs.View.{files_view};
 
-use crate::files::{Files, get};
+use crate::files::{Files, text_at};
 use import_graph::FileNo;
 use std::marker::Model;
 use work_index::Analysis;
@@ -86,11 +86,4 @@ impl<'w> Snapshot<'w> {
             None => "",
         }
     }
-}
-
-// The text at a path, where it is one of the workspace.
-fn text_at<'f>(files: &'f Files, path: &str) -> Option<&'f str>
-    ensures { option_map (λ t. t.now) result ≡ text_at path.now (files_view files.now.entries) }
-{
-    get(files, path)?.text()
 }

@@ -11,6 +11,7 @@ ghost use Rattle.lsp_workspace.specs.Files.{from_disk, opened_files, changed_fil
 ghost use Rattle.lsp_workspace.specs.Texts.{HoldsTexts, text_event, event_at, events_at, first_events};
 ghost use Rattle.lsp_workspace.specs.View.{document_view, file_view, files_view};
 
+use crate::diagnosed::DiagnosedFiles;
 use crate::disk::DiskFile;
 use crate::files::{self, Document, Edits, FileEntry, Files};
 use crate::known::{Known, analyse, known_after};
@@ -21,7 +22,7 @@ use std::alloc::{AllocError, Global};
 use std::marker::Model;
 use std::sync::Wait;
 use std::thread::Threads;
-use work_index::{AnalyseFault, FileWork, Gate, analyse_in_shares};
+use work_index::{AnalyseFault, FileWork, Gate, analyse_in_shares, diagnose};
 
 /// The files that an editor's session knows, the board of their texts with the work on them, and the analysis of them.
 ///
@@ -180,11 +181,10 @@ impl Workspace {
         ensures board { self.new.board ≡ self.old.board }
         ensures err { OnErr result (self.new ≡ self.old) }
     {
-        let Some(text) = files::open_text(self.alloc, &self.files, path)? else {
+        let Some(text) = files::shared_open_text(self.alloc, &self.files, path)? else {
             return Ok(());
         };
-        let kept = files::copied(self.alloc, &text)?;
-        files::keep(&mut self.files, path, kept);
+        files::keep(&mut self.files, path, text);
         Ok(())
     }
 
@@ -265,7 +265,7 @@ impl Workspace {
         ensures { result ≡ self.now.is_current }
     {
         match &self.known {
-            Some(known) => known.changed.is_none(),
+            Some(known) => known.is_current(),
             None => false,
         }
     }
@@ -284,17 +284,14 @@ impl Workspace {
         let lent = self.board.lend_all()?;
         let analysis = analyse(self.alloc, self.known.take(), lent.pieces());
         self.board.take_back(lent);
-        self.known = Some(Known {
-            analysis: analysis?,
-            changed: None,
-        });
+        self.known = Some(Known::current(self.alloc, analysis?));
         Ok(())
     }
 
     /// Analyses the files, unless their analysis is known: as [`refresh`](Workspace::refresh) does, but a whole analysis is made
-    /// by so many threads (see [`analyse_in_shares`]), each of which enters the gate before each of its files. Where the text of
-    /// one file alone has changed since the last analysis, no thread is started and no gate is entered. The board has to be
-    /// complete.
+    /// by so many threads (see [`analyse_in_shares`]), each of which enters the gate before each of its files. Where only
+    /// few files left or got other texts since the last analysis, no thread is started and no gate is entered, whatever files came.
+    /// The board has to be complete.
     ///
     /// `Memory` if memory was refused, and `ThreadRefused` if a thread was. The files and the board are then as before, or the
     /// pieces are lost: then there is no file, and the stamps count from 1 again.
@@ -333,10 +330,7 @@ impl Workspace {
         match analyse_in_shares(rt, self.alloc, lent, workers, gate) {
             Ok((back, analysis)) => {
                 self.board.take_back(back);
-                self.known = Some(Known {
-                    analysis,
-                    changed: None,
-                });
+                self.known = Some(Known::current(self.alloc, analysis));
                 Ok(())
             }
             Err(fault) => {
@@ -346,6 +340,30 @@ impl Workspace {
                 Err(fault)
             }
         }
+    }
+
+    /// Has so many threads find what is wrong in the files, and keeps nothing else of them: each drops the work on a text as soon as
+    /// that is known, and enters the gate before each of its files. The board has to be complete.
+    ///
+    /// `Memory` if memory was refused, and `ThreadRefused` if a thread was.
+    pub fn into_diagnosed<R: Threads + Wait, G: Gate>(
+        self,
+        rt: &R,
+        workers: usize,
+        gate: &G,
+    ) -> Result<DiagnosedFiles, AnalyseFault>
+        requires { IsFull self.board }
+        ensures { IfOk result (λ found. found ≡ workspace self.files) }
+    {
+        let Workspace {
+            alloc,
+            files,
+            mut board,
+            ..
+        } = self;
+        let lent = board.lend_all()?;
+        let diagnosis = diagnose(rt, alloc, lent, workers, gate)?;
+        Ok(DiagnosedFiles::of(files, diagnosis))
     }
 
     /// The files with their analysis. Takes no memory.

@@ -49,7 +49,7 @@ pub heap_send : IsSend Global.the_row
 heap_send = search (sendable, crosses) depth 20
 
 share_field_send : IsSend (Share.the_field).row
-share_field_send = struct_send (shape Share.the_type) (search sendable, (search (sendable, crosses, out_send) depth 40, tt))
+share_field_send = struct_send (shape Share.the_type) (search sendable, (search (sendable, crosses, out_send) depth 40, (search sendable, tt)))
 
 pub table_sync : IsSync TableRow.the_row
 table_sync = Table.the_sync

@@ -1,7 +1,7 @@
 -- The shares and what is made of them, joined, are those of all files.
-use Rattle.std.proofs.Common.{◌≡◌, ℕ, ◌+◌, ◌≤◌, List, [], ◌∷◌, ◌++◌, map, length, refl, suc, sym, ap, ap₂, ◌∙◌, arith, Ok, Result, flat_map, subst}
+use Rattle.std.proofs.Common.{◌≡◌, ℕ, ◌+◌, ◌≤◌, All, true, List, [], ◌∷◌, ◌++◌, map, length, refl, suc, sym, ap, ap₂, ◌∙◌, arith, Ok, Result, flat_map, subst}
 use Rattle.std.proofs.lemmas.List.{map-append, length-append, length-map}
-use Rattle.std.proofs.lemmas.List.Elements.{All-nil, All-cons}
+use Rattle.std.proofs.lemmas.List.Elements.{All-nil, All-cons, All-head, All-tail}
 use Rattle.std.specs.List.{enumerate_from}
 use Rattle.std.specs.declared.alloc.AllocError.{AllocError}
 use Rattle.file_facts.specs.declared.diagnostic.Diag.{Diag}
@@ -57,10 +57,14 @@ made_append f n ts us =
     ∙ map-append f (enumerate_from n (workspace_of ts)) (enumerate_from (n + length (workspace_of ts)) (workspace_of us))
     ∙ ap (λ k. made_from f n ts ++ made_from f (n + k) us) long
 
--- the shares of a workspace, joined, are these pieces with what is known of each
-pub record AreAllLinked (w : Workspace) (n : ℕ) (ts : List TextAt) (pieces : List TextAt) (links : List Links) (diagnostics : List (List Diag)) : Type 0 where
-  pub pieces_are : pieces ≡ ts
-  pub links_are : links ≡ made_from (resolution_of w) n ts
+-- the pieces of all shares are kept
+abbrev pub AreKept : List Share → Type 0
+AreKept ss = All (λ (s : Share). s.is_kept ≡ true) ss
+
+-- the shares of a workspace, joined, are these pieces and their links, if they are kept, and what is wrong in each
+pub record AreAllLinked (w : Workspace) (n : ℕ) (ss : List Share) (ts : List TextAt) (pieces : List TextAt) (links : List Links) (diagnostics : List (List Diag)) : Type 0 where
+  pub pieces_are : AreKept ss → pieces ≡ ts
+  pub links_are : AreKept ss → links ≡ made_from (resolution_of w) n ts
   pub diagnostics_are : diagnostics ≡ made_from (diagnostics_of w) n ts
 
 with_share : {X : Type 0} (f : ℕ × (List ℕ × List ℕ) → X) (n first : ℕ) (ts us : List TextAt) (here rest : List X) → first ≡ n
@@ -68,8 +72,8 @@ with_share : {X : Type 0} (f : ℕ × (List ℕ × List ℕ) → X) (n first : �
 with_share f n first ts us here rest at is are = ap₂ (λ a b. a ++ b) (is ∙ ap (λ m. made_from f m ts) at) are ∙ sym (made_append f n ts us)
 
 joined : (w : Workspace) (files : List NamedFacts) → files ≡ all_facts w → (n : ℕ) (ss : List Share) (parts : List LinkedShare) → AreConsecutive n ss → AreLinkedBy files ss (map Ok parts)
-    → AreAllLinked w n (pieces_in ss) (flat_map (λ (p : LinkedShare). p.pieces.items) parts) (flat_map (λ (p : LinkedShare). p.resolutions.links.items) parts) (flat_map (λ (p : LinkedShare). p.resolutions.diagnostics) parts)
-joined w files is n [] [] c a = record { pieces_are = refl; links_are = refl; diagnostics_are = refl }
+    → AreAllLinked w n ss (pieces_in ss) (flat_map (λ (p : LinkedShare). p.pieces.items) parts) (flat_map (λ (p : LinkedShare). p.resolutions.links.items) parts) (flat_map (λ (p : LinkedShare). p.resolutions.diagnostics) parts)
+joined w files is n [] [] c a = record { pieces_are = λ kept. refl; links_are = λ kept. refl; diagnostics_are = refl }
 joined w files is n [] (p ∷ parts) c a = absurd (omega (arith, a.len))
 joined w files is n (s ∷ ss) [] c a = absurd (omega (arith, a.len))
 joined w files is n (s ∷ ss) (p ∷ parts) c a =
@@ -77,19 +81,19 @@ joined w files is n (s ∷ ss) (p ∷ parts) c a =
     let rest = joined w files is (n + length s.pieces.items) ss parts c.1 (record { len = omega (arith, a.len); each = λ i t r x y. a.each (suc i) t r x y }) in
     let us = pieces_in ss in
     record {
-      pieces_are = ap₂ (λ a b. a ++ b) here.pieces rest.pieces_are;
-      links_are = with_share (resolution_of w) n s.first s.pieces.items us _ _ c.0 here.links rest.links_are;
+      pieces_are = λ kept. ap₂ (λ a b. a ++ b) (here.pieces (All-head (λ (x : Share). x.is_kept ≡ true) s ss kept)) (rest.pieces_are (All-tail (λ (x : Share). x.is_kept ≡ true) s ss kept));
+      links_are = λ kept. with_share (resolution_of w) n s.first s.pieces.items us _ _ c.0 (here.links (All-head (λ (x : Share). x.is_kept ≡ true) s ss kept)) (rest.links_are (All-tail (λ (x : Share). x.is_kept ≡ true) s ss kept));
       diagnostics_are = with_share (diagnostics_of w) n s.first s.pieces.items us _ _ c.0 here.diagnostics rest.diagnostics_are;
     }
 
--- the linked shares of pieces, joined, are those pieces with what is known of each
+-- the linked shares of pieces, joined, are those pieces and their links, if they are kept, and what is wrong in each
 pub all_joined : (w : Workspace) (files : List NamedFacts) → files ≡ all_facts w → (ts : List TextAt) (ss : List Share) (answers : List (Result LinkedShare AllocError)) (r : LinkedShare)
-    → pieces_in ss ≡ ts → AreConsecutive 0 ss → AreLinkedBy files ss answers → AreJoined answers r → AreAllLinked w 0 ts r.pieces.items r.resolutions.links.items r.resolutions.diagnostics
+    → pieces_in ss ≡ ts → AreConsecutive 0 ss → AreLinkedBy files ss answers → AreJoined answers r → AreAllLinked w 0 ss ts r.pieces.items r.resolutions.links.items r.resolutions.diagnostics
 all_joined w files is ts ss answers r whole c linked j =
     let P : List (Result LinkedShare AllocError) → Type 0 = λ xs. AreLinkedBy files ss xs in
     let all = joined w files is 0 ss j.parts c (subst P j.none_refused linked) in
     record {
-      pieces_are = j.pieces ∙ (all.pieces_are ∙ whole);
-      links_are = j.links ∙ (all.links_are ∙ ap (made_from (resolution_of w) 0) whole);
+      pieces_are = λ kept. j.pieces ∙ (all.pieces_are kept ∙ whole);
+      links_are = λ kept. j.links ∙ (all.links_are kept ∙ ap (made_from (resolution_of w) 0) whole);
       diagnostics_are = j.diagnostics ∙ (all.diagnostics_are ∙ ap (made_from (diagnostics_of w) 0) whole);
     }

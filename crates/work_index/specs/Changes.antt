@@ -1,39 +1,37 @@
--- A change of the text of one file.
-use Rattle.std.specs.Prelude.{◌≡◌, ◌≢◌, ◌<◌, ℕ, List, [], true, false, Some, length, map, slice_index_or, slice_set, IfSome, MatchOption, ⊤}
-use Rattle.std.specs.List.{enumerate_from}
+-- Changes of the texts of files.
+use Rattle.std.specs.Prelude.{◌≡◌, ◌≢◌, ◌<◌, ℕ, List, [], Bool, true, false, Some, All, Contains, length, map, slice_index_or, slice_set, IfSome, MatchOption, ⊤}
+use Rattle.syntax_tree.specs.Read.{value_tree}
+use Rattle.file_facts.specs.Facts.{facts_of}
 use Rattle.import_graph.specs.declared.paths.NamedFacts.{NamedFacts}
 use Rattle.import_graph.specs.Closures.{seers_of}
 use Rattle.import_graph.specs.Imports.{graph_of}
 use Rattle.import_graph.specs.Outlooks.{outlook}
+use Rattle.proto_resolve.specs.declared.resolve.Links.{Links}
 use Rattle.proto_resolve.specs.Files.{facts_at}
+use Rattle.proto_resolve.specs.Resolved.{resolved}
 use Rattle.proto_resolve.specs.Seen.{exports, SeesTheSame}
 use Rattle.link_changes.specs.declared.asked.Asked.{Asked}
 use Rattle.link_changes.specs.declared.renumbering.Renumbering.{Renumbering}
 use Rattle.link_changes.specs.declared.touched.Touched.{Touched}
 use Rattle.link_changes.specs.Asked.{may_ask}
-use Rattle.link_changes.specs.Touched.{is_touched, Tells}
+use Rattle.link_changes.specs.Touched.{decl_after, is_touched, links_after, Tells}
 use Rattle.work_index.specs.declared.again.Effect.{Effect}
 use Rattle.work_index.specs.declared.again.Effect.TheVariants.{Stay, Move, Relink}
 use Rattle.work_index.specs.declared.again.Told.{Told}
 use Rattle.work_index.specs.declared.again.FileChange.{FileChange}
+use Rattle.work_index.specs.declared.again.Relinking.{Relinking}
 use Rattle.work_index.specs.declared.analysis.Resolutions.{Resolutions}
-use Rattle.work_index.specs.Workspace.{Workspace, AnalysisData, all_facts, analysis, diagnostics_of, resolution_of}
+use Rattle.work_index.specs.Workspace.{Workspace, AnalysisData, all_facts, analysis, merged}
 
--- the workspace with another text of a file
-abbrev pub with_text : Workspace → ℕ → List ℕ → Workspace
-with_text w file text = slice_set w file (slice_index_or (map (λ f. f.0) w) file [], text)
+-- the analysis is that of the workspace before changes of the texts of these files: there the other files had the texts that they have
+pub record IsBefore (a : AnalysisData) (w : Workspace) (files : List ℕ) : Type 0 where
+  pub old : Workspace
+  pub paths : map (λ f. f.0) old ≡ map (λ f. f.0) w
+  pub within : All (λ f. f < length w) files
+  pub others : (n : ℕ) → (Contains files n → ⊥) → slice_index_or old n ([], []) ≡ slice_index_or w n ([], [])
+  pub is : a ≡ analysis old
 
--- the analysis is that of the workspace before a change of the file's text
-pub record IsBefore (a : AnalysisData) (w : Workspace) (file : ℕ) : Type 0 where
-  pub within : file < length w
-  pub text : List ℕ
-  pub is : a ≡ analysis (with_text w file text)
-
--- the same of the facts of all files
-pub record AreBefore (files : List NamedFacts) (w : Workspace) (file : ℕ) : Type 0 where
-  pub within : file < length w
-  pub text : List ℕ
-  pub are : files ≡ all_facts (with_text w file text)
+-- ---- a change of one file
 
 -- The files differ by the change: there are as many; a graph that is kept is that of the old files, and where none is kept theirs
 -- is that of the new ones too; the facts of other files are the same; seers that are kept are the files that see the changed
@@ -67,10 +65,63 @@ Follows old new change f asked Stay = (f ≢ change.file) × SeesTheSame old new
 Follows old new change f asked (Move by) = IsMoved old new change f asked by
 Follows old new change f asked Relink = ⊤
 
--- the links and the diagnostics are those before the change
-pub record AreLinkedBefore (resolutions : Resolutions) (w : Workspace) (change : FileChange) : Type 0 where
-  pub within : change.file < length w
-  pub text : List ℕ
-  pub links_are : resolutions.links.items ≡ map (resolution_of (with_text w change.file text)) (enumerate_from 0 (with_text w change.file text))
-  pub diagnostics_are : resolutions.diagnostics ≡ map (diagnostics_of (with_text w change.file text)) (enumerate_from 0 (with_text w change.file text))
-  pub differ : DifferAt (all_facts (with_text w change.file text)) (all_facts w) change
+-- ---- links while changes are taken one after the other
+
+abbrev pub no_links : Links
+no_links = record { uses = []; diags = [] }
+
+-- the text of a file
+abbrev pub file_text : Workspace → ℕ → List ℕ
+file_text w n = let file = slice_index_or w n ([], []) in file.1
+
+-- the links of all files after an effect on those of one, and which files wait then
+abbrev pub links_under : Effect → ℕ → List Links → List Links
+links_under Stay f links = links
+links_under (Move by) f links = slice_set links f (links_after (decl_after by) (slice_index_or links f no_links))
+links_under Relink f links = links
+
+abbrev pub waiting_under : Effect → ℕ → List Bool → List Bool
+waiting_under Stay f waiting = waiting
+waiting_under (Move by) f waiting = waiting
+waiting_under Relink f waiting = slice_set waiting f true
+
+-- whether a file waits to be linked again
+abbrev pub waits : Relinking → ℕ → Bool
+waits now n = slice_index_or now.waiting.items n true
+
+-- the links and the diagnostics of a file are those that its text has where these are all files
+pub record IsLinked (files : List NamedFacts) (n : ℕ) (text : List ℕ) (found : Resolutions) : Type 0 where
+  pub links : slice_index_or found.links.items n no_links ≡ resolved files n text (value_tree text)
+  pub diagnostics : slice_index_or found.diagnostics n [] ≡ merged (facts_of text) (resolved files n text (value_tree text))
+
+-- there is a place for each of so many files
+pub record HasPlaces (count : ℕ) (now : Relinking) : Type 0 where
+  pub links : length now.resolutions.links.items ≡ count
+  pub diagnostics : length now.resolutions.diagnostics ≡ count
+  pub waiting : length now.waiting.items ≡ count
+
+-- each file that doesn't wait has the facts of its text, and the links that it has where these are all files
+pub record AreLinked (files : List NamedFacts) (w : Workspace) (now : Relinking) : Type 0 where
+  pub count : length files ≡ length w
+  pub places : HasPlaces (length w) now
+  pub own : (n : ℕ) → waits now n ≡ false → facts_at files n ≡ facts_of (file_text w n)
+  pub linked : (n : ℕ) → waits now n ≡ false → IsLinked files n (file_text w n) now.resolutions
+
+-- each file that doesn't wait is linked as it was before a change; the changed file waits
+pub record AreLinkedBefore (new : List NamedFacts) (change : FileChange) (w : Workspace) (now : Relinking) : Type 0 where
+  pub old : List NamedFacts
+  pub linked : AreLinked old w now
+  pub waits : waits now change.file ≡ true
+  pub differ : DifferAt old new change
+
+-- files that waited still wait
+abbrev pub StillWait : Relinking → Relinking → Type 0
+StillWait before now = (n : ℕ) → waits before n ≡ true → waits now n ≡ true
+
+-- All changes but those of these files are taken: the other files have the facts that they have in the workspace. Each of these
+-- waits.
+pub record AreTakenBut (rest : List ℕ) (files : List NamedFacts) (w : Workspace) (now : Relinking) : Type 0 where
+  pub paths : map (λ f. f.path) files ≡ map (λ f. f.0) w
+  pub others : (n : ℕ) → n < length w → (Contains rest n → ⊥) → facts_at files n ≡ facts_at (all_facts w) n
+  pub linked : AreLinked files w now
+  pub wait : All (λ f. (f < length w) × (waits now f ≡ true)) rest

@@ -1,6 +1,8 @@
 pub mod Workspace
 pub mod Pieces
 pub mod Changes
+pub mod Stayed
+pub mod FilesMoves
 pub mod Fault
 pub mod Stretches
 pub mod Parts

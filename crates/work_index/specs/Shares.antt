@@ -1,5 +1,5 @@
 -- Shares of the pieces of a workspace, and what is made of each.
-use Rattle.std.specs.Prelude.{◌≡◌, ℕ, ◌+◌, ◌≤◌, List, [], ◌∷◌, map, length, Result, Ok, Some, slice_get, flat_map, ⊤, All}
+use Rattle.std.specs.Prelude.{◌≡◌, ℕ, ◌+◌, ◌≤◌, List, [], ◌∷◌, map, length, Result, Ok, Some, true, slice_get, flat_map, ⊤, All}
 use Rattle.std.specs.List.{enumerate_from}
 use Rattle.std.specs.declared.alloc.AllocError.{AllocError}
 use Rattle.piece_collector.specs.Views.{TextAt}
@@ -36,10 +36,10 @@ ArePlacedIn files shares = All (λ s. AreNumbersIn files s.first (length s.piece
 
 -- ---- what is made of them
 
--- the pieces of a share, as they were, with what is known of each of them as a file of the workspace beside its facts
+-- the pieces of a share, as they were, and their links as files of the workspace, if they are kept; and what is wrong in each of them
 pub record IsLinkedIn (w : Workspace) (share : Share) (linked : LinkedShare) : Type 0 where
-  pub pieces : linked.pieces.items ≡ share.pieces.items
-  pub links : linked.resolutions.links.items ≡ map (resolution_of w) (enumerate_from share.first (workspace_of share.pieces.items))
+  pub pieces : share.is_kept ≡ true → linked.pieces.items ≡ share.pieces.items
+  pub links : share.is_kept ≡ true → linked.resolutions.links.items ≡ map (resolution_of w) (enumerate_from share.first (workspace_of share.pieces.items))
   pub diagnostics : linked.resolutions.diagnostics ≡ map (diagnostics_of w) (enumerate_from share.first (workspace_of share.pieces.items))
 
 -- the same in the workspace of these files

@@ -61,6 +61,14 @@ analysis w = record {
   diagnostics = map (diagnostics_of w) (enumerate_from 0 w);
 }
 
+-- what is wrong in each file of a workspace, with their paths
+pub record DiagnosisData : Type 0 where
+  pub paths : List (List ℕ)
+  pub diagnostics : List (List Diag)
+
+abbrev pub diagnosis : Workspace → DiagnosisData
+diagnosis w = let a = analysis w in record { paths = a.paths; diagnostics = a.diagnostics }
+
 -- ---- reading it
 
 abbrev pub decl_in : List FileFacts → DeclRef → Decl

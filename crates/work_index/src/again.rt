@@ -1,17 +1,17 @@
-// The analysis of a workspace after a change of one file's text.
-ghost use Rattle.std.specs.Prelude.{◌≡◌, ◌<◌, List, All, Some, false, length, map, slice_index_or, slice_set, IfOk, IfSome, MatchOption, OnOk, IsTrue};
+// The analysis of a workspace after changes of the texts of some files.
+ghost use Rattle.std.specs.Prelude.{◌≡◌, ◌<◌, List, All, Some, true, false, length, map, slice_index_or, slice_set, IfOk, IfSome, MatchOption, OnOk, IsTrue};
 ghost use Rattle.std.specs.List.{enumerate_from};
 ghost use Rattle.import_graph.specs.declared.paths.NamedFacts.{NamedFacts};
 ghost use Rattle.import_graph.specs.Closures.{seers_of, view_of};
 ghost use Rattle.import_graph.specs.Imports.{graph_of};
 ghost use Rattle.import_graph.specs.Outlooks.{outlook};
 ghost use Rattle.proto_resolve.specs.Files.{facts_at};
-ghost use Rattle.proto_resolve.specs.Outlines.{import_outline};
+ghost use Rattle.proto_resolve.specs.Outlines.{import_outline, with_facts};
 ghost use Rattle.proto_resolve.specs.Seen.{exports, SeenLaw};
 ghost use Rattle.link_changes.specs.Laws.{TouchedLaw};
 ghost use Rattle.link_changes.specs.Touched.{decl_after, links_after};
 ghost use Rattle.work_index.specs.declared.again.FileChange.{FileChange};
-ghost use Rattle.work_index.specs.Changes.{AreBefore, AreLinkedBefore, DifferAt, Follows, IsBefore, IsSpared};
+ghost use Rattle.work_index.specs.Changes.{AreLinked, AreLinkedBefore, AreTakenBut, DifferAt, Follows, IsBefore, IsSpared, StillWait, links_under, waiting_under, waits};
 ghost use Rattle.work_index.specs.Pieces.{workspace_of};
 ghost use Rattle.work_index.specs.Workspace.{Workspace, all_facts, analysis, diagnostics_of, resolution_of};
 
@@ -54,6 +54,14 @@ enum Effect {
     Move(Renumbering),
     // The file has to be linked again.
     Relink,
+}
+
+// What is linked while changes are taken one after the other.
+#[derive(Drop)]
+struct Relinking {
+    resolutions: Resolutions,
+    // Of each file, whether it waits to be linked again: its links count for nothing until then.
+    waiting: Vec<bool>,
 }
 
 // Of what a changed file may say another thing than before.
@@ -150,26 +158,39 @@ fn set_renumbered(by: &Renumbering, file: usize, resolutions: &mut Resolutions)
     renumber(by, &mut resolutions.links[file]);
 }
 
-// Brings the links of all files up to the change: those of the changed file, and of those to which it may make a difference.
-fn relink(
-    alloc: Global,
+// Lets a change have its effect on the links of a file.
+fn take_effect(effect: Effect, file: usize, relinking: &mut Relinking)
+    requires links { file < length relinking.old.resolutions.links.items }
+    requires waiting { file < length relinking.old.waiting.items }
+    ensures links { relinking.new.resolutions.links.items ≡ links_under effect file relinking.old.resolutions.links.items }
+    ensures diagnostics { relinking.new.resolutions.diagnostics ≡ relinking.old.resolutions.diagnostics }
+    ensures waiting { relinking.new.waiting.items ≡ waiting_under effect file relinking.old.waiting.items }
+{
+    match effect {
+        Effect::Stay => {}
+        Effect::Move(by) => set_renumbered(&by, file, &mut relinking.resolutions),
+        Effect::Relink => relinking.waiting[file] = true,
+    }
+}
+
+// Brings the links of the files that don't wait up to the change; those to which it may make more of a difference than other
+// numbers wait from then on.
+fn follow(
     table: &Table,
     change: &FileChange,
     pieces: &[Piece<FileWork>],
-    resolutions: &mut Resolutions,
+    relinking: &mut Relinking,
 ) -> Result<(), AllocError>
-    requires table { table.now ≡ all_facts (workspace_of pieces.now) }
-    requires before { AreLinkedBefore resolutions.old (workspace_of pieces.now) change.now }
+    requires before { AreLinkedBefore table.now change.now (workspace_of pieces.now) relinking.old }
     requires seen_law { SeenLaw }
     requires touched_law { TouchedLaw }
-    ensures links { OnOk result (resolutions.new.links.items ≡ map (resolution_of (workspace_of pieces.now)) (enumerate_from 0 (workspace_of pieces.now))) }
-    ensures diagnostics { OnOk result (resolutions.new.diagnostics ≡ map (diagnostics_of (workspace_of pieces.now)) (enumerate_from 0 (workspace_of pieces.now))) }
+    ensures linked { OnOk result (AreLinked table.now (workspace_of pieces.now) relinking.new) }
+    ensures wait { OnOk result (StillWait relinking.old relinking.new) }
 {
     for (file, piece) in pieces.iter().enumerate() {
-        match effect_on(table, change, file, asked_in(piece))? {
-            Effect::Stay => {}
-            Effect::Move(by) => set_renumbered(&by, file, resolutions),
-            Effect::Relink => set_linked(alloc, table, file, piece, resolutions)?,
+        if !relinking.waiting[file] {
+            let effect = effect_on(table, change, file, asked_in(piece))?;
+            take_effect(effect, file, relinking);
         }
     }
     Ok(())
@@ -184,10 +205,11 @@ fn table_after(
     differences: Differences,
     pieces: &[Piece<FileWork>],
 ) -> Result<(Table, Option<Graph>), AllocError>
-    requires before { AreBefore table (workspace_of pieces.now) changed }
+    requires within { changed < length table }
+    requires piece { changed < length pieces.now }
     requires imports { differences.imports ≡ false → import_outline (facts_at (all_facts (workspace_of pieces.now)) changed) ≡ import_outline (facts_at table changed) }
     requires quiet { differences.exports ≡ false → exports (facts_at (all_facts (workspace_of pieces.now)) changed) ≡ exports (facts_at table changed) }
-    ensures table { IfOk result (λ after. after.0 ≡ all_facts (workspace_of pieces.now)) }
+    ensures table { IfOk result (λ after. after.0 ≡ with_facts table changed (facts_at (all_facts (workspace_of pieces.now)) changed)) }
     ensures graph { IfOk result (λ after. MatchOption after.1 (differences.imports ≡ false) (λ graph. graph ≡ graph_of table)) }
 {
     let facts = shared_at(pieces, changed).another()?;
@@ -236,26 +258,23 @@ fn facts_at<'p>(pieces: &'p [Piece<FileWork>], file: usize) -> &'p FileFacts
     shared_at(pieces, file).get()
 }
 
-/// The analysis of the workspace of some pieces, which are in the order of their paths, no path twice, after a change of the
-/// text of one file. It is given the analysis before the change, and the file's number, from 0. Links again only that file, the
-/// files of which the imports say another thing than before, and of those that see it the ones that may ask for a name that the
-/// change touches: all of them if it touches many names, or the package's. An `Err` comes only where memory was refused.
-pub fn analyse_again(
+// The table after one more change, of a file that waits. The links of the files that don't wait are brought up to it.
+fn take_change(
     alloc: Global,
-    earlier: Analysis,
-    changed: usize,
+    table: Table,
+    changed: FileNo,
     pieces: &[Piece<FileWork>],
-) -> Result<Analysis, AllocError>
-    requires { IsBefore earlier (workspace_of pieces.now) changed }
-    ensures { IfOk result (λ found. found ≡ analysis (workspace_of pieces.now)) }
+    relinking: &mut Relinking,
+) -> Result<Table, AllocError>
+    requires within { changed < length pieces.now }
+    requires waits { waits relinking.old changed ≡ true }
+    requires linked { AreLinked table (workspace_of pieces.now) relinking.old }
+    requires seen_law { SeenLaw }
+    requires touched_law { TouchedLaw }
+    ensures table { IfOk result (λ after. after ≡ with_facts table changed (facts_at (all_facts (workspace_of pieces.now)) changed)) }
+    ensures linked { IfOk result (λ after. AreLinked after (workspace_of pieces.now) relinking.new) }
+    ensures wait { OnOk result (StillWait relinking.old relinking.new) }
 {
-    seen_law();
-    touched_law();
-    let Analysis {
-        table,
-        paths,
-        mut resolutions,
-    } = earlier;
     let facts = facts_at(pieces, changed);
     let imports = !same_imports(facts, table.facts(changed));
     let exports = !same_exports(facts, table.facts(changed));
@@ -268,7 +287,95 @@ pub fn analyse_again(
         told,
         before,
     };
-    relink(alloc, &table, &change, pieces, &mut resolutions)?;
+    follow(&table, &change, pieces, relinking)?;
+    Ok(table)
+}
+
+// The table after all changes, taken one after the other. The links of the files that don't wait are brought up to them.
+fn take_changes(
+    alloc: Global,
+    table: Table,
+    changed: &[FileNo],
+    pieces: &[Piece<FileWork>],
+    relinking: &mut Relinking,
+) -> Result<Table, AllocError>
+    requires before { AreTakenBut changed.now table (workspace_of pieces.now) relinking.old }
+    requires seen_law { SeenLaw }
+    requires touched_law { TouchedLaw }
+    ensures table { IfOk result (λ after. after ≡ all_facts (workspace_of pieces.now)) }
+    ensures linked { IfOk result (λ after. AreLinked after (workspace_of pieces.now) relinking.new) }
+{
+    let mut table = table;
+    for file in changed {
+        table = take_change(alloc, table, *file, pieces, relinking)?;
+    }
+    Ok(table)
+}
+
+// Of each of so many files, whether it waits to be linked again: the changed ones do.
+fn waiting_of(alloc: Global, count: usize, changed: &[FileNo]) -> Result<Vec<bool>, AllocError>
+    requires { All (λ f. f < count) changed.now }
+    ensures count { IfOk result (λ waiting. length waiting.items ≡ count) }
+    ensures changed { IfOk result (λ waiting. All (λ f. slice_index_or waiting.items f true ≡ true) changed.now) }
+{
+    let mut waiting = vec![in alloc; false; count]?;
+    for file in changed {
+        waiting[*file] = true;
+    }
+    Ok(waiting)
+}
+
+// The links of all files, those that wait linked again.
+fn link_waiting(
+    alloc: Global,
+    table: &Table,
+    pieces: &[Piece<FileWork>],
+    relinking: Relinking,
+) -> Result<Resolutions, AllocError>
+    requires table { table.now ≡ all_facts (workspace_of pieces.now) }
+    requires linked { AreLinked table.now (workspace_of pieces.now) relinking }
+    ensures links { IfOk result (λ found. found.links.items ≡ map (resolution_of (workspace_of pieces.now)) (enumerate_from 0 (workspace_of pieces.now))) }
+    ensures diagnostics { IfOk result (λ found. found.diagnostics ≡ map (diagnostics_of (workspace_of pieces.now)) (enumerate_from 0 (workspace_of pieces.now))) }
+{
+    let Relinking {
+        mut resolutions,
+        waiting,
+    } = relinking;
+    for (file, piece) in pieces.iter().enumerate() {
+        if waiting[file] {
+            set_linked(alloc, table, file, piece, &mut resolutions)?;
+        }
+    }
+    Ok(resolutions)
+}
+
+/// The analysis of the workspace of some pieces, which are in the order of their paths, no path twice, after changes of the texts
+/// of some files. It is given the analysis before the changes, and the files' numbers, from 0. Links again only those files, the
+/// files of which the imports say another thing than before, and of those that see a changed one the ones that may ask for a name
+/// that the change touches: all of them if it touches many names, or the package's. An `Err` comes only where memory was refused.
+pub fn analyse_again(
+    alloc: Global,
+    earlier: Analysis,
+    changed: &[FileNo],
+    pieces: &[Piece<FileWork>],
+) -> Result<Analysis, AllocError>
+    requires { IsBefore earlier (workspace_of pieces.now) changed.now }
+    ensures { IfOk result (λ found. found ≡ analysis (workspace_of pieces.now)) }
+{
+    seen_law();
+    touched_law();
+    let Analysis {
+        table,
+        paths,
+        resolutions,
+    } = earlier;
+    let waiting = waiting_of(alloc, pieces.len(), changed)?;
+    let mut relinking = Relinking {
+        resolutions,
+        waiting,
+    };
+    let table = take_changes(alloc, table, changed, pieces, &mut relinking)?;
+    let resolutions = link_waiting(alloc, &table, pieces, relinking)?;
     Ok(Analysis {
         table,
         paths,

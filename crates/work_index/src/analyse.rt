@@ -61,6 +61,22 @@ pub fn diagnostics_of(
     in_order(alloc, found.as_slice())
 }
 
+// Adds the links of a file, and all that is wrong in it.
+pub fn push_found(
+    alloc: Global,
+    piece: &Piece<FileWork>,
+    found: Links,
+    resolutions: &mut Resolutions,
+) -> Result<(), AllocError>
+    ensures links { OnOk result (resolutions.new.links.items ≡ resolutions.old.links.items ++ found ∷ []) }
+    ensures diagnostics { OnOk result (resolutions.new.diagnostics ≡ resolutions.old.diagnostics ++ merged (facts_of piece.now.text) found ∷ []) }
+{
+    let diagnostics = diagnostics_of(alloc, piece, &found)?;
+    resolutions.diagnostics.push(diagnostics)?;
+    resolutions.links.push(found)?;
+    Ok(())
+}
+
 // Adds what is known of a file beside its facts.
 fn push_linked(
     alloc: Global,
@@ -74,10 +90,7 @@ fn push_linked(
     ensures diagnostics { (w : Workspace) → table.now ≡ all_facts w → OnOk result (resolutions.new.diagnostics ≡ resolutions.old.diagnostics ++ diagnostics_of w (file, (piece.now.path, piece.now.text)) ∷ []) }
 {
     let found = resolution_of(alloc, table, file, piece)?;
-    let diagnostics = diagnostics_of(alloc, piece, &found)?;
-    resolutions.diagnostics.push(diagnostics)?;
-    resolutions.links.push(found)?;
-    Ok(())
+    push_found(alloc, piece, found, resolutions)
 }
 
 // What is known, beside their facts, of some pieces, which are files of the table. The first has this number there, and the
@@ -102,6 +115,44 @@ pub fn link_files<G: Gate>(
         push_linked(alloc, table, first + place, piece, &mut resolutions)?;
     }
     Ok(resolutions)
+}
+
+// Adds what is wrong in a file, by itself and by what it sees.
+fn push_diagnosed(
+    alloc: Global,
+    table: &Table,
+    file: usize,
+    piece: &Piece<FileWork>,
+    diagnostics: &mut Items<Items<Diag>>,
+) -> Result<(), AllocError>
+    requires { file < length table.now }
+    ensures { (w : Workspace) → table.now ≡ all_facts w → OnOk result (diagnostics.new ≡ diagnostics.old ++ diagnostics_of w (file, (piece.now.path, piece.now.text)) ∷ []) }
+{
+    let found = resolution_of(alloc, table, file, piece)?;
+    diagnostics.push(diagnostics_of(alloc, piece, &found)?)
+}
+
+// What is wrong in the files of some pieces, which are files of the table. The first has this number there, and the others those that
+// follow. Enters the gate before each file, and drops each piece, and what the names of its file mean, as soon as that is known.
+pub fn diagnose_files<G: Gate>(
+    alloc: Global,
+    table: &Table,
+    first: usize,
+    pieces: Vec<Piece<FileWork>>,
+    gate: &G,
+) -> Result<Items<Items<Diag>>, AllocError>
+    requires { AreNumbersIn (length table.now) first (length pieces.items) }
+    ensures { (w : Workspace) → table.now ≡ all_facts w → IfOk result (λ found. found ≡ map (diagnostics_of w) (enumerate_from first (workspace_of pieces.items))) }
+{
+    let mut diagnostics = Items::new(alloc);
+    let mut file = first;
+    for piece in pieces {
+        gate.enter(piece.path(), piece.stamp());
+        make_room(alloc, diagnostics.len());
+        push_diagnosed(alloc, table, file, &piece, &mut diagnostics)?;
+        file += 1;
+    }
+    Ok(diagnostics)
 }
 
 /// The analysis of the workspace of some pieces, which are in the order of their paths, no path twice: it is that of their

@@ -2,14 +2,16 @@
 ghost use Rattle.std.specs.Prelude.{◌≡◌, length, map, IfOk};
 ghost use Rattle.std.specs.Thread.{IsSync};
 ghost use Rattle.import_graph.specs.Paths.{IsInPathOrder};
+ghost use Rattle.piece_collector.specs.Board.{Ascends};
 ghost use Rattle.work_index.specs.Parts.{part_of, IsIndexed, AreIndexedWith};
 ghost use Rattle.work_index.specs.Pieces.{workspace_of};
-ghost use Rattle.work_index.specs.Shares.{AreNumbersIn, ArePlacedIn, IsLinkedBy, AreLinkedBy};
+ghost use Rattle.work_index.specs.Shares.{AreNumbersIn, ArePlacedIn, IsLinkedBy, IsLinkedIn, AreLinkedBy};
 ghost use Rattle.work_index.specs.Stretches.{Cover};
-ghost use Rattle.work_index.specs.Workspace.{analysis};
+ghost use Rattle.work_index.specs.Workspace.{all_facts, analysis, diagnosis};
 
 use crate::analyse::paths_of;
-use crate::analysis::Analysis;
+use crate::analysis::{Analysis, Resolutions};
+use crate::diagnosis::Diagnosis;
 use crate::fault::AnalyseFault;
 use crate::file_work::FileWork;
 use crate::gate::Gate;
@@ -155,6 +157,33 @@ fn link_all<R: Threads + Wait, G: Gate>(
     )
 }
 
+// All files of some pieces, linked by threads, with the table of these files.
+fn link_in_shares<R: Threads + Wait, G: Gate>(
+    rt: &R,
+    alloc: Global,
+    all: Share,
+    workers: usize,
+    gate: &G,
+) -> Result<(Table, LinkedShare), AnalyseFault>
+    requires first { all.first ≡ 0 }
+    requires ordered { Ascends all.pieces.items }
+    ensures table { IfOk result (λ r. r.0 ≡ all_facts (workspace_of all.pieces.items)) }
+    ensures linked { IfOk result (λ r. IsLinkedIn (workspace_of all.pieces.items) all r.1) }
+{
+    let Share {
+        pieces,
+        is_kept,
+        ..
+    } = all;
+    let files = all_facts(alloc, pieces.as_slice())?;
+    let count = workers.clamp(1, 64).min(pieces.len());
+    let shares = cut(alloc, pieces, count, is_kept)?;
+    let (shares, table) = table_in_shares(rt, alloc, shares, files)?;
+    let answers = link_all(rt, alloc, shares, &table, gate)?;
+    let linked = gather(alloc, answers)?;
+    Ok((table, linked))
+}
+
 /// The analysis of the workspace of lent pieces, which come back as they were. It is the one that [`analyse_here`](crate::analyse_here)
 /// makes of them. As many threads as there are `workers` gather the declarations of the files by name, while this one makes the
 /// graph of imports, and after that as many link the files: 0 counts as 1, and over 64 as 64, and there are never
@@ -176,19 +205,49 @@ pub fn analyse_in_shares<R: Threads + Wait, G: Gate>(
 {
     let pieces = lent.into_pieces();
     let paths = paths_of(alloc, pieces.as_slice())?;
-    let files = all_facts(alloc, pieces.as_slice())?;
-    let count = workers.clamp(1, 64).min(pieces.len());
-    let shares = cut(alloc, pieces, count)?;
-    let (shares, table) = table_in_shares(rt, alloc, shares, files)?;
-    let answers = link_all(rt, alloc, shares, &table, gate)?;
+    let all = Share {
+        first: 0,
+        pieces,
+        is_kept: true,
+    };
+    let (table, linked) = link_in_shares(rt, alloc, all, workers, gate)?;
     let LinkedShare {
         pieces,
         resolutions,
-    } = gather(alloc, answers)?;
+    } = linked;
     let analysis = Analysis {
         table,
         paths,
         resolutions,
     };
     Ok((Lent::of(pieces), analysis))
+}
+
+/// What is wrong in the files of lent pieces, which don't come back. It is what [`analyse_in_shares`] finds, by as many threads, and
+/// is refused as that is. Each piece is dropped, with its tree, as soon as it is known what is wrong in its file, and what names
+/// mean isn't kept, so that less memory is taken.
+pub fn diagnose<R: Threads + Wait, G: Gate>(
+    rt: &R,
+    alloc: Global,
+    lent: Lent<FileWork>,
+    workers: usize,
+    gate: &G,
+) -> Result<Diagnosis, AnalyseFault>
+    ensures { IfOk result (λ found. found ≡ diagnosis (workspace_of lent)) }
+{
+    let pieces = lent.into_pieces();
+    let paths = paths_of(alloc, pieces.as_slice())?;
+    let all = Share {
+        first: 0,
+        pieces,
+        is_kept: false,
+    };
+    let (table, linked) = link_in_shares(rt, alloc, all, workers, gate)?;
+    let LinkedShare { resolutions, .. } = linked;
+    let Resolutions { diagnostics, .. } = resolutions;
+    Ok(Diagnosis {
+        paths,
+        diagnostics,
+        table,
+    })
 }

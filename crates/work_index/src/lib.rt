@@ -1,13 +1,16 @@
 //! What is known of a whole workspace: its files' texts in, their facts, names and diagnostics out.
 //!
 //! [`FileWork`] is the work on one file, whose product depends on its text alone; [`analyse_here`] links the products of all
-//! files, and [`analyse_in_shares`] has several threads do so. What the analysis of a workspace is, is defined in
-//! specs/Workspace.antt as a function of the list of paths and texts; the products save time and take no part in it.
+//! files, and [`analyse_in_shares`] has several threads do so, as does [`diagnose`], which keeps only what is wrong. What
+//! the analysis of a workspace is, is defined in specs/Workspace.antt as a function of the list of paths and texts; the products save time
+//! and take no part in it.
 #![tactic(auto)]
 
+mod after;
 mod again;
 mod analyse;
 mod analysis;
+mod diagnosis;
 mod done;
 mod fault;
 mod file_work;
@@ -15,17 +18,20 @@ mod gate;
 mod in_shares;
 mod indexed;
 mod linked;
+mod moved_table;
 mod part_table;
 mod room;
 mod shares;
 mod table_of;
 
+pub use after::analyse_after;
 pub use again::analyse_again;
 pub use analyse::analyse_here;
 pub use analysis::Analysis;
+pub use diagnosis::Diagnosis;
 pub use done::Done;
 pub use fault::AnalyseFault;
 pub use file_work::{FileOut, FileWork};
 pub use gate::{Gate, OpenGate};
-pub use in_shares::analyse_in_shares;
+pub use in_shares::{analyse_in_shares, diagnose};
 pub use part_table::{PartTable, merge_tables};

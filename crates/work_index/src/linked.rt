@@ -2,7 +2,7 @@
 ghost use Rattle.std.specs.Prelude.{◌≡◌, length, IfOk};
 ghost use Rattle.work_index.specs.Shares.{AreNumbersIn, IsLinkedBy, AreJoined};
 
-use crate::analyse::link_files;
+use crate::analyse::{diagnose_files, link_files};
 use crate::analysis::Resolutions;
 use crate::file_work::FileWork;
 use crate::gate::Gate;
@@ -12,14 +12,15 @@ use proto_resolve::Table;
 use sqlite_items::Items;
 use std::alloc::{AllocError, Global};
 
-// The pieces of a share, as they were, with what their names mean and what is wrong in them.
+// The pieces of a share, as they were, and what their names mean, if they are kept; and what is wrong in them in any case.
 #[derive(Drop)]
 pub struct LinkedShare {
     pub pieces: Vec<Piece<FileWork>>,
     pub resolutions: Resolutions,
 }
 
-// The work of one thread: links the files of a share in order, and enters the gate before each of them.
+// The work of one thread: links the files of a share in order, and enters the gate before each of them. Where pieces aren't kept, each
+// is dropped as soon as it is known what is wrong in its file, and so are the links.
 pub fn link_share<G: Gate>(
     alloc: Global,
     share: Share,
@@ -29,15 +30,27 @@ pub fn link_share<G: Gate>(
     requires { AreNumbersIn (length table.now) share.first (length share.pieces.items) }
     ensures { IfOk result (IsLinkedBy table.now share) }
 {
-    let Share { first, pieces } = share;
-    let resolutions = link_files(alloc, table, first, pieces.as_slice(), gate)?;
-    Ok(LinkedShare {
+    let Share {
+        first,
         pieces,
-        resolutions,
+        is_kept,
+    } = share;
+    if is_kept {
+        let resolutions = link_files(alloc, table, first, pieces.as_slice(), gate)?;
+        return Ok(LinkedShare {
+            pieces,
+            resolutions,
+        });
+    }
+    let diagnostics = diagnose_files(alloc, table, first, pieces, gate)?;
+    let links = Vec::new(alloc);
+    Ok(LinkedShare {
+        pieces: Vec::new(alloc),
+        resolutions: Resolutions { links, diagnostics },
     })
 }
 
-// All pieces, with what is known of each, in the order of the shares. An `Err` where one of the answers is one.
+// All that is kept, with what is wrong in each file, in the order of the shares. An `Err` where one of the answers is one.
 pub fn gather(
     alloc: Global,
     answers: Vec<Result<LinkedShare, AllocError>>,

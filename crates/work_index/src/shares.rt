@@ -1,5 +1,5 @@
 // Consecutive pieces that one thread links.
-ghost use Rattle.std.specs.Prelude.{◌≡◌, ℕ, [], map, vec_len, IfOk};
+ghost use Rattle.std.specs.Prelude.{◌≡◌, ℕ, [], All, map, vec_len, IfOk};
 ghost use Rattle.work_index.specs.Shares.{pieces_in, AreConsecutive, AreBalanced};
 
 use crate::file_work::FileWork;
@@ -11,6 +11,8 @@ use std::alloc::{AllocError, Global};
 pub struct Share {
     pub first: usize,
     pub pieces: Vec<Piece<FileWork>>,
+    // Whether the pieces come back once their files are linked, with the links.
+    pub is_kept: bool,
 }
 
 // Cuts pieces into so many consecutive shares, the larger ones first. Their sizes differ by at most one.
@@ -18,10 +20,12 @@ pub fn cut(
     alloc: Global,
     pieces: Vec<Piece<FileWork>>,
     count: usize,
+    is_kept: bool,
 ) -> Result<Vec<Share>, AllocError>
     requires { count ≡ 0 → pieces.items ≡ [] }
     ensures whole { IfOk result (λ shares. pieces_in shares.items ≡ pieces.items) }
     ensures places { IfOk result (λ shares. AreConsecutive 0 shares.items) }
+    ensures kept { IfOk result (λ shares. All (λ s. s.is_kept ≡ is_kept) shares.items) }
     ensures count { IfOk result (λ shares. vec_len shares ≡ count) }
     ensures sizes { IfOk result (λ shares. AreBalanced (map (λ s. vec_len s.pieces) shares.items)) }
 {
@@ -31,7 +35,11 @@ pub fn cut(
     for i in 0..count {
         let here = pieces.len().div_ceil(count - i);
         let rest = pieces.split_off(here)?;
-        shares.push(Share { first, pieces })?;
+        shares.push(Share {
+            first,
+            pieces,
+            is_kept,
+        })?;
         pieces = rest;
         first += here;
     }

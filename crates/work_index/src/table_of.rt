@@ -12,7 +12,7 @@ use proto_resolve::Table;
 use std::alloc::{AllocError, Global};
 
 // A file with its facts, which the piece shares.
-fn named_facts(alloc: Global, piece: &Piece<FileWork>) -> Result<NamedFacts, AllocError>
+pub fn named_facts(alloc: Global, piece: &Piece<FileWork>) -> Result<NamedFacts, AllocError>
     ensures { IfOk result (λ file. file ≡ named_facts (piece.now.path, piece.now.text)) }
 {
     Ok(NamedFacts {

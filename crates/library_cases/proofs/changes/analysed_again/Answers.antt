@@ -1,14 +1,8 @@
-use Rattle.std.proofs.Common.{◌<◌, ℕ, List, length, refl, ap, ◌∙◌, arith}
-use Rattle.std.proofs.lemmas.List.{length-map}
-use Rattle.piece_collector.specs.Views.{TextAt}
-use Rattle.work_index.specs.Workspace.{analysis}
+use Rattle.std.proofs.Common.{refl, sym, subst}
+use Rattle.work_index.specs.Changes.{IsBefore}
+use Rattle.work_index.specs.Pieces.{workspace_of}
+use Rattle.work_index.specs.Workspace.{AnalysisData}
 use Rattle.library_cases.proofs.changes.analysed_again.Goals as goal
 
 pub analyse_again-requires : goal.analyse_again-requires
-analyse_again-requires c =
-    let after : List TextAt = c.args.after.now in
-    let within : c.args.number < length after = c.if-not-differ_at.ensures.within refl in record {
-      within = omega (arith, within, length-map {B = List ℕ × List ℕ} after (λ t. (t.path, t.text)));
-      text = _;
-      is = c.in_ok-earlier.ensures ∙ ap analysis (c.if-not-differ_at.ensures.text refl);
-    }
+analyse_again-requires c = subst (λ (a : AnalysisData). IsBefore a (workspace_of c.args.after.now) c.args.changed.now) (sym c.in_ok-earlier.ensures) (c.if-not-differ_at.ensures refl)

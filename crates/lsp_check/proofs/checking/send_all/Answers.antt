@@ -1,4 +1,5 @@
-use Rattle.std.proofs.Common.{◌≡◌, ◌<◌, ◌∙◌, [], length, get_or}
+use Rattle.std.proofs.Common.{◌≡◌, ◌<◌, ◌∙◌, [], ap, length, get_or, refl, sym}
+use Rattle.std.specs.List.{slice_get}
 use Rattle.lsp_frame.proofs.CountsLemmas.{NoneFell-trans}
 use Rattle.work_index.specs.Workspace.{analysis}
 use Rattle.lsp_check.specs.Listing.{lines_of, numbered_lines, listing}
@@ -13,7 +14,7 @@ loop-number-preserved g c =
     let there : at.number < length w = rw c.file_count-number-end.ensures at c.loop-number-test.true in
     let lines = lines_of c.path.result.now c.text.result.now c.diagnostics.result.now in
     let of : lines ≡ numbered_lines (analysis w) (at.number, get_or w at.number ([], [])) =
-    lines-at w at.number c.analysis.result.now c.path.result.now c.text.result.now c.diagnostics.result.now c.analysis.ensures c.path.ensures c.text.ensures c.diagnostics.ensures in
+    lines-at w at.number (analysis w) c.path.result.now c.text.result.now c.diagnostics.result.now refl c.path.ensures c.text.ensures (ap (λ d. slice_get d.diagnostics at.number) (sym c.diagnosis.ensures) ∙ c.diagnostics.ensures) in
     record {
       none_fell = NoneFell-trans at.invariant.none_fell c.send_lines.ensures.counts;
       no_error = c.in_ok-send_lines.ensures.calm ∙ at.invariant.no_error;
@@ -29,7 +30,7 @@ returns-in_err-send_lines-clause-err g c =
     let there : at.number < length w = rw c.file_count-number-end.ensures at c.loop-number-test.true in
     let lines = lines_of c.path.result.now c.text.result.now c.diagnostics.result.now in
     let of : lines ≡ numbered_lines (analysis w) (at.number, get_or w at.number ([], [])) =
-    lines-at w at.number c.analysis.result.now c.path.result.now c.text.result.now c.diagnostics.result.now c.analysis.ensures c.path.ensures c.text.ensures c.diagnostics.ensures in
+    lines-at w at.number (analysis w) c.path.result.now c.text.result.now c.diagnostics.result.now refl c.path.ensures c.text.ensures (ap (λ d. slice_get d.diagnostics at.number) (sym c.diagnosis.ensures) ∙ c.diagnostics.ensures) in
     on_err c.from_residual.result
     (sent-part (analysis w) w at.number ([], []) (written c.args.writer.now) (written at.writer) (written c.send_lines.new.writer) (listing w) lines
     there of at.invariant.sent c.in_err-send_lines.ensures.err)

@@ -1,9 +1,10 @@
-use Rattle.std.proofs.Common.{◌≡◌, suc, ◌+◌, ◌-◌, ◌/◌, ◌%◌, ◌++◌, ◌∷◌, [], min, map, length, arith, rules, vec_len}
+use Rattle.std.proofs.Common.{◌≡◌, refl, suc, ◌+◌, ◌-◌, ◌/◌, ◌%◌, ◌++◌, ◌∷◌, [], min, map, length, arith, rules, vec_len}
 use Rattle.std.proofs.lemmas.Grind.{common_steps}
 use Rattle.std.proofs.lemmas.List.{map-append}
 use Rattle.work_index.specs.declared.shares.Share.{Share}
 use Rattle.work_index.proofs.Balance.{cut_next}
 use Rattle.work_index.proofs.Joined.{one_more_share}
+use Rattle.work_index.proofs.KeptShares.{all_kept}
 use Rattle.work_index.proofs.shares.cut.Goals as goal
 
 pub loop-i-preserved : goal.loop-i-preserved
@@ -17,6 +18,7 @@ loop-i-preserved c =
     let cut = cut_next _ _ here _ _ _ _ left size next sizes c.loop-i.invariant.balanced c.loop-i.invariant.bounded in
     record {
       whole = grind (arith, common_steps);
+      kept = all_kept c.args.is_kept _ _ _ c.in_ok-push.ensures.items c.loop-i.invariant.kept refl;
       count = grind (arith, common_steps);
       left = grind (arith, common_steps);
       first = grind (arith, common_steps);

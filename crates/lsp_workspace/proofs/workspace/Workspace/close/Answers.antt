@@ -1,4 +1,4 @@
-use Rattle.std.proofs.Common.{◌≡◌, ◌∙◌, ◌++◌, ℕ, List, Option, option_map, sym, subst, true}
+use Rattle.std.proofs.Common.{◌≡◌, ◌∙◌, ◌++◌, ℕ, List, Option, sym, subst, true}
 use Rattle.piece_collector.specs.Board.{IsAfter}
 use Rattle.piece_collector.specs.Events.{Event}
 use Rattle.lsp_workspace.specs.Files.{AreInPathOrder, closed_files}
@@ -6,7 +6,7 @@ use Rattle.lsp_workspace.specs.Kept.{IsKept}
 use Rattle.lsp_workspace.specs.Texts.{TextsChangeAt, is_open, events_at}
 use Rattle.lsp_workspace.specs.View.{WorkspaceData, files_view}
 use Rattle.lsp_workspace.specs.declared.known.Known.{Known}
-use Rattle.lsp_workspace.proofs.Keeps.{keeps, close-texts, some_open, event_open, some_map}
+use Rattle.lsp_workspace.proofs.Keeps.{keeps, close-texts, some_open, event_open}
 use Rattle.lsp_workspace.proofs.PathOrder.{closed_files-order}
 use Rattle.lsp_workspace.proofs.TextChanges.{own}
 use Rattle.lsp_workspace.proofs.workspace.Workspace.close.Goals as goal

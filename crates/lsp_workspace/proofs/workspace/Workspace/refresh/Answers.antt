@@ -25,4 +25,4 @@ invariant_of-self-2 c =
     let files = files_view c.self.inside.files.entries in
     let w : workspace_of c.pieces.result.now ≡ workspace files =
     ap workspace_of c.pieces.ensures.pieces ∙ lent_workspace files c.self.inside.board c.lend_all.new.self c.in_ok-lent.lent c.self.inside.known c.self.invariant c.in_ok-lent.ensures.lent c.in_ok-lent.ensures.back in
-    keeps_refreshed files c.self.inside.board c.lend_all.new.self c.take_back.new.self c.self.inside.known c.in_ok-analysis.field-0 c.self.invariant c.in_ok-lent.ensures.lent c.take_back.ensures.here (c.in_ok-analysis.ensures ∙ ap analysis w)
+    keeps_refreshed files c.self.inside.board c.lend_all.new.self c.take_back.new.self c.self.inside.known c.current.result c.in_ok-analysis.field-0 c.self.invariant c.in_ok-lent.ensures.lent c.take_back.ensures.here c.current.ensures.analysis c.current.ensures.changed (c.in_ok-analysis.ensures ∙ ap analysis w)

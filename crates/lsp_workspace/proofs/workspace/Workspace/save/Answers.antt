@@ -14,5 +14,5 @@ invariant_of-self c =
     let old = files_view c.self.inside.files.entries in
     let new = files_view c.keep.new.files.entries in
     let copy = sym c.in-Some.is ∙ c.in_ok-text.ensures in
-    let saved : new ≡ saved_files path old = c.keep.ensures ∙ ap (λ t. with_kept_at path t old) c.in_ok-kept.ensures ∙ kept_text path old c.in-Some.text copy in
+    let saved : new ≡ saved_files path old = c.keep.ensures ∙ kept_text path old c.in-Some.text copy in
     keeps_same old new c.self.inside.board c.self.inside.known c.self.invariant (subst AreInPathOrder (sym saved) (saved_files-order path old c.self.invariant.ordered)) (λ q. ap (text_at q) saved ∙ texts_change.saved path old q)

@@ -1,5 +1,5 @@
 use Rattle.std.proofs.Common.{◌≡◌, ◌-◌}
-use Rattle.lsp_check.proofs.analysing.hand_out.Given as goal
+use Rattle.lsp_check.proofs.diagnosing.hand_out.Given as goal
 
 -- no file has changed
 abbrev pub invariant-jobs : goal.invariant-jobs

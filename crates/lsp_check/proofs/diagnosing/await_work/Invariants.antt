@@ -1,5 +1,5 @@
 use Rattle.std.proofs.Common.{◌≡◌}
-use Rattle.lsp_check.proofs.analysing.await_work.Given as goal
+use Rattle.lsp_check.proofs.diagnosing.await_work.Given as goal
 
 -- no file has changed
 abbrev pub invariant-loop-result : goal.invariant-loop-result

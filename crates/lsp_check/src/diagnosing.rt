@@ -1,13 +1,14 @@
 // The work on the files of a configuration, and their analysis, by workers.
-ghost use Rattle.std.specs.Prelude.{◌≡◌, ◌+◌, ◌<◌, ◌∷◌, ℕ, List, true, IsTrue, IfOk, IfErr, OnOk};
+ghost use Rattle.std.specs.Prelude.{◌≡◌, ◌+◌, ◌<◌, ◌∷◌, ℕ, List, true, IfOk, IfErr, OnOk};
 ghost use Rattle.piece_collector.specs.Board.{IsAfter, IsFull};
 ghost use Rattle.piece_collector.specs.Events.{Event, NextJob};
 ghost use Rattle.lsp_config.specs.Configuration.{files_of};
 ghost use Rattle.lsp_config.specs.Fault.{IsOfWorkers};
+ghost use Rattle.lsp_workspace.specs.Files as texts;
 ghost use Rattle.lsp_check.specs.Steps.{event_of, IsCountedFailure};
 
 use lsp_config::{Config, CoreFault, ServeFault};
-use lsp_workspace::Workspace;
+use lsp_workspace::{DiagnosedFiles, Workspace};
 use piece_collector::Verdict;
 use std::alloc::Global;
 use std::marker::Send;
@@ -152,41 +153,38 @@ fn work_on_all<R: Threads + Wait + Clone + Send + Drop + 'static, G: Gate + 'sta
     }
 }
 
-// Has threads analyse the files of a workspace on which all work is done.
-fn analyse<R: Threads + Wait, G: Gate>(
+// Has threads find what is wrong in the files of a workspace on which all work is done.
+fn diagnose<R: Threads + Wait, G: Gate>(
     rt: &R,
     gate: &G,
-    workspace: &mut Workspace,
+    files: Workspace,
     workers: usize,
-) -> Result<(), ServeFault>
-    requires { IsFull workspace.old.board }
-    ensures files { OnOk result (workspace.new.files ≡ workspace.old.files) }
-    ensures current { OnOk result (IsTrue workspace.new.is_current) }
+) -> Result<DiagnosedFiles, ServeFault>
+    requires { IsFull files.board }
+    ensures files { IfOk result (λ found. found ≡ texts.workspace files.files) }
     ensures fault { IfErr result IsOfWorkers }
 {
-    match workspace.refresh_in_shares(rt, workers, gate) {
-        Ok(()) => Ok(()),
+    match files.into_diagnosed(rt, workers, gate) {
+        Ok(found) => Ok(found),
         Err(fault) => Err(ServeFault::from(CoreFault::from(fault))),
     }
 }
 
-/// The workspace of the files of a configuration, with their analysis. So many workers do the work on the texts, and have ended
-/// by then; so many threads link the files. Each enters the gate before it works on a text, and before it links a file.
+/// The files of a configuration with what is wrong in them. So many workers do the work on the texts, and have ended by then; so many
+/// threads link the files, and drop the work on each. Each enters the gate before it works on a text, and before it links a file.
 ///
 /// `Memory` if memory was refused, or a job couldn't be sent, and `ThreadRefused` if a thread was, or if no worker is left.
-pub fn analyse_files<R: Threads + Wait + Clone + Send + Drop + 'static, G: Gate + 'static>(
+pub fn diagnose_files<R: Threads + Wait + Clone + Send + Drop + 'static, G: Gate + 'static>(
     rt: &R,
     alloc: Global,
     gate: &Arc<G>,
     config: Config,
     workers: usize,
-) -> Result<Workspace, ServeFault>
-    ensures files { IfOk result (λ w. w.files ≡ files_of config) }
-    ensures current { IfOk result (λ w. IsTrue w.is_current) }
+) -> Result<DiagnosedFiles, ServeFault>
+    ensures files { IfOk result (λ found. found ≡ texts.workspace (files_of config)) }
     ensures fault { IfErr result IsOfWorkers }
 {
-    let mut workspace = start_workspace(alloc, config)?;
-    work_on_all(rt, alloc, gate, &mut workspace, workers)?;
-    analyse(rt, &**gate, &mut workspace, workers)?;
-    Ok(workspace)
+    let mut files = start_workspace(alloc, config)?;
+    work_on_all(rt, alloc, gate, &mut files, workers)?;
+    diagnose(rt, &**gate, files, workers)
 }

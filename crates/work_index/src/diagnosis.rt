@@ -1,0 +1,55 @@
+// What is wrong in the files of a workspace.
+ghost use Rattle.std.specs.Prelude.{◌≡◌, ◌<◌, length, Some};
+
+use file_facts::{Diag, Name};
+use import_graph::FileNo;
+use proto_resolve::Table;
+use sqlite_items::Items;
+use std::marker::Model;
+
+/// The paths of the files of a workspace, and what is wrong in each. A file is a number: its place, counted from 0, in the list of
+/// paths.
+#[derive(Drop)]
+pub struct Diagnosis {
+    pub(crate) paths: Items<Name>,
+    pub(crate) diagnostics: Items<Items<Diag>>,
+    // What the files say, which is freed with the diagnosis: that takes a good part of the time in which it is made.
+    pub(crate) table: Table,
+}
+
+impl Model for Diagnosis {
+    ghost use Rattle.std.specs.Prelude.{◌≡◌, length};
+    ghost use Rattle.work_index.specs.Workspace.{DiagnosisData};
+
+    ghost Value = { DiagnosisData };
+
+    ghost view = { λ d. record { paths = d.paths; diagnostics = d.diagnostics } };
+
+    ghost invariant = { λ d. length d.diagnostics ≡ length d.paths };
+}
+
+impl Diagnosis {
+    ghost use Rattle.std.specs.List.{slice_get};
+
+    /// The paths of the files, by their bytes.
+    pub fn files(&self) -> &[Name]
+        ensures { result.now ≡ self.now.paths }
+    {
+        self.paths.as_slice()
+    }
+
+    /// The diagnostics 201 to 406 of a file, each once, by start, end, number and words.
+    pub fn diagnostics(&self, file: FileNo) -> &[Diag]
+        requires { file < length self.now.paths }
+        ensures { slice_get self.now.diagnostics file ≡ Some result.now }
+    {
+        self.diagnostics.as_slice()[file].as_slice()
+    }
+
+    /// The diagnostics of all files, by path.
+    pub fn all_diagnostics(&self) -> &[Items<Diag>]
+        ensures { result.now ≡ self.now.diagnostics }
+    {
+        self.diagnostics.as_slice()
+    }
+}
