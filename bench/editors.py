@@ -78,13 +78,25 @@ class Editor:
         """The request for the diagnostics of the document."""
         return f'{{"jsonrpc":"2.0","id":2,"method":"textDocument/diagnostic","params":{{"textDocument":{{"uri":"{self.uri}"}}}}}}'
 
-    def after(self, notification):
-        return self.ask(notification, self.question())
+    def after(self, *notifications):
+        return self.ask(*notifications, self.question())
+
+    def opening(self, uri, text):
+        """The notification that a document is opened."""
+        text = text.replace('"', '\\"').replace("\n", "\\n")
+        return f'{{"jsonrpc":"2.0","method":"textDocument/didOpen","params":{{"textDocument":{{"uri":"{uri}","version":1,"text":"{text}"}}}}}}'
+
+    def closing(self, uri):
+        """The notification that a document is closed."""
+        return f'{{"jsonrpc":"2.0","method":"textDocument/didClose","params":{{"textDocument":{{"uri":"{uri}"}}}}}}'
+
+    def changing(self, uri, line, text):
+        """The notification that a text is put in front of a line of a document."""
+        place = f'{{"line":{line},"character":0}}'
+        return f'{{"jsonrpc":"2.0","method":"textDocument/didChange","params":{{"textDocument":{{"uri":"{uri}","version":2}},"contentChanges":[{{"range":{{"start":{place},"end":{place}}},"text":"{text}"}}]}}}}'
 
     def open(self):
-        text = self.text.replace('"', '\\"').replace("\n", "\\n")
-        return self.after(f'{{"jsonrpc":"2.0","method":"textDocument/didOpen","params":{{"textDocument":{{"uri":"{self.uri}","version":1,"text":"{text}"}}}}}}')
+        return self.after(self.opening(self.uri, self.text))
 
     def change(self, line, text):
-        place = f'{{"line":{line},"character":0}}'
-        return self.after(f'{{"jsonrpc":"2.0","method":"textDocument/didChange","params":{{"textDocument":{{"uri":"{self.uri}","version":2}},"contentChanges":[{{"range":{{"start":{place},"end":{place}}},"text":"{text}"}}]}}}}')
+        return self.after(self.changing(self.uri, line, text))

@@ -1,6 +1,6 @@
-"""What an editor is told after changes of a file that others see is what a new session on the same texts tells.
+"""What an editor is told after changes of files that others see, and after some come and leave, is what a new session on the same texts tells.
 
-The files are made at random, by a seed that a failure names. The changed file declares, in any order, some of the names for which the others ask,
+The files are made at random, by a seed that a failure names. The changed files declare, in any order, some of the names for which the others ask,
 each as one kind of thing or another, in one package or another; so names come, go, move and change their kinds.
 """
 import json
@@ -16,6 +16,9 @@ NAMES = ["Order", "Item", "Kind", "Money", "name"]
 PACKAGES = ["shop", "shop", "shop", "shop.v1"]
 SCOPES = ["", "", "", ".shop.", "shop.", ".shop.v1.", "v1."]
 CHANGES = 40
+
+# Documents that come and leave: their places among the files of the folder are the first, the last and others.
+GUESTS = [HUB, "apple.proto", "user03a.proto", "zebra.proto"]
 
 # The kinds of declarations of a name.
 FORMS = [
@@ -66,6 +69,21 @@ def user_text(rng, number):
     return f'syntax = "proto3";\npackage {rng.choice(PACKAGES)};\n{stated}message User{number} {{\n{"".join(fields)}}}\n{own}'
 
 
+def guest_text(rng):
+    """A text of a document that comes, changes and leaves, which may import another one."""
+    lines = hub_text(rng).splitlines()
+    if rng.random() < 0.6:
+        lines.insert(1, f'import {rng.choice(["", "public "])}"{rng.choice(GUESTS)}";')
+    return "\n".join(lines) + "\n"
+
+
+def host_text(rng, number):
+    """A file that may import documents that come and leave, and uses their names."""
+    lines = user_text(rng, number).splitlines()
+    lines[1:1] = [f'import "{it}";' for it in rng.sample(GUESTS, rng.randint(0, 2))]
+    return "\n".join(lines) + "\n"
+
+
 class Asker:
     """A session that is asked about all files: their diagnostics, and what each name in a field means."""
 
@@ -76,6 +94,16 @@ class Asker:
 
     def say(self, **body):
         self.server.send(json.dumps({"jsonrpc": "2.0", **body}))
+
+    def open(self, name, version, text):
+        document = {"uri": self.uri(name), "languageId": "proto", "version": version, "text": text}
+        self.say(method="textDocument/didOpen", params={"textDocument": document})
+
+    def change(self, name, version, text):
+        self.say(method="textDocument/didChange", params={"textDocument": {"uri": self.uri(name), "version": version}, "contentChanges": [{"text": text}]})
+
+    def close(self, name):
+        self.say(method="textDocument/didClose", params={"textDocument": {"uri": self.uri(name)}})
 
     def uri(self, name):
         return f"file://{self.folder}/{name}"
@@ -108,16 +136,54 @@ class Changes(unittest.TestCase):
                 (folder / name).write_text(text)
             with stream.Server([*words, "--root", room]) as server:
                 asker = Asker(server, room, texts)
-                asker.say(method="textDocument/didOpen", params={"textDocument": {"uri": asker.uri(HUB), "languageId": "proto", "version": 1, "text": hub}})
+                asker.open(HUB, 1, hub)
                 for number in range(CHANGES):
                     hub = changed_text(rng, hub)
-                    asker.say(method="textDocument/didChange", params={"textDocument": {"uri": asker.uri(HUB), "version": number + 2}, "contentChanges": [{"text": hub}]})
+                    asker.change(HUB, number + 2, hub)
                     told = asker.replies()
                     (folder / HUB).write_text(hub)
                     with stream.Server([*words, "--root", room]) as other:
                         again = Asker(other, room, texts)
-                        again.say(method="textDocument/didOpen", params={"textDocument": {"uri": again.uri(HUB), "languageId": "proto", "version": number + 2, "text": hub}})
+                        again.open(HUB, number + 2, hub)
                         self.assertEqual(again.replies(), told, f"seed {seed}, change {number}, the text is\n{hub[:2_000]}")
+
+    def check_guests(self, seed, workers):
+        rng = random.Random(seed)
+        texts = {f"user{number:02}.proto": host_text(rng, number) for number in range(6)}
+        words = ["serve", "--workers", str(workers)]
+        guests, version = {}, 0
+        with tempfile.TemporaryDirectory() as room:
+            folder = pathlib.Path(room)
+            for name, text in texts.items():
+                (folder / name).write_text(text)
+            with stream.Server([*words, "--root", room]) as server:
+                asker = Asker(server, room, texts)
+                asker.replies()
+                for number in range(CHANGES):
+                    for name in rng.sample(GUESTS, rng.choice([1, 1, 1, 2, 3])):
+                        version += 1
+                        if name not in guests:
+                            guests[name] = version, guest_text(rng)
+                            asker.open(name, *guests[name])
+                        elif rng.random() < 0.5:
+                            guests[name] = version, changed_text(rng, guests[name][1])
+                            asker.change(name, *guests[name])
+                        else:
+                            del guests[name]
+                            asker.close(name)
+                    told = asker.replies()
+                    with stream.Server([*words, "--root", room]) as other:
+                        again = Asker(other, room, texts)
+                        for name, (its_version, text) in guests.items():
+                            again.open(name, its_version, text)
+                        self.assertEqual(again.replies(), told, f"seed {seed}, step {number}, with {sorted(guests)}")
+
+    def test_documents_come_change_and_leave(self):
+        for seed in range(4):
+            self.check_guests(seed, 1)
+
+    def test_so_they_do_with_workers(self):
+        self.check_guests(4, 4)
 
     def test_the_session_goes_on_as_a_new_one_begins(self):
         for seed in range(4):

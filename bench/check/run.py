@@ -8,7 +8,8 @@ its library of Debian is there (protoc.c), it is timed on the same files (`--des
 at most 3 times its time and at most its memory. With four workers a check may take at most 0.4 of the time with one, and at most 0.1 of
 protoc's; both are judged only on four processors or more. After a change of one file, a blank, a declaration or an import more, its
 diagnostics may take at most 0.25 of the time of the first analysis, and after a new name in a file that 1,000 or 10,000 others import and use
-at most 0.02 and 0.2 s. The status is 1 where a limit is passed. A typed character is timed in workspaces of 100 to 10,000 files, and not judged.
+at most 0.02 and 0.2 s. Two documents that are changed at once may take twice the time of one. A new
+document and one that leaves are timed and not judged. The status is 1 where a limit is passed. A typed character is timed in workspaces of 100 to 10,000 files, and not judged.
 
 A time is the best of 5. The program is crates/protols/out/protols, or the one that PROTOLS names."""
 import os
@@ -51,6 +52,9 @@ CHANGED = 0.25
 
 # The most seconds that an answer may take after a new name in a file that all others import, by the number of these.
 HUB_LIMITS = {1_000: 0.02, 10_000: 0.2}
+
+# The most that changes of two documents at once may take, as a multiple of the time after a change of one.
+TOGETHER = 2
 
 # The sizes of the workspaces in which characters are typed, and how many are.
 TYPED_IN = [100, 1_000, 4_000, 10_000]
@@ -124,6 +128,33 @@ def keystrokes(size):
         return middle, memory
 
 
+def together(size):
+    """The medians of the seconds after a message more in one of two open documents, and after one in each of them at once."""
+    with tempfile.TemporaryDirectory() as holder:
+        put_tree(pathlib.Path(holder), size)
+        with Editor(holder, path(size - 1), ordinary(size - 1)) as editor:
+            editor.open()
+            other = f"file://{holder}/{path(size // 2)}"
+            editor.after(editor.opening(other, ordinary(size // 2)))
+            one = statistics.median(editor.change(LAST_LINE, f"message One{n} {{ }} ") for n in range(4 * TIMES))
+            both = statistics.median(
+                editor.after(*(editor.changing(uri, LAST_LINE, f"message Two{n} {{ }} ") for uri in (other, editor.uri))) for n in range(4 * TIMES)
+            )
+        return one, both
+
+
+def come_and_leave(size):
+    """The medians of the seconds after a new document is opened that imports a file of the workspace, and after it is closed, so that it leaves."""
+    with tempfile.TemporaryDirectory() as holder:
+        put_tree(pathlib.Path(holder), size)
+        with Editor(holder, path(size // 2), ordinary(size // 2)) as editor:
+            editor.open()
+            uris = [f"file://{holder}/new{n}.proto" for n in range(2 * TIMES)]
+            come = statistics.median(editor.after(editor.opening(uri, f'syntax = "proto3";\nimport "{path(0)}";\n')) for uri in uris)
+            leave = statistics.median(editor.after(editor.closing(uri)) for uri in uris)
+        return come, leave
+
+
 def hub_times(size):
     """The seconds of the first answer about a file that all others import and use, and the medians of those after a declaration more behind
     the one that they use, and before it, so that it gets another number."""
@@ -163,6 +194,12 @@ def main():
     for size in TYPED_IN:
         middle, memory = keystrokes(size)
         print(f"a typed character among {size:,} files: {1000 * middle:.2f} ms to the diagnostics, half of the times; {memory:.0f} MB")
+    for size in TYPED_IN:
+        one, both = together(size)
+        print(f"a message more in one document of {size:,}: {1000 * one:.2f} ms; in two at once: {1000 * both:.2f} ms")
+        kept = kept and both <= TOGETHER * one
+        come, leave = come_and_leave(size)
+        print(f"a new document among {size:,}: {1000 * come:.2f} ms; it leaves: {1000 * leave:.2f} ms")
     for size, limit in HUB_LIMITS.items():
         first, behind, before = hub_times(size)
         print(f"a file that all {size:,} import: first answer {first:.2f} s; after a name more behind the others in it {behind:.4f} s, before them {before:.4f} s (limit {limit} s)")
