@@ -289,8 +289,8 @@ impl Workspace {
     }
 
     /// Analyses the files, unless their analysis is known: as [`refresh`](Workspace::refresh) does, but a whole analysis is made
-    /// by so many threads (see [`analyse_in_shares`]), each of which enters the gate before each of its files. Where only
-    /// few files left or got other texts since the last analysis, no thread is started and no gate is entered, whatever files came.
+    /// by so many threads (see [`analyse_in_shares`]), each of which enters the gate before each of its files. If at
+    /// most 64 files left or got other texts since the last analysis, no thread is started and no gate is entered, whatever files came.
     /// The board has to be complete.
     ///
     /// `Memory` if memory was refused, and `ThreadRefused` if a thread was. The files and the board are then as before, or the
