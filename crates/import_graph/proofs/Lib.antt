@@ -19,3 +19,11 @@ pub mod Representatives
 pub mod Sharing
 pub mod Flagged
 pub mod Seers
+pub mod NewNumbers
+pub mod OneMoreFile
+pub mod FileInserted
+pub mod GraphInserted
+pub mod Renumbered
+pub mod Walked
+pub mod RowsInserted
+pub mod GraphWithFile

@@ -5,7 +5,7 @@ use Rattle.std.specs.List.Sorted.{IsPermutation, IsStrictlyIncreasing}
 use Rattle.std.proofs.Math.ListN.{set}
 use Rattle.std.proofs.lemmas.Bool.{cases_eq, cases_lt}
 use Rattle.std.proofs.lemmas.List.{get_or_append_left, get_or_past, length-drop, length-take, length_push}
-use Rattle.std.proofs.lemmas.List.Elements.{Contains-append_left, Contains-push, All-contains, All-contains_itself, All-drop, All-take, All-weaker}
+use Rattle.std.proofs.lemmas.List.Elements.{Contains-append_left, Contains-push, All-contains, All-contains_itself, All-drop, All-nil, All-push, All-take, All-weaker}
 use Rattle.std.proofs.lemmas.List.Sorted.{All-permutation}
 use Rattle.import_graph.specs.Condensed.{Leads, StandsFor, representative}
 use Rattle.import_graph.specs.Shared.{AreShared, Fills, IsOwnList, IsStart, LeadsAlike, list_at, number_at}
@@ -16,7 +16,7 @@ use Rattle.import_graph.specs.declared.shared.Start.{Start}
 use Rattle.import_graph.proofs.ImportEdges.{here, here_or_next, in_map, next}
 use Rattle.import_graph.proofs.Representatives.{ahead, behind, walk_append}
 
-mapped : {X Y : Type 0} (f : X → Y) (xs : List X) (x : X) → Contains xs x → Contains (map f xs) (f x)
+pub mapped : {X Y : Type 0} (f : X → Y) (xs : List X) (x : X) → Contains xs x → Contains (map f xs) (f x)
 mapped f [] x (k, lt, e) = absurd (omega (arith, lt))
 mapped f (y ∷ xs) x has = ⊎_elim (λ same. subst (λ z. Contains (f y ∷ map f xs) (f z)) same (here (f y) (map f xs))) (λ later. next (f y) (f x) (map f xs) (mapped f xs x later)) (here_or_next y x xs has)
 
@@ -51,14 +51,15 @@ module _ (steps imports : List (List ℕ)) (representatives : List ℕ) (there :
 
 -- one more list
 pub AreShared-push : (steps imports : List (List ℕ)) (old new : SharedLists) (list : List ℕ) → new.numbers.items ≡ old.numbers.items → new.lists.items ≡ old.lists.items ++ list ∷ []
-    → AreShared steps imports old → AreShared steps imports new
-AreShared-push steps imports old new list numbers lists are = record {
+    → AllWithin (length steps) list → AreShared steps imports old → AreShared steps imports new
+AreShared-push steps imports old new list numbers lists within are = record {
   as_many = ap length numbers ∙ are.as_many;
   below = λ f k e. let lt = are.below f k (was f k e) in omega (arith, lt, ap length lists, length_push old.lists.items list);
   own = λ f k e.
       let lt = are.below f k (was f k e) in
       let same : list_at new k ≡ list_at old k = ap (λ ls. get_or ls k []) lists ∙ get_or_append_left old.lists.items (list ∷ []) [] k lt in
       subst (λ l. IsOwnList steps imports f l) (sym same) (are.own f k (was f k e));
+  listed = subst (λ ls. All (AllWithin (length steps)) ls) (sym lists) (All-push (AllWithin (length steps)) old.lists.items list are.listed within);
 }
   where
     was : (f k : ℕ) → number_at new f ≡ Some k → number_at old f ≡ Some k
@@ -75,6 +76,7 @@ AreShared-fill steps imports number old new files lt fills each are = record {
       let same : list_at new k ≡ list_at old k = ap (λ ls. get_or ls k []) fills.lists in
       subst (λ l. IsOwnList steps imports f l) (sym same)
       (⊎_elim (λ was. are.own f k was) (λ (is, there, has). subst (λ x. IsOwnList steps imports f (list_at old x)) (sym is) (each f there has)) (fills.only f k e));
+  listed = subst (λ ls. All (AllWithin (length steps)) ls) (sym fills.lists) are.listed;
 }
 
 -- a list of what files that begin alike lead to is that of each that it has
@@ -124,11 +126,12 @@ Fills-push number old mid new files f lt before lists (inr (numbers, has)) = rec
 }
 
 -- no file has a list yet
-pub AreShared-none : (steps imports : List (List ℕ)) (s : SharedLists) → length s.numbers.items ≡ length imports → All (λ n. n ≡ None) s.numbers.items → AreShared steps imports s
-AreShared-none steps imports s many none = record {
+pub AreShared-none : (steps imports : List (List ℕ)) (s : SharedLists) → length s.numbers.items ≡ length imports → All (λ n. n ≡ None) s.numbers.items → s.lists.items ≡ [] → AreShared steps imports s
+AreShared-none steps imports s many none no_lists = record {
   as_many = many;
   below = λ f k e. absurd (cc (e, nowhere f));
   own = λ f k e. absurd (cc (e, nowhere f));
+  listed = subst (λ ls. All (AllWithin (length steps)) ls) (sym no_lists) (All-nil (AllWithin (length steps)));
 }
   where
     nowhere : (f : ℕ) → number_at s f ≡ None

@@ -25,7 +25,7 @@ module _ (graph : List FileImports) (within : Within graph) where
   pub imports_within : All (AllWithin (length (map targets graph))) (map targets graph)
   imports_within = subst (λ (n : ℕ). All (AllWithin n) (map targets graph)) (sym (length-map graph targets)) (All-map (AllWithin (length graph)) targets graph within)
 
-  public_of : (file : FileImports) → AllWithin (length graph) (targets file) → AllWithin (length graph) (public_targets file)
+  pub public_of : (file : FileImports) → AllWithin (length graph) (targets file) → AllWithin (length graph) (public_targets file)
   public_of file all = filter_map_all (λ l. l.target) (λ g. g < length graph) (filter (λ l. l.is_public) file.edges)
       (λ l g has e. All-contains (λ g. g < length graph) (targets file) g all (filter_map_to (λ l. l.target) file.edges l g (filter_from (λ l. l.is_public) file.edges l has).0 e))
 

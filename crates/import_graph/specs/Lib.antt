@@ -12,3 +12,5 @@ pub mod Outlooks
 pub mod Condensed
 pub mod Shared
 pub mod Moves
+pub mod Arrivals
+pub mod Coming

@@ -1,5 +1,5 @@
 -- Lists of files that several files share.
-use Rattle.std.specs.Prelude.{◌≡◌, ◌↔◌, ◌⊎◌, ℕ, ◌<◌, List, [], Option, Some, None, length, map, slice_index_or, Contains}
+use Rattle.std.specs.Prelude.{◌≡◌, ◌↔◌, ◌⊎◌, ℕ, ◌<◌, List, [], Option, Some, None, length, map, slice_index_or, All, Contains}
 use Rattle.std.specs.List.Sorted.{IsStrictlyIncreasing}
 use Rattle.import_graph.specs.Walks.{AllWithin, ReachedFrom}
 use Rattle.import_graph.specs.Condensed.{representative}
@@ -31,11 +31,12 @@ list_at s k = slice_index_or s.lists.items k []
 abbrev pub number_at : SharedLists → ℕ → Option ℕ
 number_at s f = slice_index_or s.numbers.items f None
 
--- each list is that of the files that share it
+-- each list is that of the files that share it, and has files that are there
 pub record AreShared (steps imports : List (List ℕ)) (s : SharedLists) : Type 0 where
   pub as_many : length s.numbers.items ≡ length imports
   pub below : (f k : ℕ) → number_at s f ≡ Some k → k < length s.lists.items
   pub own : (f k : ℕ) → number_at s f ≡ Some k → IsOwnList steps imports f (list_at s k)
+  pub listed : All (AllWithin (length steps)) s.lists.items
 
 -- the lists stay, and the files of which it has some get the list of this number
 pub record Fills (number : ℕ) (old new : SharedLists) (files : List ℕ) : Type 0 where

@@ -2,8 +2,10 @@
 
 ghost use Rattle.std.specs.Prelude.{◌≡◌, ◌<◌, ◌↔◌, ℕ, List, length, IfOk, IfSome, IsTrue, Contains, All};
 ghost use Rattle.std.specs.List.Sorted.{IsStrictlyIncreasing};
+ghost use Rattle.import_graph.specs.Arrivals.{HasArrived};
 ghost use Rattle.import_graph.specs.Paths.{IsInPathOrder};
 
+use crate::coming::{components_with, flags_with, imports_with, rows_with};
 use crate::components::{Components, components_of};
 use crate::condensed::condensed_steps;
 use crate::file_search::reached;
@@ -19,7 +21,7 @@ use std::marker::Model;
 ///
 /// Files and imports are numbers from 0: a file is its place in the list that the graph is made of, an import its place
 /// among the imports of its file. The graph keeps the allocator that it is made with, and takes the memory of its answers
-/// from there. An `Err` comes only where memory was refused; the graph is unchanged then.
+/// from there. An `Err` comes only where memory was refused; a graph that was only borrowed is unchanged then.
 #[derive(Drop)]
 pub struct Graph {
     alloc: Global,
@@ -79,6 +81,38 @@ impl Graph {
             complete,
             components,
             shared,
+        })
+    }
+
+    /// The graph of files of which the one with the number `at` came to the others of this graph, and none of those imports it. Of the
+    /// others only the numbers change. An `Err` comes only where memory was refused; the graph is gone then.
+    pub fn with_file(self, files: &[NamedFacts], at: FileNo) -> Result<Graph, AllocError>
+        requires ordered { IsInPathOrder files.now }
+        requires arrived { HasArrived files.now at self }
+        ensures { IfOk result (λ g. g ≡ graph_of files.now) }
+    {
+        let Graph {
+            alloc,
+            files: others,
+            imports,
+            steps,
+            complete,
+            components,
+            shared,
+        } = self;
+        let graph = imports_with(alloc, files, at, others)?;
+        let own = graph[at].targets(alloc)?;
+        let public = graph[at].public_targets(alloc)?;
+        let complete = flags_with(graph.as_slice(), at, complete)?;
+        let components = components_with(at, own.as_slice(), components)?;
+        Ok(Graph {
+            alloc,
+            files: graph,
+            imports: rows_with(at, own, imports)?,
+            steps: rows_with(at, public, steps)?,
+            complete,
+            components,
+            shared: shared.with_file(at)?,
         })
     }
 

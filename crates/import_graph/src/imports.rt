@@ -96,7 +96,8 @@ fn is_analysed(files: &[FileImports], target: Option<FileNo>) -> bool
     }
 }
 
-fn is_complete(files: &[FileImports], file: &FileImports) -> bool
+// Whether every import of a file names one of the files that is not opaque.
+pub fn is_complete(files: &[FileImports], file: &FileImports) -> bool
     ensures { result ≡ is_complete_in files.now file.now }
 {
     for edge in file.edges.as_slice() {

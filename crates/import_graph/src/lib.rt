@@ -6,7 +6,8 @@
 //! Imports.antt says what imports name, Views.antt what is seen and reached as walks from file to file, and Closures.antt
 //! gives the same as functions of the graph; the laws say that both agree. Outlooks.antt says what a graph says of one file,
 //! which `same_outlook` compares. Where files come or leave, the others get other numbers: Moves.antt says what it is for a file
-//! to look as before under the new ones, which `moved_outlook` tests.
+//! to look as before under the new ones, which `moved_outlook` tests. Arrivals.antt speaks of one more file that no other imports: for
+//! the others all is as before but for their numbers.
 //!
 //! Which files lead to one another is found once, when the graph is made; that tells whether an import closes a cycle, and
 //! where it could not, a search would. What a file sees is searched when it is asked for, in time that grows with what the search meets:
@@ -14,6 +15,8 @@
 //! Which files see a file is searched back over the same steps, in time that grows with all files and imports.
 #![tactic(auto)]
 
+mod arrivals;
+mod coming;
 mod components;
 mod condensed;
 mod file_search;
@@ -29,6 +32,7 @@ mod shared_facts;
 mod ties;
 mod tour;
 
+pub use arrivals::{arrival_law, is_imported};
 pub use graph::Graph;
 pub use imports::{FileImports, ImportEdge};
 pub use laws::{closure_law, one_view, view_law};

@@ -3,9 +3,11 @@
 ghost use Rattle.std.specs.Prelude.{◌≡◌, ◌↔◌, ◌⊎◌, ◌<◌, ◌≤◌, ℕ, List, [], Some, None, length, vec_len, map, take, slice_index_or, slice_set, IfOk, OnOk, IfSome, IsTrue, All, Contains};
 ghost use Rattle.std.specs.List.Sorted.{IsPermutation};
 ghost use Rattle.import_graph.specs.Walks.{AllWithin};
+ghost use Rattle.import_graph.specs.Coming.{HasNoList};
 ghost use Rattle.import_graph.specs.Condensed.{representative};
 ghost use Rattle.import_graph.specs.Shared.{IsStart, LeadsAlike, AreShared, Fills, list_at, number_at};
 
+use crate::coming::renumber_rows;
 use crate::components::components_of;
 use crate::condensed::representatives_of;
 use crate::file_search::{ascending, reached};
@@ -141,6 +143,23 @@ impl SharedLists {
         self.lists.push(Items::from_vec(list))?;
         self.fill(run, number);
         Ok(())
+    }
+
+    // The lists that files share, where these were those of the others before a file came to the place `at`, which none of them imports.
+    // That one shares none, and in the lists files have their new numbers. An `Err` comes only where memory was refused; the lists are gone
+    // then.
+    pub fn with_file(self, at: FileNo) -> Result<SharedLists, AllocError>
+        requires place { at ≤ vec_len self.numbers }
+        requires small { All (AllWithin 18446744073709551615) self.lists.items }
+        ensures { IfOk result (HasNoList at self) }
+    {
+        let SharedLists {
+            mut numbers,
+            mut lists,
+        } = self;
+        renumber_rows(at, &mut lists);
+        numbers.insert(at, None)?;
+        Ok(SharedLists { numbers, lists })
     }
 
     // The list of what a file sees, if it shares one.

@@ -3,7 +3,7 @@ use Rattle.import_graph.proofs.Sharing.{AreShared-none, files_within, first_with
 use Rattle.import_graph.proofs.shared.shared_lists.Goals as goal
 
 pub loop-place-init : goal.loop-place-init
-loop-place-init c = AreShared-none c.args.steps.now c.args.imports.now _ (omega (arith, c.in_ok-no_numbers.ensures.length, c.in_ok-no_numbers.field-0.ok)) c.in_ok-no_numbers.ensures.none
+loop-place-init c = AreShared-none c.args.steps.now c.args.imports.now _ (omega (arith, c.in_ok-no_numbers.ensures.length, c.in_ok-no_numbers.field-0.ok)) c.in_ok-no_numbers.ensures.none c.new.ensures.items
 
 pub share-requires-clause-first : goal.share-requires-clause-first
 share-requires-clause-first c =
