@@ -127,7 +127,7 @@ refs_count : (f : ℕ) (decls : List Decl) → length (refs_of f decls) ≡ leng
 refs_count f decls = length-map (enumerate_from 0 decls) (numbered f) ∙ length-enumerate_from 0 decls
 
 -- what stands between two fronts is replaced
-spliced : (front mid rest own : List DeclRef) → splice (front ++ (mid ++ rest)) (length front) (length (front ++ mid)) own ≡ front ++ (own ++ rest)
+pub spliced : (front mid rest own : List DeclRef) → splice (front ++ (mid ++ rest)) (length front) (length (front ++ mid)) own ≡ front ++ (own ++ rest)
 spliced front mid rest own =
     let before : take (length front) (front ++ (mid ++ rest)) ≡ front = take-append-le (length front) front (mid ++ rest) (omega arith) ∙ take_all (length front) front (omega arith) in
     let behind : drop (length (front ++ mid)) (front ++ (mid ++ rest)) ≡ rest =
@@ -240,9 +240,6 @@ module _ (files : List NamedFacts) (f : ℕ) (same : Bool) (base : TableBase) (w
 
   pub graph_now : base.graph ≡ graph_of files
   graph_now = w.was.graph ∙ same_graph w.old (with_facts w.old f w.facts) (asks_alike w.old f w.facts w.within w.imports) ∙ ap graph_of (sym w.files_are)
-
-  pub had_decls : HadDecls files f base.decls.items
-  had_decls = record { old = w.old; facts = w.facts; within = w.within; files_are = w.files_are; were = w.was.decls }
 
   empty_file : NamedFacts
   empty_file = record { path = []; facts = no_facts }

@@ -1,15 +1,18 @@
 -- Entries dealt into lists, one for each bucket.
-use Rattle.std.proofs.Common.{◌≡◌, ◌∙◌, sym, ap, subst, refl, inl, inr, ◌<◌, ◌+◌, ◌%◌, ℕ, List, [], ◌∷◌, ◌++◌, append_assoc, append-nil, true, false, cond, map, filter, length, get_or, take, set, arith}
+use Rattle.std.proofs.Common.{◌≡◌, ◌∙◌, sym, ap, ap₂, subst, refl, inl, inr, suc, zero, ◌<◌, ◌+◌, ◌%◌, ℕ, List, [], ◌∷◌, ◌++◌, append_assoc, append-nil, true, false, map, filter, length, get_or, set, arith}
+use Rattle.std.specs.Prelude.{All}
 use Rattle.std.specs.List.Sorted.{IsPermutation, IsSorted}
 use Rattle.std.specs.declared.cmp.Ordering.{Ordering}
 use Rattle.std.proofs.lemmas.Bool.{cases_eq, cases_lt}
 use Rattle.std.proofs.lemmas.Bool.Decides.{nat_tests}
 use Rattle.std.proofs.lemmas.List.{get_or_append_left, get_or-map, get_or_push, get_or-set_other, get_or-set_same, length-map, length_push, length-set, map-set}
-use Rattle.std.proofs.lemmas.List.Elements.{filter_more}
+use Rattle.std.proofs.lemmas.List.Elements.{All-head, All-tail, filter-append}
 use Rattle.proto_resolve.specs.declared.hashed.HashedDecl.{HashedDecl}
 use Rattle.proto_resolve.specs.declared.hashed.HashedDecls.{HashedDecls}
-use Rattle.proto_resolve.specs.Buckets.{is_in, AreDealt, AreInBuckets}
+use Rattle.proto_resolve.specs.Buckets.{is_in, AreAllInOrder, AreDealt, AreInBuckets}
+use Rattle.proto_resolve.specs.Entries.{all_entries, entries_of}
 use Rattle.proto_resolve.specs.Tables.{AreInOrder}
+use Rattle.proto_resolve.proofs.Entries.{next_entries}
 use Rattle.proto_resolve.proofs.Same.{same_moved}
 
 -- entries sorted, and then standing as two lists
@@ -31,49 +34,65 @@ hits count n k e = grind (arith, nat_tests)
 misses : (count n : ℕ) (k : HashedDecl) → (k.hash % count ≡ n → ⊥) → is_in count n k ≡ false
 misses count n k other = grind (arith, nat_tests)
 
--- one more entry, at the end of its list
-pub one_dealt : (entries : List HashedDecl) (i : ℕ) (old new : List (List HashedDecl)) (k d : HashedDecl) (number : ℕ) → i < length entries → k ≡ get_or entries i d
-    → number ≡ k.hash % length new → number < length new → AreDealt (take i entries) old new → AreDealt (take (i + 1) entries) old (set new number (get_or new number [] ++ k ∷ []))
-one_dealt entries i old new k d number lt read place within dealt = record {
-  as_many = length-set new number (get_or new number [] ++ k ∷ []) ∙ dealt.as_many;
-  each = λ n inside.
-      let count = length old in
-      let more : filter (is_in count n) (take (i + 1) entries) ≡ filter (is_in count n) (take i entries) ++ cond (is_in count n k) (k ∷ []) [] =
-      filter_more (is_in count n) entries i d lt ∙ ap (λ e. filter (is_in count n) (take i entries) ++ cond (is_in count n e) (e ∷ []) []) (sym read) in
-      elim (cases_eq n number) [
-        | inl here ↦
-            let hit : is_in count n k ≡ true = hits count n k (ap (λ m. k.hash % m) (sym dealt.as_many) ∙ sym place ∙ sym here) in
-            let one : cond (is_in count n k) (k ∷ []) [] ≡ k ∷ [] = rw hit refl in
-            let at : get_or (set new number (get_or new number [] ++ k ∷ [])) n [] ≡ get_or new n [] ++ k ∷ [] = rw here (get_or-set_same new number (get_or new number [] ++ k ∷ []) [] within) in
-            at ∙ ap (λ (es : List HashedDecl). es ++ k ∷ []) (dealt.each n inside) ∙ append_assoc (get_or old n []) (filter (is_in count n) (take i entries)) (k ∷ [])
-            ∙ ap (λ (es : List HashedDecl). get_or old n [] ++ (filter (is_in count n) (take i entries) ++ es)) (sym one) ∙ ap (λ (es : List HashedDecl). get_or old n [] ++ es) (sym more)
-        | inr other ↦
-            let miss : is_in count n k ≡ false = misses count n k (λ e. other (sym e ∙ ap (λ m. k.hash % m) (sym dealt.as_many) ∙ sym place)) in
-            let none : cond (is_in count n k) (k ∷ []) [] ≡ [] = rw miss refl in
-            get_or-set_other new number n (get_or new number [] ++ k ∷ []) [] other ∙ dealt.each n inside
-            ∙ ap (λ (es : List HashedDecl). get_or old n [] ++ es) (sym (more ∙ ap (λ (es : List HashedDecl). filter (is_in count n) (take i entries) ++ es) none ∙ append-nil (filter (is_in count n) (take i entries))))
-      ];
+-- one entry, at the end of its list
+one_dealt : (lists : List (List HashedDecl)) (k : HashedDecl) (number : ℕ) → number ≡ k.hash % length lists → number < length lists
+    → AreDealt (k ∷ []) lists (set lists number (get_or lists number [] ++ k ∷ []))
+one_dealt lists k number place within = record {
+  as_many = length-set lists number (get_or lists number [] ++ k ∷ []);
+  each = λ n inside. elim (cases_eq n number) [
+    | inl here ↦
+        let hit : is_in (length lists) n k ≡ true = hits (length lists) n k (sym place ∙ sym here) in
+        rw (hit, here) (get_or-set_same lists number (get_or lists number [] ++ k ∷ []) [] within)
+    | inr other ↦
+        let miss : is_in (length lists) n k ≡ false = misses (length lists) n k (λ e. other (sym e ∙ sym place)) in
+        rw miss (get_or-set_other lists number n (get_or lists number [] ++ k ∷ []) [] other ∙ sym (append-nil (get_or lists n [])))
+  ];
 }
 
 -- the same of the vectors that hold them
-pub one_pushed : {V : Type 0} (items : V → List HashedDecl) (entries : List HashedDecl) (i : ℕ) (old : List (List HashedDecl)) (lists : List V) (k d : HashedDecl) (number : ℕ) (at new : V)
-    → i < length entries → k ≡ get_or entries i d → number ≡ k.hash % length lists → number < length lists → at ≡ get_or lists number at → items new ≡ items at ++ k ∷ []
-    → AreDealt (take i entries) old (map items lists) → AreDealt (take (i + 1) entries) old (map items (set lists number new))
-one_pushed items entries i old lists k d number at new lt read place within there pushed dealt =
+pub one_pushed : {V : Type 0} (items : V → List HashedDecl) (lists : List V) (k : HashedDecl) (number : ℕ) (at new : V)
+    → number ≡ k.hash % length lists → number < length lists → at ≡ get_or lists number at → items new ≡ items at ++ k ∷ []
+    → AreDealt (k ∷ []) (map items lists) (map items (set lists number new))
+one_pushed items lists k number at new place within there pushed =
     let long : length (map items lists) ≡ length lists = length-map lists items in
     let inside : number < length (map items lists) = omega (arith, within, long) in
     let before : get_or (map items lists) number [] ≡ items at = get_or-map items lists number at [] within ∙ ap items (sym there) in
-    rw (map-set, pushed, ← before)
-    (one_dealt entries i old (map items lists) k d number lt read (place ∙ ap (λ m. k.hash % m) (sym long)) inside dealt)
+    rw (map-set, pushed, ← before) (one_dealt (map items lists) k number (place ∙ ap (λ m. k.hash % m) (sym long)) inside)
+
+-- the ones, then the others
+pub both_dealt : (first more : List HashedDecl) (old mid new : List (List HashedDecl)) → AreDealt first old mid → AreDealt more mid new → AreDealt (first ++ more) old new
+both_dealt first more old mid new before after = record {
+  as_many = after.as_many ∙ before.as_many;
+  each = λ n inside.
+      let kept : List HashedDecl = filter (is_in (length old) n) more in
+      after.each n (omega (arith, inside, before.as_many))
+      ∙ ap₂ (λ (es : List HashedDecl) (count : ℕ). es ++ filter (is_in count n) more) (before.each n inside) before.as_many
+      ∙ append_assoc (get_or old n []) (filter (is_in (length old) n) first) kept
+      ∙ ap (λ (es : List HashedDecl). get_or old n [] ++ es) (sym (filter-append (is_in (length old) n) first more));
+}
+
+-- of empty lists each is empty
+pub all_empty : {V : Type 0} (items : V → List HashedDecl) (lists : List V) → All (λ list. items list ≡ []) lists → (n : ℕ) → get_or (map items lists) n [] ≡ []
+all_empty items [] empty n = refl
+all_empty items (list ∷ lists) empty zero = All-head (λ list. items list ≡ []) list lists empty
+all_empty items (list ∷ lists) empty (suc n) = all_empty items lists (All-tail (λ list. items list ≡ []) list lists empty) n
+
+-- where all lists were empty, each has the entries that belong to its bucket
+pub dealt_alone : {V : Type 0} (items : V → List HashedDecl) (entries : List HashedDecl) (old : List V) (new : List (List HashedDecl)) (count : ℕ) → All (λ list. items list ≡ []) old
+    → length old ≡ count → AreDealt entries (map items old) new → (n : ℕ) → n < count → get_or new n [] ≡ filter (is_in count n) entries
+dealt_alone items entries old new count empty many dealt n inside =
+    let long : length (map items old) ≡ count = length-map old items ∙ many in
+    dealt.each n (omega (arith, inside, long)) ∙ ap₂ (λ (es : List HashedDecl) (m : ℕ). es ++ filter (is_in m n) entries) (all_empty items old empty n) long
+
+-- those of one file more
+pub file_dealt : (done : List (List ℕ)) (hashes : List ℕ) (file : ℕ) (old mid new : List (List HashedDecl)) → file ≡ length done → AreDealt (all_entries done) old mid
+    → AreDealt (entries_of file hashes) mid new → AreDealt (all_entries (done ++ hashes ∷ [])) old new
+file_dealt done hashes file old mid new place before after =
+    rw (next_entries done hashes, ← place) (both_dealt (all_entries done) (entries_of file hashes) old mid new before after)
 
 -- ---- each list in order
 
--- each has the entries of its list, in order
-pub record AreAllInOrder (order : HashedDecl → HashedDecl → Ordering) (lists : List (List HashedDecl)) (found : List HashedDecls) : Type 0 where
-  pub as_many : length found ≡ length lists
-  pub each : (n : ℕ) (d : HashedDecls) → n < length lists → AreInOrder order (get_or lists n []) (get_or found n d)
-
--- also with one more
+-- each bucket has the entries of its list, in order, also with one more list and its bucket
 pub one_in_order : (order : HashedDecl → HashedDecl → Ordering) (lists : List (List HashedDecl)) (found : List HashedDecls) (entries : List HashedDecl) (bucket : HashedDecls)
     → AreAllInOrder order lists found → AreInOrder order entries bucket → AreAllInOrder order (lists ++ entries ∷ []) (found ++ bucket ∷ [])
 one_in_order order lists found entries bucket are one = record {

@@ -1,5 +1,5 @@
--- Entries for the names of files, of some files and of others that follow.
-use Rattle.std.proofs.Common.{◌≡◌, ◌∙◌, sym, ap, ap₂, refl, inl, inr, ◌<◌, ◌≤◌, ◌+◌, ◌-◌, ℕ, List, [], ◌∷◌, ◌++◌, Bool, false, not, map, filter, take, drop, get_or, set, length, arith}
+-- Entries for the names of files and for what may settle a scope in them, of some files and of others that follow.
+use Rattle.std.proofs.Common.{◌≡◌, ◌∙◌, sym, ap, ap₂, refl, inl, inr, ◌<◌, ◌≤◌, ◌+◌, ◌-◌, ℕ, List, [], ◌∷◌, ◌++◌, append-nil, zero, suc, Bool, false, not, map, filter, take, drop, get_or, set, length, arith}
 use Rattle.std.specs.Prelude.{All, nat_lt}
 use Rattle.std.specs.List.{enumerate_from, flat_map}
 use Rattle.std.specs.List.Sorted.{IsSorted}
@@ -9,15 +9,15 @@ use Rattle.std.proofs.Math.Path.{fun_ext}
 use Rattle.std.proofs.lemmas.Bool.{cases_Bool}
 use Rattle.std.proofs.lemmas.Bool.Decides.{nat_tests}
 use Rattle.std.proofs.lemmas.Grind.{flat_map-append}
-use Rattle.std.proofs.lemmas.List.{drop-set-lt, drop_more, get_or-append-add, get_or-drop, get_or_append_left, length-drop, length-map, map-append, take_more, take_more_set}
+use Rattle.std.proofs.lemmas.List.{drop-set-lt, drop_more, get_or-append-add, get_or-drop, get_or_append_left, length-drop, length-map, length-take-le, map-append, take_more, take_more_set}
 use Rattle.std.proofs.lemmas.List.Elements.{All-append, All-cons, All-head, All-map, All-nil, All-tail, All-weaker, filter-append}
 use Rattle.std.proofs.lemmas.Simd.{map-map}
 use Rattle.file_facts.specs.declared.fact.Decl.{Decl}
 use Rattle.import_graph.specs.declared.paths.NamedFacts.{NamedFacts}
 use Rattle.proto_resolve.specs.declared.hashed.HashedDecl.{HashedDecl}
 use Rattle.proto_resolve.specs.declared.target.DeclRef.{DeclRef}
-use Rattle.proto_resolve.specs.Entries.{renumbered, with_renumbered, AreEntriesOf}
-use Rattle.proto_resolve.specs.Files.{all_decls, decl_at, facts_at, no_decl, no_facts}
+use Rattle.proto_resolve.specs.Entries.{all_entries, entries_of, hashes_of, renumbered, with_renumbered, AreEntriesOf}
+use Rattle.proto_resolve.specs.Files.{all_decls, decl_at, decls_at, facts_at, no_decl, no_facts, refs_of}
 use Rattle.proto_resolve.specs.Hashed.{hashed}
 use Rattle.file_facts.specs.FullNames.{hash_of, last_of}
 use Rattle.proto_resolve.specs.Names.{is_holder}
@@ -164,16 +164,6 @@ module _ (xs ys : List NamedFacts) where
   name_behind : (r : DeclRef) → name_at (xs ++ ys) (renumbered (length xs) r) ≡ name_at ys r
   name_behind r = ap (λ d. d.full_name) (decl_behind xs ys r)
 
-  names_both : name_entries xs ++ map (with_renumbered (length xs)) (name_entries ys) ≡ name_entries (xs ++ ys)
-  names_both =
-      ap₂ (λ (a b : List HashedDecl). a ++ b)
-      (map_alike (name_at xs) (name_at (xs ++ ys)) (all_decls xs) (λ k d lt. name_front (get_or (all_decls xs) k d) (all_within xs k d lt)))
-      (map-map (with_renumbered (length xs)) (hashed (name_at ys)) (all_decls ys)
-      ∙ ap (λ (f : DeclRef → HashedDecl). map f (all_decls ys)) (fun_ext (λ r. ap (λ t. with_renumbered (length xs) (record { hash = hash_of t; decl = r })) (sym (name_behind r))))
-      ∙ sym (map-map (hashed (name_at (xs ++ ys))) (renumbered (length xs)) (all_decls ys)))
-      ∙ sym (map-append (hashed (name_at (xs ++ ys))) (all_decls xs) (map (renumbered (length xs)) (all_decls ys)))
-      ∙ ap (map (hashed (name_at (xs ++ ys)))) (sym (decls_joined xs ys))
-
   holders_both : holder_entries xs ++ map (with_renumbered (length xs)) (holder_entries ys) ≡ holder_entries (xs ++ ys)
   holders_both =
       ap₂ (λ (a b : List HashedDecl). a ++ b)
@@ -197,9 +187,6 @@ IsWithin files k = (let r = decl_of k in r.file) < length files
 entries_within : (files : List NamedFacts) (text : DeclRef → List ℕ) (p : DeclRef → Bool) → All (IsWithin files) (map (hashed text) (filter p (all_decls files)))
 entries_within files text p = All-map (IsWithin files) (hashed text) (filter p (all_decls files)) (keeps_fits (λ r. r.file < length files) p (all_decls files) (all_within files))
 
-pub names_within : (files : List NamedFacts) (runs : List (List HashedDecl)) → flat_map (λ run. run) runs ≡ name_entries files → All (IsWithin files) (flat_map (λ run. run) runs)
-names_within files runs are = rw are (All-map (IsWithin files) (hashed (name_at files)) (all_decls files) (all_within files))
-
 pub holders_within : (files : List NamedFacts) (runs : List (List HashedDecl)) → AreRearranged (holder_entries files) (flat_map (λ run. run) runs) → All (IsWithin files) (flat_map (λ run. run) runs)
 holders_within files runs are =
     same_all (IsWithin files) (λ k. not (nat_lt (let r = decl_of k in r.file) (length files)))
@@ -214,16 +201,16 @@ small_runs files n runs within small =
     (λ run all other k d lt. let there = all k d lt in omega (arith, there, small)) runs (in_runs (IsWithin files) runs within) (in_runs (IsWithin files) runs within)
 
 pub no_entries : AreEntriesOf [] [] []
-no_entries = record { names_are = refl; holders_are = λ p. refl }
+no_entries = record { hashes_are = refl; holders_are = λ p. refl }
 
 -- those of some files, then of others
 both_runs : (n : ℕ) (rs ss : List (List HashedDecl)) → flat_map (λ run. run) (rs ++ map (λ run. map (with_renumbered n) run) ss) ≡ flat_map (λ run. run) rs ++ map (with_renumbered n) (flat_map (λ run. run) ss)
 both_runs n rs ss = flat_map-append (λ run. run) rs (map (λ run. map (with_renumbered n) run) ss) ∙ ap (λ (es : List HashedDecl). flat_map (λ run. run) rs ++ es) (runs_moved n ss)
 
-pub joined_entries : (xs ys : List NamedFacts) (ns hs ms gs : List (List HashedDecl)) → AreEntriesOf xs ns hs → AreEntriesOf ys ms gs
-    → AreEntriesOf (xs ++ ys) (ns ++ map (λ run. map (with_renumbered (length xs)) run) ms) (hs ++ map (λ run. map (with_renumbered (length xs)) run) gs)
-joined_entries xs ys ns hs ms gs front back = record {
-  names_are = both_runs (length xs) ns ms ∙ ap₂ (λ (a b : List HashedDecl). a ++ map (with_renumbered (length xs)) b) front.names_are back.names_are ∙ names_both xs ys;
+pub joined_entries : (xs ys : List NamedFacts) (ns ms : List (List ℕ)) (hs gs : List (List HashedDecl)) → AreEntriesOf xs ns hs → AreEntriesOf ys ms gs
+    → AreEntriesOf (xs ++ ys) (ns ++ ms) (hs ++ map (λ run. map (with_renumbered (length xs)) run) gs)
+joined_entries xs ys ns ms hs gs front back = record {
+  hashes_are = ap₂ (λ (a b : List (List ℕ)). a ++ b) front.hashes_are back.hashes_are ∙ sym (map-append hashes_of xs ys);
   holders_are = λ p.
       ap (λ (es : List HashedDecl). length (filter p es)) (sym (holders_both xs ys))
       ∙ same_both (holder_entries xs) (map (with_renumbered (length xs)) (holder_entries ys)) (flat_map (λ run. run) hs) (map (with_renumbered (length xs)) (flat_map (λ run. run) gs)) front.holders_are
@@ -232,9 +219,82 @@ joined_entries xs ys ns hs ms gs front back = record {
 }
 
 -- the same where the lists are known by what they are
-pub followed : (xs ys files : List NamedFacts) (ns hs ms gs names holders : List (List HashedDecl)) (n : ℕ) → files ≡ xs ++ ys → n ≡ length xs
-    → names ≡ ns ++ map (λ run. map (with_renumbered n) run) ms → holders ≡ hs ++ map (λ run. map (with_renumbered n) run) gs → AreEntriesOf xs ns hs → AreEntriesOf ys ms gs → AreEntriesOf files names holders
-followed xs ys files ns hs ms gs names holders n files_are long names_are holders_are front back = rw (files_are, names_are, holders_are, long) (joined_entries xs ys ns hs ms gs front back)
+pub followed : (xs ys files : List NamedFacts) (ns ms hashes : List (List ℕ)) (hs gs holders : List (List HashedDecl)) (n : ℕ) → files ≡ xs ++ ys → n ≡ length xs
+    → hashes ≡ ns ++ ms → holders ≡ hs ++ map (λ run. map (with_renumbered n) run) gs → AreEntriesOf xs ns hs → AreEntriesOf ys ms gs → AreEntriesOf files hashes holders
+followed xs ys files ns ms hashes hs gs holders n files_are long hashes_are holders_are front back = rw (files_are, hashes_are, holders_are, long) (joined_entries xs ys ns ms hs gs front back)
+
+-- ---- entries for hashes
+
+abbrev entry : ℕ → ℕ × ℕ → HashedDecl
+entry f e = record { hash = e.1; decl = record { file = f; number = e.0 } }
+
+-- those of the declarations of one file
+in_file : (name : DeclRef → List ℕ) (f n : ℕ) (decls : List Decl) → ((k : ℕ) → name (record { file = f; number = n + k }) ≡ (let d = get_or decls k no_decl in d.full_name))
+    → map (hashed name) (map (numbered f) (enumerate_from n decls)) ≡ map (entry f) (enumerate_from n (map (λ d. hash_of d.full_name) decls))
+in_file name f n [] named = refl
+in_file name f n (d ∷ ds) named =
+    let here : n ≡ n + 0 = omega arith in
+    ap₂ (λ (h : ℕ) (es : List HashedDecl). record { hash = h; decl = record { file = f; number = n } } ∷ es)
+    (ap hash_of (ap (λ k. name (record { file = f; number = k })) here ∙ named 0))
+    (in_file name f (n + 1) ds (λ k. let next : n + 1 + k ≡ n + suc k = omega arith in ap (λ m. name (record { file = f; number = m })) next ∙ named (suc k)))
+
+abbrev of_file : ℕ × List ℕ → List HashedDecl
+of_file e = entries_of e.0 e.1
+
+-- those of all files from one on
+in_files : (name : DeclRef → List ℕ) (n : ℕ) (files : List NamedFacts) → ((f k : ℕ) → name (record { file = n + f; number = k }) ≡ name_at files (record { file = f; number = k }))
+    → map (hashed name) (flat_map refs (enumerate_from n files)) ≡ flat_map of_file (enumerate_from n (map hashes_of files))
+in_files name n [] named = refl
+in_files name n (f ∷ fs) named =
+    let here : n ≡ n + 0 = omega arith in
+    let decls : List Decl = let facts = f.facts in facts.decls in
+    map-append (hashed name) (refs (n, f)) (flat_map refs (enumerate_from (n + 1) fs))
+    ∙ ap₂ (λ (a b : List HashedDecl). a ++ b)
+    (in_file name n 0 decls (λ k. let same_number : 0 + k ≡ k = omega arith in ap₂ (λ (g m : ℕ). name (record { file = g; number = m })) here same_number ∙ named 0 k))
+    (in_files name (n + 1) fs (λ g k. let next : n + 1 + g ≡ n + suc g = omega arith in ap (λ m. name (record { file = m; number = k })) next ∙ named (suc g) k))
+
+-- the hashes of the full names make the entries of all declarations
+pub named_entries : (files : List NamedFacts) → all_entries (map hashes_of files) ≡ name_entries files
+named_entries files = sym (in_files (name_at files) 0 files (λ f k. ap (λ m. name_at files (record { file = m; number = k })) (omega arith)))
+
+-- one hash more
+pub next_entry : (f : ℕ) (hashes : List ℕ) (i d : ℕ) → i < length hashes
+    → entries_of f (take (i + 1) hashes) ≡ entries_of f (take i hashes) ++ record { hash = get_or hashes i d; decl = record { file = f; number = i } } ∷ []
+next_entry f hashes i d lt =
+    let long : 0 + length (take i hashes) ≡ i = omega (arith, length-take-le i hashes (omega (arith, lt))) in
+    ap (entries_of f) (take_more hashes i d lt)
+    ∙ ap (map (entry f)) (enumerate_both 0 (take i hashes) (get_or hashes i d ∷ []))
+    ∙ map-append (entry f) (enumerate_from 0 (take i hashes)) (enumerate_from (0 + length (take i hashes)) (get_or hashes i d ∷ []))
+    ∙ ap (λ n. entries_of f (take i hashes) ++ entry f (n, get_or hashes i d) ∷ []) long
+
+-- those of one file more
+pub next_entries : (files : List (List ℕ)) (hashes : List ℕ) → all_entries (files ++ hashes ∷ []) ≡ all_entries files ++ entries_of (length files) hashes
+next_entries files hashes =
+    ap (flat_map of_file) (enumerate_both 0 files (hashes ∷ []))
+    ∙ flat_map-append of_file (enumerate_from 0 files) (enumerate_from (0 + length files) (hashes ∷ []))
+    ∙ ap (λ (es : List HashedDecl). all_entries files ++ es) (append-nil (entries_of (0 + length files) hashes) ∙ ap (λ n. entries_of n hashes) (omega arith))
+
+-- ---- what may settle a scope, file by file
+
+next_decls : (f n : ℕ) (files : List NamedFacts) → n < length files → flat_map refs (enumerate_from f (drop n files)) ≡ refs_of f (decls_at files n) ++ flat_map refs (enumerate_from (f + 1) (drop (n + 1) files))
+next_decls f n [] lt = absurd (omega (arith, lt))
+next_decls f zero (file ∷ files) lt = refl
+next_decls f (suc n) (file ∷ files) lt =
+    let next : suc (n + 1) ≡ suc n + 1 = omega arith in
+    next_decls f n files (omega (arith, lt)) ∙ ap (λ k. refs_of f (decls_at files n) ++ flat_map refs (enumerate_from (f + 1) (drop k (file ∷ files)))) next
+
+-- those of the files from one on
+abbrev pub holders_from : List NamedFacts → ℕ → List HashedDecl
+holders_from files n = map (hashed (lasts files)) (filter (holds files) (flat_map refs (enumerate_from n (drop n files))))
+
+pub next_holders : (files : List NamedFacts) (n : ℕ) → n < length files
+    → holders_from files n ≡ map (hashed (lasts files)) (filter (holds files) (refs_of n (decls_at files n))) ++ holders_from files (n + 1)
+next_holders files n lt =
+    let own : List DeclRef = refs_of n (decls_at files n) in
+    let others : List DeclRef = flat_map refs (enumerate_from (n + 1) (drop (n + 1) files)) in
+    ap (λ ds. map (hashed (lasts files)) (filter (holds files) ds)) (next_decls n n files lt)
+    ∙ ap (map (hashed (lasts files))) (filter-append (holds files) own others)
+    ∙ map-append (hashed (lasts files)) (filter (holds files) own) (filter (holds files) others)
 
 -- ---- what holds of runs
 

@@ -37,3 +37,5 @@ pub mod BaseChanges
 pub mod Walked
 pub mod MovedFiles
 pub mod MovedBuckets
+pub mod InsertedDecls
+pub mod InsertedPackages

@@ -141,13 +141,13 @@ module _ (files : List NamedFacts) (at : ℕ) (file : NamedFacts) (within : at �
 
 -- ---- all declarations of the other files
 
-moved_from : (at : ℕ) (rs : List DeclRef) → All (λ r. at ≤ r.file) rs → map (moved Comes at) rs ≡ map (renumbered 1) rs
+pub moved_from : (at : ℕ) (rs : List DeclRef) → All (λ r. at ≤ r.file) rs → map (moved Comes at) rs ≡ map (renumbered 1) rs
 moved_from at [] all = refl
 moved_from at (r ∷ rs) all =
     let number : number_after Comes at r.file ≡ 1 + r.file = from_it at r.file (All-head (λ r. at ≤ r.file) r rs all) ∙ omega arith in
     ap₂ (λ (n : ℕ) (ss : List DeclRef). record { file = n; number = r.number } ∷ ss) number (moved_from at rs (All-tail (λ r. at ≤ r.file) r rs all))
 
-moved_before : (at : ℕ) (rs : List DeclRef) → All (λ r. r.file < at) rs → map (moved Comes at) rs ≡ rs
+pub moved_before : (at : ℕ) (rs : List DeclRef) → All (λ r. r.file < at) rs → map (moved Comes at) rs ≡ rs
 moved_before at [] all = refl
 moved_before at (r ∷ rs) all =
     ap₂ (λ (n : ℕ) (ss : List DeclRef). record { file = n; number = r.number } ∷ ss) (before_it at r.file (All-head (λ r. r.file < at) r rs all))

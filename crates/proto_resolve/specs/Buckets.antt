@@ -16,6 +16,11 @@ pub record AreDealt (entries : List HashedDecl) (old new : List (List HashedDecl
   pub as_many : length new ≡ length old
   pub each : (n : ℕ) → n < length old → slice_index_or new n [] ≡ slice_index_or old n [] ++ filter (is_in (length old) n) entries
 
+-- each bucket has the entries of its list, in order
+pub record AreAllInOrder (order : HashedDecl → HashedDecl → Ordering) (lists : List (List HashedDecl)) (buckets : List HashedDecls) : Type 0 where
+  pub as_many : length buckets ≡ length lists
+  pub each : (n : ℕ) (d : HashedDecls) → n < length lists → AreInOrder order (slice_index_or lists n []) (slice_index_or buckets n d)
+
 -- there is a bucket at least, and each has those of the entries that belong to it, in order
 pub record AreInBuckets (order : HashedDecl → HashedDecl → Ordering) (entries : List HashedDecl) (buckets : List HashedDecls) : Type 0 where
   pub some : 0 < length buckets

@@ -7,7 +7,9 @@ use Rattle.std.specs.Ordering.{nat_cmp}
 use Rattle.file_facts.specs.declared.fact.PackageFact.{PackageFact}
 use Rattle.import_graph.specs.declared.paths.NamedFacts.{NamedFacts}
 use Rattle.proto_resolve.specs.declared.packages.PackagedFile.{PackagedFile}
+use Rattle.proto_resolve.specs.declared.moving.Change.TheVariants.{Comes}
 use Rattle.proto_resolve.specs.Files.{has_package}
+use Rattle.proto_resolve.specs.Moved.{number_after}
 use Rattle.file_facts.specs.FullNames.{dot}
 use Rattle.proto_resolve.specs.Names.{is_seen}
 
@@ -36,3 +38,7 @@ AreNoLonger longest list = All (λ p. length p.name ≤ longest) list
 pub record ArePackaged (files : List NamedFacts) (list : List PackagedFile) : Type 0 where
   pub all : IsPermutation (all_packaged files) list
   pub ordered : AreByPackage list
+
+-- a file with its package, by the number that the file has once another comes to the place k
+abbrev pub moved : ℕ → PackagedFile → PackagedFile
+moved k p = record { name = p.name; file = number_after Comes k p.file }

@@ -1,11 +1,14 @@
 // All declarations of files.
-ghost use Rattle.std.specs.Prelude.{◌≡◌, ◌<◌, ◌≤◌, ◌++◌, All, IfOk, List, OnOk, length};
+ghost use Rattle.std.specs.Prelude.{◌≡◌, ◌<◌, ◌≤◌, ◌+◌, ◌++◌, All, IfOk, List, OnOk, length, map};
 ghost use Rattle.std.specs.List.{splice};
 ghost use Rattle.proto_resolve.specs.declared.target.DeclRef.{DeclRef};
-ghost use Rattle.proto_resolve.specs.Bases.{HadDecls};
+ghost use Rattle.proto_resolve.specs.Bases.{HadDecls, HadOtherDecls};
 ghost use Rattle.proto_resolve.specs.Files.{all_decls, decls_at, refs_of};
+ghost use Rattle.proto_resolve.specs.declared.moving.Change.TheVariants.{Comes};
+ghost use Rattle.proto_resolve.specs.Moved.{moved};
 ghost use Rattle.proto_resolve.specs.Replaced.{refs_between};
 
+use crate::moving::{Change, renumber};
 use crate::target::DeclRef;
 use file_facts::Decl;
 use import_graph::NamedFacts;
@@ -110,4 +113,32 @@ pub fn replace_decls(
     }
     let own = decls_of(alloc, files, file)?;
     put(decls, start, end, own)
+}
+
+// Names declarations by the numbers that files have once another comes to the place `at`, so that there are so many. If that is the last place,
+// no number changes.
+fn make_way(at: usize, count: usize, decls: &mut Vec<DeclRef>)
+    requires { All (λ r. r.file + 1 < count) decls.old.items }
+    ensures { decls.new.items ≡ map (moved Comes at) decls.old.items }
+{
+    if count.saturating_sub(at) > 1 {
+        renumber(Change::Comes, at, decls);
+    }
+}
+
+// All declarations of the files, among which the one of the number `at`, from 0, came to those of which these were all. Only numbers change
+// in the others. An `Err` comes only where memory was refused; what is there then is neither.
+pub fn insert_decls(
+    alloc: Global,
+    files: &[NamedFacts],
+    at: usize,
+    decls: &mut Vec<DeclRef>,
+) -> Result<(), AllocError>
+    requires { HadOtherDecls files.now at decls.old.items }
+    ensures { OnOk result (decls.new.items ≡ all_decls files.now) }
+{
+    let start = start_of(decls, at);
+    make_way(at, files.len(), decls);
+    let own = decls_of(alloc, files, at)?;
+    put(decls, start, start, own)
 }

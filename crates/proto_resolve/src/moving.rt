@@ -15,7 +15,7 @@ pub enum Change {
 }
 
 // The number of a file, once one comes to the place `at` or leaves it.
-fn number_after(change: Change, at: usize, file: usize) -> usize
+pub fn number_after(change: Change, at: usize, file: usize) -> usize
     requires { file < 18446744073709551615 }
     ensures { result ≡ number_after change at file }
 {
@@ -26,7 +26,7 @@ fn number_after(change: Change, at: usize, file: usize) -> usize
 }
 
 // Names the declarations by those numbers.
-fn renumber(change: Change, at: usize, decls: &mut Vec<DeclRef>)
+pub fn renumber(change: Change, at: usize, decls: &mut Vec<DeclRef>)
     requires { All (λ r. r.file < 18446744073709551615) decls.old.items }
     ensures { decls.new.items ≡ map (moved change at) decls.old.items }
 {

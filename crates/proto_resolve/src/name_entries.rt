@@ -1,32 +1,33 @@
-// Files with entries for the names of their declarations, before these are put in order.
+// Files with the hashes of the names of their declarations, before these are put in order.
 ghost use Rattle.std.specs.Prelude.{◌≡◌, ◌≤◌, ◌+◌, ◌-◌, ◌++◌, ◌<◌, All, IfOk, OnOk, [], length, map, filter};
-ghost use Rattle.proto_resolve.specs.Entries.{with_renumbered};
-ghost use Rattle.proto_resolve.specs.Files.{decl_at, decls_at};
+ghost use Rattle.proto_resolve.specs.Entries.{hashes_of, with_renumbered};
+ghost use Rattle.proto_resolve.specs.Files.{decl_at, decls_at, refs_of};
 ghost use Rattle.proto_resolve.specs.Hashed.{hashed};
 ghost use Rattle.proto_resolve.specs.Names.{is_holder};
 ghost use Rattle.proto_resolve.specs.Replaced.{refs_between};
-ghost use Rattle.proto_resolve.specs.Tables.{name_at};
-ghost use Rattle.file_facts.specs.FullNames.{last_of};
+ghost use Rattle.proto_resolve.specs.Tables.{holder_entries, name_at};
+ghost use Rattle.file_facts.specs.FullNames.{hash_of, last_of};
 
-use crate::decls::{all_decls, decls_between};
+use crate::decls::{decls_between, decls_of};
 use crate::entry_order::{ByScope, sort_entries};
 use crate::hashed::{HashedDecl, hashed_decls};
 use crate::holders::holders_of;
 use crate::kept::Kept;
 use crate::naming::{FullNames, LastComponents};
 use crate::target::DeclRef;
+use file_facts::Decl;
 use import_graph::NamedFacts;
 use std::alloc::{AllocError, Global};
 use std::marker::Model;
 
-/// Files with an entry for each of their declarations: what a thread makes of its share of all files, and what a
-/// [`NameTable`](crate::NameTable) is made of. A file is its number in the list of these files, counted from 0. Contracts see
+/// Files with the hashes of the full names of their declarations, and entries for those that may settle a scope: what a thread makes of its
+/// share of all files, and what a [`NameTable`](crate::NameTable) is made of. A file is its number in the list of these files, counted from 0. Contracts see
 /// the list of the files.
 #[derive(Drop)]
 pub struct NameEntries {
     pub(crate) files: Vec<NamedFacts>,
-    // All declarations by full name, in runs.
-    pub(crate) names: Vec<Vec<HashedDecl>>,
+    // For each file the hashes of the full names of its declarations, by offset.
+    pub(crate) hashes: Vec<Vec<u64>>,
     // Messages, enums and services by the last components of their full names, in runs. In whatever order they stand, a table answers
     // the same; it is made sooner if each run is in its order.
     pub(crate) holders: Vec<Vec<HashedDecl>>,
@@ -41,7 +42,7 @@ impl Model for NameEntries {
 
     ghost view = { λ e. e.files.items };
 
-    ghost invariant = { λ e. AreEntriesOf e.files.items (map (λ run. run.items) e.names.items) (map (λ run. run.items) e.holders.items) };
+    ghost invariant = { λ e. AreEntriesOf e.files.items (map (λ own. own.items) e.hashes.items) (map (λ run. run.items) e.holders.items) };
 }
 
 // Entries for these declarations by their full names.
@@ -65,6 +66,52 @@ fn holders_among(
 {
     let holders = holders_of(alloc, files, decls)?;
     hashed_decls::<LastComponents>(alloc, files, holders.as_slice())
+}
+
+// The hashes of the full names of some declarations.
+fn name_hashes(alloc: Global, decls: &[Decl]) -> Result<Vec<u64>, AllocError>
+    ensures { IfOk result (λ hashes. hashes.items ≡ map (λ d. hash_of d.full_name) decls.now) }
+{
+    let mut hashes = Vec::with_capacity(alloc, decls.len())?;
+    for decl in decls {
+        hashes.push(decl.full_name.hash())?;
+    }
+    Ok(hashes)
+}
+
+// The same for each of some files.
+fn all_hashes(alloc: Global, files: &[NamedFacts]) -> Result<Vec<Vec<u64>>, AllocError>
+    ensures { IfOk result (λ hashes. map (λ own. own.items) hashes.items ≡ map hashes_of files.now) }
+{
+    let mut hashes = Vec::with_capacity(alloc, files.len())?;
+    for file in files {
+        hashes.push(name_hashes(alloc, file.facts.get().decls.as_slice())?)?;
+    }
+    Ok(hashes)
+}
+
+// Entries for those declarations of a file, given by its number from 0, that may settle a scope, by the last components of their full names.
+fn holders_in(
+    alloc: Global,
+    files: &[NamedFacts],
+    file: usize,
+) -> Result<Vec<HashedDecl>, AllocError>
+    requires { file < length files.now }
+    ensures { IfOk result (λ v. v.items ≡ map (hashed (λ r. last_of (name_at files.now r))) (filter (λ r. is_holder (let d = decl_at files.now r in d.kind)) (refs_of file (decls_at files.now file)))) }
+{
+    let decls = decls_of(alloc, files, file)?;
+    holders_among(alloc, files, decls.as_slice())
+}
+
+// The same of all files.
+fn all_holders(alloc: Global, files: &[NamedFacts]) -> Result<Vec<HashedDecl>, AllocError>
+    ensures { IfOk result (λ v. v.items ≡ holder_entries files.now) }
+{
+    let mut holders = Vec::new(alloc);
+    for file in 0..files.len() {
+        holders.append(&mut holders_in(alloc, files, file)?)?;
+    }
+    Ok(holders)
 }
 
 // Entries of one file.
@@ -124,54 +171,53 @@ fn push_renumbered(
 }
 
 impl NameEntries {
-    /// The entries of no files.
+    /// That of no files.
     pub fn new(alloc: Global) -> NameEntries
         ensures { result ≡ [] }
     {
         NameEntries {
             files: Vec::new(alloc),
-            names: Vec::new(alloc),
+            hashes: Vec::new(alloc),
             holders: Vec::new(alloc),
         }
     }
 
-    /// The entries of these files. An `Err` comes only where memory was refused.
+    /// What a table of these files is made of. An `Err` comes only where memory was refused; the files are gone then.
     pub fn of(alloc: Global, files: Vec<NamedFacts>) -> Result<NameEntries, AllocError>
         ensures { IfOk result (λ e. e ≡ files.items) }
     {
-        let decls = all_decls(alloc, files.as_slice())?;
-        let names = names_of(alloc, files.as_slice(), decls.as_slice())?;
-        let mut holders = holders_among(alloc, files.as_slice(), decls.as_slice())?;
+        let hashes = all_hashes(alloc, files.as_slice())?;
+        let mut holders = all_holders(alloc, files.as_slice())?;
         // (types that many files declare by one last component are put in order here, by the threads of these files)
         sort_entries::<ByScope>(files.as_slice(), &mut holders)?;
         Ok(NameEntries {
             files,
-            names: vec![in alloc; names]?,
+            hashes,
             holders: vec![in alloc; holders]?,
         })
     }
 
-    /// The entries of these files, then of the others, renumbered. An `Err` comes only where memory was refused; both are gone then.
+    /// The same of these files, then of the others, renumbered. An `Err` comes only where memory was refused; both are gone then.
     pub fn followed_by(self, others: NameEntries) -> Result<NameEntries, AllocError>
         ensures { IfOk result (λ e. e ≡ self ++ others) }
     {
         let NameEntries {
             mut files,
-            mut names,
+            mut hashes,
             mut holders,
         } = self;
         let NameEntries {
             files: mut more,
-            names: other_names,
+            hashes: mut other_hashes,
             holders: other_holders,
         } = others;
         let by = files.len();
         files.append(&mut more)?;
-        push_renumbered(by, other_names, &mut names)?;
+        hashes.append(&mut other_hashes)?;
         push_renumbered(by, other_holders, &mut holders)?;
         Ok(NameEntries {
             files,
-            names,
+            hashes,
             holders,
         })
     }

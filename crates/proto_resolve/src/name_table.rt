@@ -1,9 +1,10 @@
 // Files with their declarations by name.
-ghost use Rattle.std.specs.Prelude.{◌≡◌, ◌<◌, ◌≤◌, length, take, All, false, IfOk};
+ghost use Rattle.std.specs.Prelude.{◌≡◌, ◌<◌, ◌≤◌, length, map, take, All, false, IfOk};
 ghost use Rattle.std.specs.List.{flat_map, insert, remove};
 ghost use Rattle.std.specs.List.Sorted.{IsNonDecreasing};
 ghost use Rattle.file_facts.specs.Text.{joined};
 ghost use Rattle.proto_resolve.specs.Buckets.{AreInBuckets};
+ghost use Rattle.proto_resolve.specs.Entries.{all_entries};
 ghost use Rattle.proto_resolve.specs.Files.{all_named, facts_at};
 ghost use Rattle.proto_resolve.specs.Holders.{is_held, IsLast};
 ghost use Rattle.file_facts.specs.FullNames.{AreNameParts, has_dot, hash_of};
@@ -12,7 +13,7 @@ ghost use Rattle.proto_resolve.specs.Replaced.{WereInBuckets};
 ghost use Rattle.proto_resolve.specs.Seen.{exports};
 ghost use Rattle.proto_resolve.specs.Tables.{by_name, by_scope, holder_entries, name_at, name_entries};
 
-use crate::buckets::Buckets;
+use crate::buckets::{Buckets, count_one};
 use crate::entry_order::{ByName, ByScope};
 use crate::hashed::{HashedDecl, with_text};
 use crate::holders::last_place;
@@ -52,15 +53,15 @@ impl Model for NameTable {
     ghost invariant = { λ t. AreByName t.files.items t.names t.holders };
 }
 
-// All declarations of some files by full name, where the runs have their entries.
+// All declarations of some files by full name, where the hashes of these are given.
 fn names_in_buckets(
     alloc: Global,
     files: &[NamedFacts],
-    runs: Vec<Vec<HashedDecl>>,
+    hashes: Vec<Vec<u64>>,
 ) -> Result<Buckets, AllocError>
-    ensures { IfOk result (λ b. AreInBuckets (by_name (name_at files.now)) (flat_map (λ run. run.items) runs.items) b.list.items) }
+    ensures { IfOk result (λ b. AreInBuckets (by_name (name_at files.now)) (all_entries (map (λ own. own.items) hashes.items)) b.list.items) }
 {
-    Buckets::of::<ByName>(alloc, files, runs)
+    Buckets::of_names::<ByName>(alloc, files, hashes)
 }
 
 // The same of what may settle a scope, by last component.
@@ -81,10 +82,7 @@ fn count_in(entries: &[HashedDecl], lens: &mut Vec<usize>) -> usize
 {
     let mut moves = 0usize;
     for one in entries {
-        let number = crate::buckets::bucket_of(one.hash, lens.len());
-        let len = lens[number].saturating_add(1);
-        lens[number] = len;
-        moves = moves.saturating_add(len);
+        moves = moves.saturating_add(count_one(one.hash, lens));
     }
     moves
 }
@@ -156,16 +154,16 @@ fn with_entries(
 }
 
 impl NameTable {
-    /// The table of the files of some entries. An `Err` comes only where memory was refused.
+    /// The table of the files of some entries. An `Err` comes only where memory was refused; the entries are gone then.
     pub fn of(alloc: Global, entries: NameEntries) -> Result<NameTable, AllocError>
         ensures { IfOk result (λ t. t ≡ entries) }
     {
         let NameEntries {
             files,
-            names,
+            hashes,
             holders,
         } = entries;
-        let names = names_in_buckets(alloc, files.as_slice(), names)?;
+        let names = names_in_buckets(alloc, files.as_slice(), hashes)?;
         let holders = holders_in_buckets(alloc, files.as_slice(), holders)?;
         Ok(NameTable {
             files,
@@ -174,7 +172,8 @@ impl NameTable {
         })
     }
 
-    /// The same, made by this thread and another one, if that can be started.
+    /// The same, made by this thread and another one, if that can be started. An `Err` comes only where memory was refused; the entries are gone
+    /// then.
     pub fn of_by_two<R: Threads>(
         rt: &R,
         alloc: Global,
@@ -184,15 +183,15 @@ impl NameTable {
     {
         let NameEntries {
             files,
-            names,
+            hashes,
             holders,
         } = entries;
         let seen = files.as_slice();
         let (made_names, made_holders) = thread::join(
             rt,
             || -> Result<Buckets, AllocError>
-                ensures { IfOk result (λ b. AreInBuckets (by_name (name_at seen.entry.now)) (flat_map (λ run. run.items) names.items) b.list.items) }
-            { names_in_buckets(alloc, seen, names) },
+                ensures { IfOk result (λ b. AreInBuckets (by_name (name_at seen.entry.now)) (all_entries (map (λ own. own.items) hashes.items)) b.list.items) }
+            { names_in_buckets(alloc, seen, hashes) },
             || -> Result<Buckets, AllocError>
                 ensures { IfOk result (λ b. AreInBuckets (by_scope (name_at seen.entry.now)) (flat_map (λ run. run.items) holders.items) b.list.items) }
             { holders_in_buckets(alloc, seen, holders) },

@@ -1,11 +1,12 @@
 // The files that have packages, by the full names of these, each with a dot behind it. Those with the same first components
 // stand together so.
-ghost use Rattle.std.specs.Prelude.{◌≡◌, ◌≤◌, ◌++◌, ◌∷◌, ◌&&◌, [], ℕ, List, Bool, All, IfOk, OnOk, false, length, take, nat_eq, string_bytes};
+ghost use Rattle.std.specs.Prelude.{◌≡◌, ◌<◌, ◌≤◌, ◌+◌, ◌++◌, ◌∷◌, ◌&&◌, [], ℕ, List, Bool, All, IfOk, OnOk, false, length, map, take, nat_eq, string_bytes};
 ghost use Rattle.std.specs.Cmp.Lexicographic.{slice_cmp};
 ghost use Rattle.std.specs.Ordering.{is_lt, nat_cmp};
 ghost use Rattle.std.specs.List.{list_any, starts_with};
 ghost use Rattle.std.specs.List.Sorted.{IsNonDecreasing, IsPermutation};
 ghost use Rattle.file_facts.specs.Text.{joined};
+ghost use Rattle.proto_resolve.specs.Bases.{HadOtherPackages};
 ghost use Rattle.proto_resolve.specs.Files as spec;
 ghost use Rattle.proto_resolve.specs.Files.{is_within};
 ghost use Rattle.file_facts.specs.FullNames.{dot};
@@ -15,6 +16,7 @@ ghost use Rattle.proto_resolve.specs.Packages.{AreByPackage, AreNoLonger, ArePac
 ghost use Rattle.proto_resolve.specs.declared.packages.PackagedFile.{PackagedFile};
 
 use crate::holders::common_len;
+use crate::moving::{Change, number_after};
 use file_facts::{Name, NameParts, PackageFact};
 use import_graph::NamedFacts;
 use std::alloc::{AllocError, Global};
@@ -192,7 +194,44 @@ pub fn packaged_files(alloc: Global, files: &[NamedFacts]) -> Result<Vec<Package
     Ok(found)
 }
 
-// How long the longest of the names is.
+// Gives the files the numbers that they have once another comes to the place `at`.
+fn renumber(at: usize, found: &mut Vec<PackagedFile>)
+    requires { All (λ p. p.file < 18446744073709551615) found.old.items }
+    ensures { found.new.items ≡ map (packages.moved at) found.old.items }
+{
+    for file in found.iter_mut() {
+        file.file = number_after(Change::Comes, at, file.file);
+    }
+}
+
+// The same where there are so many files then. If the place is the last one, no number changes.
+fn make_way(at: usize, count: usize, found: &mut Vec<PackagedFile>)
+    requires { All (λ p. p.file + 1 < count) found.old.items }
+    ensures { found.new.items ≡ map (packages.moved at) found.old.items }
+{
+    if count.saturating_sub(at) > 1 {
+        renumber(at, found);
+    }
+}
+
+// The files that have packages, by these, among which the one of the number `at`, from 0, came to those that had them before. An `Err` comes
+// only where memory was refused; what is there then is neither.
+pub fn add_packaged(
+    alloc: Global,
+    files: &[NamedFacts],
+    at: usize,
+    found: &mut Vec<PackagedFile>,
+) -> Result<(), AllocError>
+    requires { HadOtherPackages files.now at found.old.items }
+    ensures { OnOk result (ArePackaged files.now found.new.items) }
+{
+    make_way(at, files.len(), found);
+    push_packaged(alloc, at, &files[at].facts.get().package, found)?;
+    sort_by_package(found);
+    Ok(())
+}
+
+// A length that none of the names exceeds: that of the longest.
 pub fn longest_of(files: &[PackagedFile]) -> usize
     ensures { AreNoLonger result files.now }
 {

@@ -1,10 +1,11 @@
 // An index that holds its files.
-ghost use Rattle.std.specs.Prelude.{◌≡◌, ◌<◌, ◌≤◌, length, IfOk};
+ghost use Rattle.std.specs.Prelude.{◌≡◌, ◌<◌, ◌≤◌, ◌↔◌, length, IfOk, IsFalse};
 ghost use Rattle.std.specs.List.{insert, remove};
+ghost use Rattle.import_graph.specs.Arrivals.{NobodyImports};
 ghost use Rattle.import_graph.specs.Imports.{graph_of};
 ghost use Rattle.import_graph.specs.Paths.{IsInPathOrder};
 ghost use Rattle.proto_resolve.specs.Bases.{IsBaseOf};
-ghost use Rattle.proto_resolve.specs.Files.{all_decls, facts_at};
+ghost use Rattle.proto_resolve.specs.Files.{facts_at};
 ghost use Rattle.proto_resolve.specs.Outlines.{import_outline, with_facts};
 ghost use Rattle.proto_resolve.specs.Seen.{exports};
 
@@ -16,11 +17,11 @@ use crate::packages::{PackagedFile, of_package};
 use crate::table_base::TableBase;
 use crate::target::DeclRef;
 use file_facts::{FileFacts, FullName, NameParts};
-use import_graph::{Graph, NamedFacts, SharedFacts};
+use import_graph::{Graph, NamedFacts, SharedFacts, is_imported};
 use std::alloc::{AllocError, Global};
 use std::marker::Model;
 
-/// Files with their graph, all their declarations, those of each name, and the files of each package. Contracts see it as the list of the files.
+/// Files with their graph, the declarations of each name, and the files of each package. Contracts see it as the list of the files.
 #[derive(Drop)]
 pub struct Table {
     names: NameTable,
@@ -107,9 +108,8 @@ impl Table {
         Ok((Table::of_parts(names, made), base.graph))
     }
 
-    /// The table with other facts of a file, given by its number from 0, which say the same of imports: the graph stays, and of
-    /// all declarations those of the other files; so do the packages, if the file has the same one. An `Err` comes only where memory
-    /// was refused; the table is gone then.
+    /// The table with other facts of a file, given by its number from 0, which say the same of imports: the graph stays, and so do the
+    /// packages, if the file has the same one. An `Err` comes only where memory was refused; the table is gone then.
     pub fn replace_exports(
         self,
         alloc: Global,
@@ -150,6 +150,32 @@ impl Table {
         Ok((Table::of_parts(names, made), base.graph))
     }
 
+    /// Whether an import of one of the files has the path. Takes no memory.
+    pub fn is_imported(&self, path: &str) -> bool
+        ensures { IsFalse result ↔ NobodyImports self.now path.now }
+    {
+        is_imported(self.names.files(), path)
+    }
+
+    /// The table with one more file, which none of the others imports and which gets the number `at`, counted from 0: those from there on
+    /// have one more. Nothing else changes for the others. An `Err` comes only where memory was refused; the table is gone then.
+    pub fn with_unimported(
+        self,
+        alloc: Global,
+        at: usize,
+        file: NamedFacts,
+    ) -> Result<Table, AllocError>
+        requires within { at ≤ length self }
+        requires ordered { IsInPathOrder (insert self at file) }
+        requires nobody { NobodyImports self file.path }
+        ensures { IfOk result (λ t. t ≡ insert self at file) }
+    {
+        let Table { names, base } = self;
+        let names = names.with_file(alloc, at, file)?;
+        let base = base.with_file(alloc, names.files(), at)?;
+        Ok(Table::of_parts(names, base))
+    }
+
     /// The table without the file of the number `at`, counted from 0: those behind it have one less; and the graph of the files
     /// before. Of the names only that file's leave their places; the graph and the rest are made anew. An `Err` comes only where memory
     /// was refused; the table is gone then.
@@ -172,11 +198,11 @@ impl Table {
         base.graph
     }
 
-    /// All declarations, by path, then offset.
-    pub fn decls(&self) -> &[DeclRef]
-        ensures { result.now ≡ all_decls self.now }
+    // The files.
+    pub(crate) fn files(&self) -> &[NamedFacts]
+        ensures { result.now ≡ self.now }
     {
-        self.base.decls.as_slice()
+        self.names.files()
     }
 
     /// How many files there are.

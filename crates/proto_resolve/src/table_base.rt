@@ -1,20 +1,16 @@
 // What is known of files beside their declarations by name.
 ghost use Rattle.std.specs.Prelude.{IfOk};
 ghost use Rattle.import_graph.specs.Paths.{IsInPathOrder};
-ghost use Rattle.proto_resolve.specs.Bases.{IsBaseOf, WasBaseOf};
+ghost use Rattle.proto_resolve.specs.Bases.{IsBaseOf, WasBaseOf, WasBaseOfOthers};
 
-use crate::decls::{all_decls, replace_decls};
-use crate::packages::{PackagedFile, longest_of, packaged_files};
-use crate::target::DeclRef;
+use crate::packages::{PackagedFile, add_packaged, longest_of, packaged_files};
 use import_graph::{Graph, NamedFacts};
 use std::alloc::{AllocError, Global};
 
-/// What a [`Table`](crate::Table) knows of its files beside their declarations by name: their graph, all declarations, and the
-/// files of each package.
+/// What a [`Table`](crate::Table) knows of its files beside their declarations by name: their graph, and the files of each package.
 #[derive(Drop)]
 pub struct TableBase {
     pub(crate) graph: Graph,
-    pub(crate) decls: Vec<DeclRef>,
     // The files that have packages, by these.
     pub(crate) packaged: Vec<PackagedFile>,
     // How long the longest name among those is.
@@ -29,12 +25,10 @@ impl TableBase {
         ensures { IfOk result (IsBaseOf files.now) }
     {
         let graph = Graph::of(alloc, files)?;
-        let decls = all_decls(alloc, files)?;
         let packaged = packaged_files(alloc, files)?;
         let longest = longest_of(packaged.as_slice());
         Ok(TableBase {
             graph,
-            decls,
             packaged,
             longest,
         })
@@ -53,13 +47,39 @@ impl TableBase {
         requires { WasBaseOf files.now file same_package self }
         ensures { IfOk result (IsBaseOf files.now) }
     {
-        let mut base = self;
-        replace_decls(alloc, files, file, &mut base.decls)?;
         if same_package {
-            return Ok(base);
+            return Ok(self);
         }
+        let mut base = self;
         base.packaged = packaged_files(alloc, files)?;
         base.longest = longest_of(base.packaged.as_slice());
         Ok(base)
+    }
+
+    // What is known of the files now that the one of the number `at`, from 0, came to those of which it was known, none of which imports it.
+    // In the others only numbers change. An `Err` comes only where memory was refused; what was known is gone then.
+    pub(crate) fn with_file(
+        self,
+        alloc: Global,
+        files: &[NamedFacts],
+        at: usize,
+    ) -> Result<TableBase, AllocError>
+        requires ordered { IsInPathOrder files.now }
+        requires came { WasBaseOfOthers files.now at self }
+        ensures { IfOk result (IsBaseOf files.now) }
+    {
+        let TableBase {
+            graph,
+            mut packaged,
+            ..
+        } = self;
+        let graph = graph.with_file(files, at)?;
+        add_packaged(alloc, files, at, &mut packaged)?;
+        let longest = longest_of(packaged.as_slice());
+        Ok(TableBase {
+            graph,
+            packaged,
+            longest,
+        })
     }
 }

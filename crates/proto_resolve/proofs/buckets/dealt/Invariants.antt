@@ -5,10 +5,6 @@ use Rattle.proto_resolve.specs.Buckets.{is_in}
 use Rattle.proto_resolve.proofs.buckets.dealt.Given as goal
 
 -- those so far
-abbrev pub invariant-loop-number : goal.invariant-loop-number
-invariant-loop-number l = (vec_len l.lists ≡ l.number) × ((n : ℕ) → slice_index_or (map (λ list. list.items) l.lists.items) n [] ≡ [])
-
--- those so far
 abbrev pub invariant-loop-run : goal.invariant-loop-run
 invariant-loop-run l =
     (vec_len l.lists ≡ l.count)

@@ -2,5 +2,5 @@ use Rattle.proto_resolve.specs.Tables.{name_at}
 use Rattle.proto_resolve.proofs.Places.{names_total}
 use Rattle.proto_resolve.proofs.name_table.names_in_buckets.Goals as goal
 
-pub of-requires : goal.of-requires
-of-requires c = names_total (name_at c.args.files.now)
+pub of_names-requires : goal.of_names-requires
+of_names-requires c = names_total (name_at c.args.files.now)

@@ -1,7 +1,7 @@
 use Rattle.std.proofs.Common.{◌≡◌, ◌∙◌, List, map}
 use Rattle.import_graph.specs.declared.paths.NamedFacts.{NamedFacts}
 use Rattle.proto_resolve.specs.Outlines.{with_facts}
-use Rattle.proto_resolve.proofs.Outlines.{asking, telling, asks_alike, tells_alike, same_graph, same_decls, stays_in_order, still_packaged}
+use Rattle.proto_resolve.proofs.Outlines.{asking, telling, asks_alike, tells_alike, same_graph, stays_in_order, still_packaged}
 use Rattle.proto_resolve.proofs.table.Table.set_facts.Goals as goal
 
 pub invariant_of-self : goal.invariant_of-self
@@ -15,7 +15,6 @@ invariant_of-self c =
     rw c.set_facts.ensures (record {
       ordered = stays_in_order files f c.args.facts c.self.invariant.ordered;
       graph = c.self.invariant.graph ∙ same_graph files new asks;
-      decls = c.self.invariant.decls ∙ same_decls files new tells;
       packaged = still_packaged files new tells c.self.inside.base.packaged.items c.self.invariant.packaged;
       longest = c.self.invariant.longest;
     })

@@ -1,8 +1,5 @@
-use Rattle.proto_resolve.proofs.BaseChanges.{graph_now, had_decls, ordered_now, packaged_now}
+use Rattle.proto_resolve.proofs.BaseChanges.{graph_now, ordered_now, packaged_now}
 use Rattle.proto_resolve.proofs.table_base.TableBase.changed.Goals as goal
-
-pub replace_decls-requires : goal.replace_decls-requires
-replace_decls-requires c = had_decls c.args.files.now c.args.file c.args.same_package c.args.self c.requires
 
 pub returns-then-same_package : goal.returns-then-same_package
 returns-then-same_package c =
@@ -10,7 +7,6 @@ returns-then-same_package c =
     record {
       ordered = ordered_now c.args.files.now c.args.file c.args.same_package c.args.self w;
       graph = graph_now c.args.files.now c.args.file c.args.same_package c.args.self w;
-      decls = c.in_ok-replace_decls.ensures;
       packaged = packaged_now c.args.files.now c.args.file c.args.same_package c.args.self w c.if-same_package.true;
       longest = w.was.longest;
     }
@@ -21,7 +17,6 @@ returns c =
     record {
       ordered = ordered_now c.args.files.now c.args.file c.args.same_package c.args.self w;
       graph = graph_now c.args.files.now c.args.file c.args.same_package c.args.self w;
-      decls = c.in_ok-replace_decls.ensures;
       packaged = c.in_ok-base.ensures;
       longest = rw c.as_slice.ensures.value at c.longest_of.ensures;
     }

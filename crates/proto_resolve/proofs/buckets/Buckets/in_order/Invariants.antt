@@ -1,6 +1,6 @@
 use Rattle.std.proofs.Common.{map}
-use Rattle.proto_resolve.proofs.Dealing.{AreAllInOrder}
-use Rattle.proto_resolve.proofs.buckets.Buckets.of.Given as goal
+use Rattle.proto_resolve.specs.Buckets.{AreAllInOrder}
+use Rattle.proto_resolve.proofs.buckets.Buckets.in_order.Given as goal
 
 -- those so far
 abbrev pub invariant-loop-entries : goal.invariant-loop-entries
