@@ -107,6 +107,16 @@ fn first_from(pieces: &[Piece<FileWork>], from: usize, path: &str) -> usize
     pieces.len()
 }
 
+// The same. Mostly the piece at this very place has the path, and whether two paths are the same is told sooner than which comes first.
+fn next_from(pieces: &[Piece<FileWork>], from: usize, path: &str) -> usize
+    ensures { (k : ℕ) → from ≤ k → k < result → slice_cmp nat_cmp (let file = slice_index_or (workspace_of pieces.now) k ([], []) in file.0) path.now ≡ Less }
+{
+    if from < pieces.len() && pieces[from].path() == path {
+        return from;
+    }
+    first_from(pieces, from, path)
+}
+
 // The number that a file has now: this place, if the piece there has its path, and none where the file is among the changed ones.
 fn number_now(
     pieces: &[Piece<FileWork>],
@@ -139,7 +149,7 @@ fn numbers_now(
     let mut to = Vec::with_capacity(alloc, paths.len())?;
     let mut next = 0;
     for (file, path) in paths.iter().enumerate() {
-        next = first_from(pieces, next, path.as_str());
+        next = next_from(pieces, next, path.as_str());
         to.push(number_now(pieces, next, path.as_str(), changed, file))?;
     }
     Ok(to)

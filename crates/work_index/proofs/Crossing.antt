@@ -64,7 +64,7 @@ pub indexed_send : IsSend IndexedShare.the_row
 indexed_send = search (sendable, indexed_field_send) depth 20
 
 resolutions_field_send : IsSend (Resolutions.the_field).row
-resolutions_field_send = struct_send (shape Resolutions.the_type) (search (sendable, crosses, Links.the_send) depth 40, (search (sendable, Items.the_send, Diag.the_send) depth 40, tt))
+resolutions_field_send = struct_send (shape Resolutions.the_type) (search (sendable, crosses, Links.the_send) depth 40, (search (sendable, crosses, Items.the_send, Diag.the_send) depth 40, tt))
 
 linked_field_send : IsSend (LinkedShare.the_field).row
 linked_field_send = struct_send (shape LinkedShare.the_type) (search (sendable, crosses, out_send) depth 40, (resolutions_field_send, tt))

@@ -1,5 +1,5 @@
 -- The files of a workspace after one came or left, while all others stayed.
-use Rattle.std.proofs.Common.{◌≡◌, ◌<◌, ◌≤◌, ◌+◌, ◌-◌, ℕ, List, Option, Some, inl, inr, length, get_or, map, arith, sym, ap, ◌∙◌, subst}
+use Rattle.std.proofs.Common.{◌≡◌, ◌<◌, ◌≤◌, ◌+◌, ◌-◌, ℕ, List, Option, Some, inl, inr, length, get_or, map, arith, refl, sym, ap, ◌∙◌, subst}
 use Rattle.std.specs.List.{insert, remove}
 use Rattle.std.proofs.lemmas.Bool.{cases_eq, cases_lt}
 use Rattle.std.proofs.lemmas.List.{ext_get_or, length-map, get_or-map}
@@ -13,6 +13,37 @@ use Rattle.work_index.specs.Stayed.{IsSameFile, Stay}
 use Rattle.work_index.specs.Workspace.{Workspace, all_facts, named_facts}
 use Rattle.work_index.proofs.Changed.{nothing, piece_at, pieces_length}
 
+-- a list with one more element at the place of the file that came is another list, if the elements of the files that stayed are the same there
+module _ {X : Type 0} (to : List (Option ℕ)) (before after : List X) (k : ℕ) (come : HasCome to (length before) (length after) k) (d : X)
+    (same : (g n : ℕ) → place to g ≡ Some n → get_or before g d ≡ get_or after n d) where
+  pub with_one_more : (one : X) → one ≡ get_or after k d → insert before k one ≡ after
+  with_one_more one is =
+      let counts : length after ≡ length before + 1 = come.count in
+      let longer : length (insert before k one) ≡ length before + 1 = length-insert before k one come.within in
+      ext_get_or d (insert before k one) after (omega (arith, counts, longer)) (λ n less. at n (omega (arith, less, counts, longer)))
+    where
+      below : (n : ℕ) → n < k → get_or (insert before k one) n d ≡ get_or after n d
+      below n less = get_or-insert_below before k one d n less come.within ∙ same n n (come.front n less)
+
+      here : (n : ℕ) → n ≡ k → get_or (insert before k one) n d ≡ get_or after n d
+      here n equal = subst (λ m. get_or (insert before k one) m d ≡ get_or after m d) (sym equal) (get_or-insert_at before k one d come.within ∙ is)
+
+      behind : (m : ℕ) → k ≤ m → m < length before → get_or (insert before k one) (m + 1) d ≡ get_or after (m + 1) d
+      behind m far less = get_or-insert_above before k one d m far come.within ∙ same m (m + 1) (come.behind m far less)
+
+      at : (n : ℕ) → n < length after → get_or (insert before k one) n d ≡ get_or after n d
+      at n less = elim (cases_lt n k) [
+        | inl front ↦ below n front
+        | inr from ↦ elim (cases_eq n k) [
+          | inl equal ↦ here n equal
+          | inr apart ↦ subst (λ m. get_or (insert before k one) m d ≡ get_or after m d) (omega (arith, from, apart)) (behind (n - 1) (omega (arith, from, apart)) (omega (arith, from, apart, less, come.count)))
+        ]
+      ]
+
+-- the same where so many were there before, and so many are there now
+pub come_to : {X Y : Type 0} (to : List (Option ℕ)) (before now k : ℕ) (xs : List X) (ys : List Y) → HasCome to before now k → before ≡ length xs → now ≡ length ys → HasCome to (length xs) (length ys) k
+come_to to before now k xs ys come earlier later = subst (λ n. HasCome to n (length ys) k) earlier (subst (λ n. HasCome to before n k) later come)
+
 -- the facts of a file, for any default
 abbrev nobody : NamedFacts
 nobody = named_facts nothing
@@ -24,31 +55,10 @@ module _ (old w : Workspace) (to : List (Option ℕ)) (stayed : Stay old w to) w
 
   pub with_one_that_came : (k : ℕ) (file : NamedFacts) → HasCome to (length (all_facts old)) (length w) k → file ≡ named_facts (get_or w k nothing) → insert (all_facts old) k file ≡ all_facts w
   with_one_that_came k file come is =
-      let olds = all_facts old in
-      let counts : length w ≡ length olds + 1 = come.count in
-      let longer : length (insert olds k file) ≡ length olds + 1 = length-insert olds k file come.within in
-      ext_get_or nobody (insert olds k file) (all_facts w) (omega (arith, counts, longer, length-map w named_facts)) (λ n less. at n (omega (arith, less, counts, longer)))
-    where
-      below : (n : ℕ) → n < k → get_or (insert (all_facts old) k file) n nobody ≡ get_or (all_facts w) n nobody
-      below n less = get_or-insert_below (all_facts old) k file nobody n less come.within ∙ same_at n n (stayed n n (come.front n less))
-
-      here : (n : ℕ) → n ≡ k → get_or (insert (all_facts old) k file) n nobody ≡ get_or (all_facts w) n nobody
-      here n same =
-          let there : k < length w = omega (arith, come.within, come.count) in
-          subst (λ m. get_or (insert (all_facts old) k file) m nobody ≡ get_or (all_facts w) m nobody) (sym same)
-          (get_or-insert_at (all_facts old) k file nobody come.within ∙ is ∙ sym (get_or-map named_facts w k nothing nobody there))
-
-      behind : (m : ℕ) → k ≤ m → m < length (all_facts old) → get_or (insert (all_facts old) k file) (m + 1) nobody ≡ get_or (all_facts w) (m + 1) nobody
-      behind m far less = get_or-insert_above (all_facts old) k file nobody m far come.within ∙ same_at m (m + 1) (stayed m (m + 1) (come.behind m far less))
-
-      at : (n : ℕ) → n < length w → get_or (insert (all_facts old) k file) n nobody ≡ get_or (all_facts w) n nobody
-      at n less = elim (cases_lt n k) [
-        | inl before ↦ below n before
-        | inr from ↦ elim (cases_eq n k) [
-          | inl equal ↦ here n equal
-          | inr apart ↦ subst (λ m. get_or (insert (all_facts old) k file) m nobody ≡ get_or (all_facts w) m nobody) (omega (arith, from, apart)) (behind (n - 1) (omega (arith, from, apart)) (omega (arith, from, apart, less, come.count)))
-        ]
-      ]
+      let files = all_facts w in
+      let there : k < length w = omega (arith, come.within, come.count) in
+      let came : HasCome to (length (all_facts old)) (length files) k = come_to to (length (all_facts old)) (length w) k (all_facts old) files come refl (sym (length-map w named_facts)) in
+      with_one_more to (all_facts old) files k came nobody (λ g n moves. same_at g n (stayed g n moves)) file (is ∙ sym (get_or-map named_facts w k nothing nobody there))
 
   pub without_one_that_left : (k : ℕ) → HasLeft to (length (all_facts old)) (length w) k → remove (all_facts old) k ≡ all_facts w
   without_one_that_left k gone =

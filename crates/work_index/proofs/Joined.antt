@@ -72,7 +72,7 @@ with_share : {X : Type 0} (f : ℕ × (List ℕ × List ℕ) → X) (n first : �
 with_share f n first ts us here rest at is are = ap₂ (λ a b. a ++ b) (is ∙ ap (λ m. made_from f m ts) at) are ∙ sym (made_append f n ts us)
 
 joined : (w : Workspace) (files : List NamedFacts) → files ≡ all_facts w → (n : ℕ) (ss : List Share) (parts : List LinkedShare) → AreConsecutive n ss → AreLinkedBy files ss (map Ok parts)
-    → AreAllLinked w n ss (pieces_in ss) (flat_map (λ (p : LinkedShare). p.pieces.items) parts) (flat_map (λ (p : LinkedShare). p.resolutions.links.items) parts) (flat_map (λ (p : LinkedShare). p.resolutions.diagnostics) parts)
+    → AreAllLinked w n ss (pieces_in ss) (flat_map (λ (p : LinkedShare). p.pieces.items) parts) (flat_map (λ (p : LinkedShare). p.resolutions.links.items) parts) (flat_map (λ (p : LinkedShare). p.resolutions.diagnostics.items) parts)
 joined w files is n [] [] c a = record { pieces_are = λ kept. refl; links_are = λ kept. refl; diagnostics_are = refl }
 joined w files is n [] (p ∷ parts) c a = absurd (omega (arith, a.len))
 joined w files is n (s ∷ ss) [] c a = absurd (omega (arith, a.len))
@@ -88,7 +88,7 @@ joined w files is n (s ∷ ss) (p ∷ parts) c a =
 
 -- the linked shares of pieces, joined, are those pieces and their links, if they are kept, and what is wrong in each
 pub all_joined : (w : Workspace) (files : List NamedFacts) → files ≡ all_facts w → (ts : List TextAt) (ss : List Share) (answers : List (Result LinkedShare AllocError)) (r : LinkedShare)
-    → pieces_in ss ≡ ts → AreConsecutive 0 ss → AreLinkedBy files ss answers → AreJoined answers r → AreAllLinked w 0 ss ts r.pieces.items r.resolutions.links.items r.resolutions.diagnostics
+    → pieces_in ss ≡ ts → AreConsecutive 0 ss → AreLinkedBy files ss answers → AreJoined answers r → AreAllLinked w 0 ss ts r.pieces.items r.resolutions.links.items r.resolutions.diagnostics.items
 all_joined w files is ts ss answers r whole c linked j =
     let P : List (Result LinkedShare AllocError) → Type 0 = λ xs. AreLinkedBy files ss xs in
     let all = joined w files is 0 ss j.parts c (subst P j.none_refused linked) in

@@ -4,6 +4,7 @@ pub mod Changed
 pub mod Relinked
 pub mod Stayed
 pub mod FilesMoves
+pub mod Unimported
 pub mod Balance
 pub mod Crossing
 pub mod Merged

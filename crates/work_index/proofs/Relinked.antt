@@ -56,13 +56,13 @@ not_before false b still idle = refl
 -- the same of one file
 pub record IsAlike (n : ℕ) (before now : Relinking) : Type 0 where
   pub links : get_or now.resolutions.links.items n no_links ≡ get_or before.resolutions.links.items n no_links
-  pub diagnostics : get_or now.resolutions.diagnostics n [] ≡ get_or before.resolutions.diagnostics n []
+  pub diagnostics : get_or now.resolutions.diagnostics.items n [] ≡ get_or before.resolutions.diagnostics.items n []
   pub waits : waits now n ≡ waits before n
 
 -- what is so after an effect on the links of a file
 pub record IsUnder (effect : Effect) (k : ℕ) (before now : Relinking) : Type 0 where
   pub links : now.resolutions.links.items ≡ links_under effect k before.resolutions.links.items
-  pub diagnostics : now.resolutions.diagnostics ≡ before.resolutions.diagnostics
+  pub diagnostics : now.resolutions.diagnostics.items ≡ before.resolutions.diagnostics.items
   pub waiting : now.waiting.items ≡ waiting_under effect k before.waiting.items
 
 alike_after : (n : ℕ) (a b c : Relinking) → IsAlike n a b → IsAlike n b c → IsAlike n a c
@@ -239,7 +239,7 @@ outside f n rest apart out has = by has.0 has.1 has.2
 
 -- where the analysis before the changes is known, and the files wait whose text changes, no change is taken
 pub none_taken : (old w : Workspace) (changed : List ℕ) (table : List NamedFacts) (paths : List (List ℕ)) (now : Relinking) → map (λ f. f.0) old ≡ map (λ f. f.0) w → All (λ f. f < length w) changed
-    → ((n : ℕ) → (Contains changed n → ⊥) → get_or old n nothing ≡ get_or w n nothing) → AreParts table paths now.resolutions.links.items now.resolutions.diagnostics old
+    → ((n : ℕ) → (Contains changed n → ⊥) → get_or old n nothing ≡ get_or w n nothing) → AreParts table paths now.resolutions.links.items now.resolutions.diagnostics.items old
     → length now.waiting.items ≡ length w → All (λ f. waits now f ≡ true) changed → AreTakenBut changed table w now
 none_taken old w changed table paths now same within others are count wait =
     subst (λ files. AreTakenBut changed files w now) (sym are.table_is) (record {
@@ -335,7 +335,7 @@ all_taken files w now taken = same_files files w taken.paths (ext_get_or no_fact
 -- the first k files are linked, and so are the others that don't wait
 pub record AreLinkedUpTo (files : List NamedFacts) (w : Workspace) (waiting : List Bool) (found : Resolutions) (k : ℕ) : Type 0 where
   pub links : length found.links.items ≡ length w
-  pub diagnostics : length found.diagnostics ≡ length w
+  pub diagnostics : length found.diagnostics.items ≡ length w
   pub done : (n : ℕ) → n < k → IsLinked files n (file_text w n) found
   pub ahead : (n : ℕ) → k ≤ n → get_or waiting n true ≡ false → IsLinked files n (file_text w n) found
 
@@ -358,11 +358,11 @@ module _ (files : List NamedFacts) (w : Workspace) (waiting : List Bool) (found 
   }
 
   -- one that waits is linked again
-  pub one_linked : files ≡ all_facts w → k < length w → (later : Resolutions) → later.links.items ≡ set found.links.items k (resolution_of w (k, get_or w k nothing)) → later.diagnostics ≡ set found.diagnostics k (diagnostics_of w (k, get_or w k nothing))
+  pub one_linked : files ≡ all_facts w → k < length w → (later : Resolutions) → later.links.items ≡ set found.links.items k (resolution_of w (k, get_or w k nothing)) → later.diagnostics.items ≡ set found.diagnostics.items k (diagnostics_of w (k, get_or w k nothing))
       → AreLinkedUpTo files w waiting later (k + 1)
   one_linked all there later links diagnostics = record {
     links = ap length links ∙ length-set found.links.items k _ ∙ so_far.links;
-    diagnostics = ap length diagnostics ∙ length-set found.diagnostics k _ ∙ so_far.diagnostics;
+    diagnostics = ap length diagnostics ∙ length-set found.diagnostics.items k _ ∙ so_far.diagnostics;
     done = below_more (λ n. IsLinked files n (file_text w n) later) k (λ n less. elsewhere n (λ same. absurd (omega (arith, less, same))) (so_far.done n less)) at;
     ahead = λ n far idle. elsewhere n (λ same. absurd (omega (arith, far, same))) (so_far.ahead n (omega (arith, far)) idle);
   }
@@ -370,13 +370,13 @@ module _ (files : List NamedFacts) (w : Workspace) (waiting : List Bool) (found 
       elsewhere : (n : ℕ) → n ≢ k → IsLinked files n (file_text w n) found → IsLinked files n (file_text w n) later
       elsewhere n apart linked = record {
         links = ap (λ links. get_or links n no_links) links ∙ get_or-set_other found.links.items k n _ no_links apart ∙ linked.links;
-        diagnostics = ap (λ diagnostics. get_or diagnostics n []) diagnostics ∙ get_or-set_other found.diagnostics k n _ [] apart ∙ linked.diagnostics;
+        diagnostics = ap (λ diagnostics. get_or diagnostics n []) diagnostics ∙ get_or-set_other found.diagnostics.items k n _ [] apart ∙ linked.diagnostics;
       }
 
       at : IsLinked files k (file_text w k) later
       at = let text = file_text w k in record {
         links = ap (λ links. get_or links k no_links) links ∙ get_or-set_same found.links.items k _ no_links (omega (arith, there, so_far.links)) ∙ ap (λ files. resolved files k text (value_tree text)) (sym all);
-        diagnostics = ap (λ diagnostics. get_or diagnostics k []) diagnostics ∙ get_or-set_same found.diagnostics k _ [] (omega (arith, there, so_far.diagnostics))
+        diagnostics = ap (λ diagnostics. get_or diagnostics k []) diagnostics ∙ get_or-set_same found.diagnostics.items k _ [] (omega (arith, there, so_far.diagnostics))
             ∙ ap (λ files. merged (facts_of text) (resolved files k text (value_tree text))) (sym all);
       }
 
@@ -387,8 +387,8 @@ module _ (files : List NamedFacts) (w : Workspace) (waiting : List Bool) (found 
       let text = file_text w n in
       get_or_default found.links.items n d no_links there ∙ linked.links ∙ ap (λ files. resolved files n text (value_tree text)) all ∙ sym (made_at (resolution_of w) w n d (omega (arith, there, so_far.links))))
 
-  pub all_diagnostics : files ≡ all_facts w → length w ≤ k → found.diagnostics ≡ made (diagnostics_of w) w
-  all_diagnostics all end' = same_lists found.diagnostics (made (diagnostics_of w) w) (so_far.diagnostics ∙ sym (made_length (diagnostics_of w) w)) (λ n d there.
+  pub all_diagnostics : files ≡ all_facts w → length w ≤ k → found.diagnostics.items ≡ made (diagnostics_of w) w
+  all_diagnostics all end' = same_lists found.diagnostics.items (made (diagnostics_of w) w) (so_far.diagnostics ∙ sym (made_length (diagnostics_of w) w)) (λ n d there.
       let linked = so_far.done n (omega (arith, there, so_far.diagnostics, end')) in
       let text = file_text w n in
-      get_or_default found.diagnostics n d [] there ∙ linked.diagnostics ∙ ap (λ files. merged (facts_of text) (resolved files n text (value_tree text))) all ∙ sym (made_at (diagnostics_of w) w n d (omega (arith, there, so_far.diagnostics))))
+      get_or_default found.diagnostics.items n d [] there ∙ linked.diagnostics ∙ ap (λ files. merged (facts_of text) (resolved files n text (value_tree text))) all ∙ sym (made_at (diagnostics_of w) w n d (omega (arith, there, so_far.diagnostics))))

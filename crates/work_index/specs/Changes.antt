@@ -92,12 +92,12 @@ waits now n = slice_index_or now.waiting.items n true
 -- the links and the diagnostics of a file are those that its text has where these are all files
 pub record IsLinked (files : List NamedFacts) (n : ℕ) (text : List ℕ) (found : Resolutions) : Type 0 where
   pub links : slice_index_or found.links.items n no_links ≡ resolved files n text (value_tree text)
-  pub diagnostics : slice_index_or found.diagnostics n [] ≡ merged (facts_of text) (resolved files n text (value_tree text))
+  pub diagnostics : slice_index_or found.diagnostics.items n [] ≡ merged (facts_of text) (resolved files n text (value_tree text))
 
 -- there is a place for each of so many files
 pub record HasPlaces (count : ℕ) (now : Relinking) : Type 0 where
   pub links : length now.resolutions.links.items ≡ count
-  pub diagnostics : length now.resolutions.diagnostics ≡ count
+  pub diagnostics : length now.resolutions.diagnostics.items ≡ count
   pub waiting : length now.waiting.items ≡ count
 
 -- each file that doesn't wait has the facts of its text, and the links that it has where these are all files

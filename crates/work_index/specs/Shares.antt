@@ -40,7 +40,7 @@ ArePlacedIn files shares = All (λ s. AreNumbersIn files s.first (length s.piece
 pub record IsLinkedIn (w : Workspace) (share : Share) (linked : LinkedShare) : Type 0 where
   pub pieces : share.is_kept ≡ true → linked.pieces.items ≡ share.pieces.items
   pub links : share.is_kept ≡ true → linked.resolutions.links.items ≡ map (resolution_of w) (enumerate_from share.first (workspace_of share.pieces.items))
-  pub diagnostics : linked.resolutions.diagnostics ≡ map (diagnostics_of w) (enumerate_from share.first (workspace_of share.pieces.items))
+  pub diagnostics : linked.resolutions.diagnostics.items ≡ map (diagnostics_of w) (enumerate_from share.first (workspace_of share.pieces.items))
 
 -- the same in the workspace of these files
 abbrev pub IsLinkedBy : List NamedFacts → Share → LinkedShare → Type 0
@@ -57,4 +57,4 @@ pub record AreJoined (answers : List (Result LinkedShare AllocError)) (joined : 
   pub none_refused : answers ≡ map Ok parts
   pub pieces : joined.pieces.items ≡ flat_map (λ part. part.pieces.items) parts
   pub links : joined.resolutions.links.items ≡ flat_map (λ part. part.resolutions.links.items) parts
-  pub diagnostics : joined.resolutions.diagnostics ≡ flat_map (λ part. part.resolutions.diagnostics) parts
+  pub diagnostics : joined.resolutions.diagnostics.items ≡ flat_map (λ part. part.resolutions.diagnostics.items) parts

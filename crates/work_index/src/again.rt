@@ -22,7 +22,7 @@ use file_facts::FileFacts;
 use import_graph::{FileNo, Graph, SharedFacts, same_outlook};
 use link_changes::{Asked, Renumbering, Touched, renumber, touched_law};
 use piece_collector::Piece;
-use proto_resolve::{Index, Links, Table, same_exports, same_imports, seen_law};
+use proto_resolve::{Index, Links, ListedTable, Table, same_exports, same_imports, seen_law};
 use std::alloc::{AllocError, Global};
 
 // What a change of one file's text may change for the other files.
@@ -138,13 +138,13 @@ fn set_linked(
 ) -> Result<(), AllocError>
     requires file { file < length table.now }
     requires links { file < length resolutions.old.links.items }
-    requires diagnostics { file < length resolutions.old.diagnostics }
+    requires diagnostics { file < length resolutions.old.diagnostics.items }
     ensures links { (w : Workspace) → table.now ≡ all_facts w → OnOk result (resolutions.new.links.items ≡ slice_set resolutions.old.links.items file (resolution_of w (file, (piece.now.path, piece.now.text)))) }
-    ensures diagnostics { (w : Workspace) → table.now ≡ all_facts w → OnOk result (resolutions.new.diagnostics ≡ slice_set resolutions.old.diagnostics file (diagnostics_of w (file, (piece.now.path, piece.now.text)))) }
+    ensures diagnostics { (w : Workspace) → table.now ≡ all_facts w → OnOk result (resolutions.new.diagnostics.items ≡ slice_set resolutions.old.diagnostics.items file (diagnostics_of w (file, (piece.now.path, piece.now.text)))) }
 {
     let found = resolution_of(alloc, table, file, piece)?;
     let diagnostics = diagnostics_of(alloc, piece, &found)?;
-    resolutions.diagnostics.set(file, diagnostics);
+    resolutions.diagnostics[file] = diagnostics;
     resolutions.links[file] = found;
     Ok(())
 }
@@ -153,7 +153,7 @@ fn set_linked(
 fn set_renumbered(by: &Renumbering, file: usize, resolutions: &mut Resolutions)
     requires { file < length resolutions.old.links.items }
     ensures links { (d : Links) → resolutions.new.links.items ≡ slice_set resolutions.old.links.items file (links_after (decl_after by.now) (slice_index_or resolutions.old.links.items file d)) }
-    ensures diagnostics { resolutions.new.diagnostics ≡ resolutions.old.diagnostics }
+    ensures diagnostics { resolutions.new.diagnostics.items ≡ resolutions.old.diagnostics.items }
 {
     renumber(by, &mut resolutions.links[file]);
 }
@@ -163,7 +163,7 @@ fn take_effect(effect: Effect, file: usize, relinking: &mut Relinking)
     requires links { file < length relinking.old.resolutions.links.items }
     requires waiting { file < length relinking.old.waiting.items }
     ensures links { relinking.new.resolutions.links.items ≡ links_under effect file relinking.old.resolutions.links.items }
-    ensures diagnostics { relinking.new.resolutions.diagnostics ≡ relinking.old.resolutions.diagnostics }
+    ensures diagnostics { relinking.new.resolutions.diagnostics.items ≡ relinking.old.resolutions.diagnostics.items }
     ensures waiting { relinking.new.waiting.items ≡ waiting_under effect file relinking.old.waiting.items }
 {
     match effect {
@@ -200,11 +200,11 @@ fn follow(
 // are put in order again where it may say another thing of imports or to the files that see it.
 fn table_after(
     alloc: Global,
-    table: Table,
+    table: ListedTable,
     changed: usize,
     differences: Differences,
     pieces: &[Piece<FileWork>],
-) -> Result<(Table, Option<Graph>), AllocError>
+) -> Result<(ListedTable, Option<Graph>), AllocError>
     requires within { changed < length table }
     requires piece { changed < length pieces.now }
     requires imports { differences.imports ≡ false → import_outline (facts_at (all_facts (workspace_of pieces.now)) changed) ≡ import_outline (facts_at table changed) }
@@ -261,11 +261,11 @@ fn facts_at<'p>(pieces: &'p [Piece<FileWork>], file: usize) -> &'p FileFacts
 // The table after one more change, of a file that waits. The links of the files that don't wait are brought up to it.
 fn take_change(
     alloc: Global,
-    table: Table,
+    table: ListedTable,
     changed: FileNo,
     pieces: &[Piece<FileWork>],
     relinking: &mut Relinking,
-) -> Result<Table, AllocError>
+) -> Result<ListedTable, AllocError>
     requires within { changed < length pieces.now }
     requires waits { waits relinking.old changed ≡ true }
     requires linked { AreLinked table (workspace_of pieces.now) relinking.old }
@@ -276,29 +276,29 @@ fn take_change(
     ensures wait { OnOk result (StillWait relinking.old relinking.new) }
 {
     let facts = facts_at(pieces, changed);
-    let imports = !same_imports(facts, table.facts(changed));
-    let exports = !same_exports(facts, table.facts(changed));
-    let touched = Touched::of(alloc, changed, table.facts(changed), facts)?;
+    let imports = !same_imports(facts, table.table().facts(changed));
+    let exports = !same_exports(facts, table.table().facts(changed));
+    let touched = Touched::of(alloc, changed, table.table().facts(changed), facts)?;
     let differences = Differences { imports, exports };
     let (table, before) = table_after(alloc, table, changed, differences, pieces)?;
-    let told = told_by(&table, changed, exports, touched)?;
+    let told = told_by(table.table(), changed, exports, touched)?;
     let change = FileChange {
         file: changed,
         told,
         before,
     };
-    follow(&table, &change, pieces, relinking)?;
+    follow(table.table(), &change, pieces, relinking)?;
     Ok(table)
 }
 
 // The table after all changes, taken one after the other. The links of the files that don't wait are brought up to them.
 fn take_changes(
     alloc: Global,
-    table: Table,
+    table: ListedTable,
     changed: &[FileNo],
     pieces: &[Piece<FileWork>],
     relinking: &mut Relinking,
-) -> Result<Table, AllocError>
+) -> Result<ListedTable, AllocError>
     requires before { AreTakenBut changed.now table (workspace_of pieces.now) relinking.old }
     requires seen_law { SeenLaw }
     requires touched_law { TouchedLaw }
@@ -335,7 +335,7 @@ fn link_waiting(
     requires table { table.now ≡ all_facts (workspace_of pieces.now) }
     requires linked { AreLinked table.now (workspace_of pieces.now) relinking }
     ensures links { IfOk result (λ found. found.links.items ≡ map (resolution_of (workspace_of pieces.now)) (enumerate_from 0 (workspace_of pieces.now))) }
-    ensures diagnostics { IfOk result (λ found. found.diagnostics ≡ map (diagnostics_of (workspace_of pieces.now)) (enumerate_from 0 (workspace_of pieces.now))) }
+    ensures diagnostics { IfOk result (λ found. found.diagnostics.items ≡ map (diagnostics_of (workspace_of pieces.now)) (enumerate_from 0 (workspace_of pieces.now))) }
 {
     let Relinking {
         mut resolutions,
@@ -375,7 +375,7 @@ pub fn analyse_again(
         waiting,
     };
     let table = take_changes(alloc, table, changed, pieces, &mut relinking)?;
-    let resolutions = link_waiting(alloc, &table, pieces, relinking)?;
+    let resolutions = link_waiting(alloc, table.table(), pieces, relinking)?;
     Ok(Analysis {
         table,
         paths,

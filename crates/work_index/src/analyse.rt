@@ -11,7 +11,7 @@ use crate::analysis::{Analysis, Resolutions};
 use crate::file_work::{FileWork, facts_in, tree_in};
 use crate::gate::{Gate, OpenGate};
 use crate::room::make_room;
-use crate::table_of::table_of;
+use crate::table_of::listed_table_of;
 use file_facts::{Diag, Name, in_order};
 use piece_collector::Piece;
 use proto_resolve::{Links, Table, resolve_file};
@@ -19,14 +19,21 @@ use sqlite_items::Items;
 use std::alloc::{AllocError, Global};
 
 // The paths of pieces.
-pub fn paths_of(alloc: Global, pieces: &[Piece<FileWork>]) -> Result<Items<Name>, AllocError>
-    ensures { IfOk result (λ paths. paths ≡ map (λ p. p.path) pieces.now) }
+pub fn paths_of(alloc: Global, pieces: &[Piece<FileWork>]) -> Result<Vec<Name>, AllocError>
+    ensures { IfOk result (λ paths. paths.items ≡ map (λ p. p.path) pieces.now) }
 {
-    let mut paths = Items::new(alloc);
-    'pieces: for piece in pieces {
-        paths.push(Name::of(String::from_str(alloc, piece.path())?))?;
+    let mut paths = Vec::new(alloc);
+    for piece in pieces {
+        paths.push(path_of(alloc, piece)?)?;
     }
     Ok(paths)
+}
+
+// The path of a piece.
+pub fn path_of(alloc: Global, piece: &Piece<FileWork>) -> Result<Name, AllocError>
+    ensures { IfOk result (λ path. path ≡ piece.now.path) }
+{
+    Ok(Name::of(String::from_str(alloc, piece.path())?))
 }
 
 // What the names of a file of the table mean, and what is wrong in it by what it sees.
@@ -69,7 +76,7 @@ pub fn push_found(
     resolutions: &mut Resolutions,
 ) -> Result<(), AllocError>
     ensures links { OnOk result (resolutions.new.links.items ≡ resolutions.old.links.items ++ found ∷ []) }
-    ensures diagnostics { OnOk result (resolutions.new.diagnostics ≡ resolutions.old.diagnostics ++ merged (facts_of piece.now.text) found ∷ []) }
+    ensures diagnostics { OnOk result (resolutions.new.diagnostics.items ≡ resolutions.old.diagnostics.items ++ merged (facts_of piece.now.text) found ∷ []) }
 {
     let diagnostics = diagnostics_of(alloc, piece, &found)?;
     resolutions.diagnostics.push(diagnostics)?;
@@ -87,7 +94,7 @@ fn push_linked(
 ) -> Result<(), AllocError>
     requires { file < length table.now }
     ensures links { (w : Workspace) → table.now ≡ all_facts w → OnOk result (resolutions.new.links.items ≡ resolutions.old.links.items ++ resolution_of w (file, (piece.now.path, piece.now.text)) ∷ []) }
-    ensures diagnostics { (w : Workspace) → table.now ≡ all_facts w → OnOk result (resolutions.new.diagnostics ≡ resolutions.old.diagnostics ++ diagnostics_of w (file, (piece.now.path, piece.now.text)) ∷ []) }
+    ensures diagnostics { (w : Workspace) → table.now ≡ all_facts w → OnOk result (resolutions.new.diagnostics.items ≡ resolutions.old.diagnostics.items ++ diagnostics_of w (file, (piece.now.path, piece.now.text)) ∷ []) }
 {
     let found = resolution_of(alloc, table, file, piece)?;
     push_found(alloc, piece, found, resolutions)
@@ -104,10 +111,10 @@ pub fn link_files<G: Gate>(
 ) -> Result<Resolutions, AllocError>
     requires { AreNumbersIn (length table.now) first (length pieces.now) }
     ensures links { (w : Workspace) → table.now ≡ all_facts w → IfOk result (λ found. found.links.items ≡ map (resolution_of w) (enumerate_from first (workspace_of pieces.now))) }
-    ensures diagnostics { (w : Workspace) → table.now ≡ all_facts w → IfOk result (λ found. found.diagnostics ≡ map (diagnostics_of w) (enumerate_from first (workspace_of pieces.now))) }
+    ensures diagnostics { (w : Workspace) → table.now ≡ all_facts w → IfOk result (λ found. found.diagnostics.items ≡ map (diagnostics_of w) (enumerate_from first (workspace_of pieces.now))) }
 {
     let links = Vec::new(alloc);
-    let diagnostics = Items::new(alloc);
+    let diagnostics = Vec::new(alloc);
     let mut resolutions = Resolutions { links, diagnostics };
     for (place, piece) in pieces.iter().enumerate() {
         gate.enter(piece.path(), piece.stamp());
@@ -123,13 +130,14 @@ fn push_diagnosed(
     table: &Table,
     file: usize,
     piece: &Piece<FileWork>,
-    diagnostics: &mut Items<Items<Diag>>,
+    diagnostics: &mut Vec<Items<Diag>>,
 ) -> Result<(), AllocError>
     requires { file < length table.now }
-    ensures { (w : Workspace) → table.now ≡ all_facts w → OnOk result (diagnostics.new ≡ diagnostics.old ++ diagnostics_of w (file, (piece.now.path, piece.now.text)) ∷ []) }
+    ensures { (w : Workspace) → table.now ≡ all_facts w → OnOk result (diagnostics.new.items ≡ diagnostics.old.items ++ diagnostics_of w (file, (piece.now.path, piece.now.text)) ∷ []) }
 {
     let found = resolution_of(alloc, table, file, piece)?;
-    diagnostics.push(diagnostics_of(alloc, piece, &found)?)
+    diagnostics.push(diagnostics_of(alloc, piece, &found)?)?;
+    Ok(())
 }
 
 // What is wrong in the files of some pieces, which are files of the table. The first has this number there, and the others those that
@@ -140,11 +148,11 @@ pub fn diagnose_files<G: Gate>(
     first: usize,
     pieces: Vec<Piece<FileWork>>,
     gate: &G,
-) -> Result<Items<Items<Diag>>, AllocError>
+) -> Result<Vec<Items<Diag>>, AllocError>
     requires { AreNumbersIn (length table.now) first (length pieces.items) }
-    ensures { (w : Workspace) → table.now ≡ all_facts w → IfOk result (λ found. found ≡ map (diagnostics_of w) (enumerate_from first (workspace_of pieces.items))) }
+    ensures { (w : Workspace) → table.now ≡ all_facts w → IfOk result (λ found. found.items ≡ map (diagnostics_of w) (enumerate_from first (workspace_of pieces.items))) }
 {
-    let mut diagnostics = Items::new(alloc);
+    let mut diagnostics = Vec::new(alloc);
     let mut file = first;
     for piece in pieces {
         gate.enter(piece.path(), piece.stamp());
@@ -161,9 +169,9 @@ pub fn analyse_here(alloc: Global, pieces: &[Piece<FileWork>]) -> Result<Analysi
     requires { Ascends pieces.now }
     ensures { IfOk result (λ found. found ≡ analysis (workspace_of pieces.now)) }
 {
-    let table = table_of(alloc, pieces)?;
+    let table = listed_table_of(alloc, pieces)?;
     let paths = paths_of(alloc, pieces)?;
-    let resolutions = link_files(alloc, &table, 0, pieces, &OpenGate)?;
+    let resolutions = link_files(alloc, table.table(), 0, pieces, &OpenGate)?;
     Ok(Analysis {
         table,
         paths,

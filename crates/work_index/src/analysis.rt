@@ -3,7 +3,7 @@ ghost use Rattle.std.specs.Prelude.{◌≡◌, ◌<◌, [], length, Some, bytes_
 
 use file_facts::{Diag, FileFacts, Name};
 use import_graph::FileNo;
-use proto_resolve::{DeclRef, Index, Links, Table};
+use proto_resolve::{DeclRef, Index, Links, ListedTable};
 use sqlite_items::Items;
 use std::marker::Model;
 
@@ -13,8 +13,8 @@ use std::marker::Model;
 /// A file is a number: its place, counted from 0, in the list of paths. An analysis owns all that it holds.
 #[derive(Drop)]
 pub struct Analysis {
-    pub(crate) table: Table,
-    pub(crate) paths: Items<Name>,
+    pub(crate) table: ListedTable,
+    pub(crate) paths: Vec<Name>,
     pub(crate) resolutions: Resolutions,
 }
 
@@ -22,7 +22,7 @@ pub struct Analysis {
 #[derive(Drop)]
 pub struct Resolutions {
     pub links: Vec<Links>,
-    pub diagnostics: Items<Items<Diag>>,
+    pub diagnostics: Vec<Items<Diag>>,
 }
 
 impl Model for Analysis {
@@ -33,14 +33,14 @@ impl Model for Analysis {
     ghost Value = { AnalysisData };
 
     ghost view = { λ a. record {
-      paths = a.paths;
+      paths = a.paths.items;
       facts = map (λ file. file.facts) a.table;
       decls = all_decls a.table;
       links = a.resolutions.links.items;
-      diagnostics = a.resolutions.diagnostics;
+      diagnostics = a.resolutions.diagnostics.items;
     } };
 
-    ghost invariant = { λ a. (length a.paths ≡ length a.table) × (length a.resolutions.links.items ≡ length a.table) × (length a.resolutions.diagnostics ≡ length a.table) × (a.paths ≡ map (λ file. file.path) a.table) };
+    ghost invariant = { λ a. (length a.paths.items ≡ length a.table) × (length a.resolutions.links.items ≡ length a.table) × (length a.resolutions.diagnostics.items ≡ length a.table) × (a.paths.items ≡ map (λ file. file.path) a.table) };
 }
 
 impl Analysis {
@@ -59,7 +59,7 @@ impl Analysis {
         requires { file < length self.now.paths }
         ensures { slice_get self.now.facts file ≡ Some result.now }
     {
-        self.table.facts(file)
+        self.table.table().facts(file)
     }
 
     /// All declarations, by path, then offset.
@@ -123,6 +123,6 @@ impl Analysis {
     pub fn decls_named(&self, full_name: &str) -> &[DeclRef]
         ensures { result.now ≡ decls_named self.now full_name.now }
     {
-        self.table.named(full_name)
+        self.table.table().named(full_name)
     }
 }

@@ -11,8 +11,8 @@ use std::marker::Model;
 /// paths.
 #[derive(Drop)]
 pub struct Diagnosis {
-    pub(crate) paths: Items<Name>,
-    pub(crate) diagnostics: Items<Items<Diag>>,
+    pub(crate) paths: Vec<Name>,
+    pub(crate) diagnostics: Vec<Items<Diag>>,
     // What the files say, which is freed with the diagnosis: that takes a good part of the time in which it is made.
     pub(crate) table: Table,
 }
@@ -23,9 +23,9 @@ impl Model for Diagnosis {
 
     ghost Value = { DiagnosisData };
 
-    ghost view = { λ d. record { paths = d.paths; diagnostics = d.diagnostics } };
+    ghost view = { λ d. record { paths = d.paths.items; diagnostics = d.diagnostics.items } };
 
-    ghost invariant = { λ d. length d.diagnostics ≡ length d.paths };
+    ghost invariant = { λ d. length d.diagnostics.items ≡ length d.paths.items };
 }
 
 impl Diagnosis {

@@ -22,7 +22,7 @@ use crate::shares::{Share, cut};
 use crate::table_of::all_facts;
 use import_graph::NamedFacts;
 use piece_collector::Lent;
-use proto_resolve::{Table, TableBase};
+use proto_resolve::{ListedTable, Table, TableBase};
 use std::alloc::{AllocError, Global};
 use std::snapshot::Snapshot;
 use std::sync::Wait;
@@ -216,7 +216,7 @@ pub fn analyse_in_shares<R: Threads + Wait, G: Gate>(
         resolutions,
     } = linked;
     let analysis = Analysis {
-        table,
+        table: ListedTable::of(alloc, table)?,
         paths,
         resolutions,
     };

@@ -10,6 +10,7 @@ mod after;
 mod again;
 mod analyse;
 mod analysis;
+mod arrival;
 mod diagnosis;
 mod done;
 mod fault;

@@ -59,7 +59,7 @@ pub fn gather(
 {
     let mut pieces = Vec::new(alloc);
     let mut links = Vec::new(alloc);
-    let mut diagnostics = Items::new(alloc);
+    let mut diagnostics = Vec::new(alloc);
     for answer in answers {
         let LinkedShare {
             pieces: mut more,
@@ -67,7 +67,7 @@ pub fn gather(
         } = answer?;
         pieces.append(&mut more)?;
         links.append(&mut resolutions.links)?;
-        diagnostics.append(resolutions.diagnostics)?;
+        diagnostics.append(&mut resolutions.diagnostics)?;
     }
     let resolutions = Resolutions { links, diagnostics };
     Ok(LinkedShare {

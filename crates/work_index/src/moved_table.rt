@@ -8,15 +8,15 @@ ghost use Rattle.work_index.specs.Pieces.{workspace_of};
 ghost use Rattle.work_index.specs.Workspace.{all_facts};
 
 use crate::file_work::FileWork;
-use crate::table_of::{named_facts, table_of};
+use crate::table_of::{listed_table_of, named_facts};
 use import_graph::{FileNo, Graph};
 use piece_collector::Piece;
-use proto_resolve::Table;
+use proto_resolve::ListedTable;
 use std::alloc::{AllocError, Global};
 
 // Which files came and left, where all others stayed.
 #[derive(Clone, Copy)]
-enum FilesMove {
+pub enum FilesMove {
     // One came, with this number.
     Came(FileNo),
     // One left, which had this number.
@@ -52,7 +52,7 @@ fn are_moved(to: &[Option<FileNo>], from: FileNo, first: FileNo) -> bool
 }
 
 // Whether one file came, or one left, of so many before, so that there are so many now.
-fn move_of(to: &[Option<FileNo>], before: usize, now: usize) -> FilesMove
+pub fn move_of(to: &[Option<FileNo>], before: usize, now: usize) -> FilesMove
     ensures { Tells to.now before now result }
 {
     let at = kept_at_front(to);
@@ -72,16 +72,16 @@ fn move_of(to: &[Option<FileNo>], before: usize, now: usize) -> FilesMove
 // came or left and all others stayed, its names alone are put in order or taken out; else the table is made anew.
 pub fn table_after(
     alloc: Global,
-    table: Table,
+    table: ListedTable,
     to: &[Option<FileNo>],
     pieces: &[Piece<FileWork>],
-) -> Result<(Table, Graph), AllocError>
+) -> Result<(ListedTable, Graph), AllocError>
     requires ascends { Ascends pieces.now }
     requires before { IsTableBefore table (workspace_of pieces.now) to.now }
     ensures table { IfOk result (λ after. after.0 ≡ all_facts (workspace_of pieces.now)) }
     ensures graph { IfOk result (λ after. after.1 ≡ graph_of table) }
 {
-    match move_of(to, table.len(), pieces.len()) {
+    match move_of(to, table.table().len(), pieces.len()) {
         FilesMove::Came(at) => {
             let file = named_facts(alloc, &pieces[at])?;
             table.with_file(alloc, at, file)
@@ -89,7 +89,7 @@ pub fn table_after(
         FilesMove::Left(at) => table.without_file(alloc, at),
         FilesMove::Other => {
             let before = table.into_graph();
-            Ok((table_of(alloc, pieces)?, before))
+            Ok((listed_table_of(alloc, pieces)?, before))
         }
     }
 }

@@ -1,5 +1,7 @@
-use Rattle.std.proofs.Common.{◌∙◌, ap, arith}
+use Rattle.std.proofs.Common.{List, ◌∙◌, ap, arith, subst}
 use Rattle.import_graph.specs.Imports.{graph_of}
+use Rattle.import_graph.specs.declared.paths.NamedFacts.{NamedFacts}
+use Rattle.work_index.specs.FilesMoves.{ComesUnimported}
 use Rattle.work_index.specs.Pieces.{workspace_of}
 use Rattle.work_index.specs.Stayed.{IsSameFile}
 use Rattle.work_index.specs.Workspace.{resolution_of, diagnostics_of}
@@ -7,6 +9,12 @@ use Rattle.work_index.proofs.Changed.{parts, pieces_length}
 use Rattle.work_index.proofs.Stayed.{none_taken}
 use Rattle.work_index.proofs.Steps.{as_long, paths_as_long, paths_are, is_analysis}
 use Rattle.work_index.proofs.after.analyse_after.Goals as goal
+
+pub with_arrival-requires-clause-unimported : goal.with_arrival-requires-clause-unimported
+with_arrival-requires-clause-unimported c = λ old is.
+    let inside = c.earlier.inside in
+    let of = parts inside.table inside.paths.items inside.resolutions.links.items inside.resolutions.diagnostics.items old c.earlier.invariant.3 (c.earlier.view_is ∙ is) in
+    subst (λ (files : List NamedFacts). ComesUnimported files (workspace_of c.args.pieces.now) c.args.to.now c.in-Some.at) (c.table.ensures ∙ of.table_is) c.in-Some.ensures
 
 pub numbers_before-requires : goal.numbers_before-requires
 numbers_before-requires c = λ g n moves.
@@ -18,7 +26,7 @@ pub link_after-requires-clause-earlier : goal.link_after-requires-clause-earlier
 link_after-requires-clause-earlier c =
     let was = c.requires.stayed in
     let inside = c.earlier.inside in
-    let of = parts inside.table inside.paths inside.resolutions.links.items inside.resolutions.diagnostics was.old c.earlier.invariant.3 (c.earlier.view_is ∙ was.is) in
+    let of = parts inside.table inside.paths.items inside.resolutions.links.items inside.resolutions.diagnostics.items was.old c.earlier.invariant.3 (c.earlier.view_is ∙ was.is) in
     none_taken was.old (workspace_of c.args.pieces.now) c.args.to.now was.stayed (record { graph = c.in_ok-table.graph; links = inside.resolutions.links }) (c.in_ok-table.ensures.graph ∙ ap graph_of of.table_is) of.links_are
 
 pub invariant_of-result : goal.invariant_of-result
@@ -39,5 +47,5 @@ pub table_after-requires-clause-before : goal.table_after-requires-clause-before
 table_after-requires-clause-before c =
     let was = c.requires.stayed in
     let inside = c.earlier.inside in
-    let of = parts inside.table inside.paths inside.resolutions.links.items inside.resolutions.diagnostics was.old c.earlier.invariant.3 (c.earlier.view_is ∙ was.is) in
+    let of = parts inside.table inside.paths.items inside.resolutions.links.items inside.resolutions.diagnostics.items was.old c.earlier.invariant.3 (c.earlier.view_is ∙ was.is) in
     record { old = was.old; is = of.table_is; stayed = was.stayed }

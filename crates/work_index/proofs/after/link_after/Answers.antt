@@ -16,5 +16,5 @@ loop-file-preserved c =
     let found : c.in_ok-found.found ≡ resolution_of w (0 + k, (piece.path, piece.text)) = c.in_ok-found.ensures.links ∙ ap (λ file. resolution_of w (k, file)) at ∙ ap (λ n. resolution_of w (n, (piece.path, piece.text))) (sym (zero-add k)) in record {
       earlier = c.in_ok-found.ensures.earlier;
       links = one_more (resolution_of w) 0 k ts piece _ _ _ c.loop-file-test.true c.index-pieces-file.is (c.in_ok-push_found.ensures.links ∙ ap (λ links. c.loop-file.resolutions.links.items ++ links ∷ []) found) c.loop-file.invariant.links;
-      diagnostics = one_more (diagnostics_of w) 0 k ts piece _ _ _ c.loop-file-test.true c.index-pieces-file.is (c.in_ok-push_found.ensures.diagnostics ∙ ap (λ links. c.loop-file.resolutions.diagnostics ++ merged (facts_of piece.text) links ∷ []) found) c.loop-file.invariant.diagnostics;
+      diagnostics = one_more (diagnostics_of w) 0 k ts piece _ _ _ c.loop-file-test.true c.index-pieces-file.is (c.in_ok-push_found.ensures.diagnostics ∙ ap (λ links. c.loop-file.resolutions.diagnostics.items ++ merged (facts_of piece.text) links ∷ []) found) c.loop-file.invariant.diagnostics;
     }

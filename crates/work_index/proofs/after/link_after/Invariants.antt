@@ -10,5 +10,5 @@ abbrev pub invariant-loop-file : goal.invariant-loop-file
 invariant-loop-file l = record {
   earlier : IsEarlier l.file l.to (workspace_of l.pieces) l.earlier;
   links : l.resolutions.links.items ++ made_from (resolution_of (workspace_of l.pieces)) (0 + l.file) (drop l.file l.pieces) ≡ made_from (resolution_of (workspace_of l.pieces)) 0 l.pieces;
-  diagnostics : l.resolutions.diagnostics ++ made_from (diagnostics_of (workspace_of l.pieces)) (0 + l.file) (drop l.file l.pieces) ≡ made_from (diagnostics_of (workspace_of l.pieces)) 0 l.pieces;
+  diagnostics : l.resolutions.diagnostics.items ++ made_from (diagnostics_of (workspace_of l.pieces)) (0 + l.file) (drop l.file l.pieces) ≡ made_from (diagnostics_of (workspace_of l.pieces)) 0 l.pieces;
 }

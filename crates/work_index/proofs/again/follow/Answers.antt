@@ -30,7 +30,7 @@ loop-file-preserved c =
           one_followed new w start now n so_far c.args.change.now c.requires.before c.requires.seen_law c.requires.touched_law there x.asked_in.result.now has (is ∙ x.if-not-index.true) x.in_ok-effect.effect x.in_ok-effect.ensures c.if-not-index.relinking
           (record {
             links = ap (λ (r : Relinking). r.resolutions.links.items) x.relinking-is ∙ x.take_effect.ensures.links;
-            diagnostics = ap (λ (r : Relinking). r.resolutions.diagnostics) x.relinking-is ∙ x.take_effect.ensures.diagnostics;
+            diagnostics = ap (λ (r : Relinking). r.resolutions.diagnostics.items) x.relinking-is ∙ x.take_effect.ensures.diagnostics;
             waiting = ap (λ (r : Relinking). r.waiting.items) x.relinking-is ∙ x.take_effect.ensures.waiting;
           })
       | else-not-index x ↦ subst (λ (r : Relinking). AreFollowed new w start r (n + 1)) (sym x.relinking-is) (passed_over new w start now n so_far (is ∙ x.if-not-index.false))

@@ -27,7 +27,7 @@ loop-file-preserved c =
           let at : get_or w n nothing ≡ (piece.path, piece.text) = piece_at ts n piece c.loop-file-test.true c.index-pieces-file.is in
           one_linked files w waiting found n so_far c.requires.table there c.if-index.resolutions
           (ap (λ (r : Resolutions). r.links.items) x.resolutions-is ∙ x.in_ok-set_linked.ensures.links w c.requires.table ∙ ap (λ file. set found.links.items n (resolution_of w (n, file))) (sym at))
-          (ap (λ (r : Resolutions). r.diagnostics) x.resolutions-is ∙ x.in_ok-set_linked.ensures.diagnostics w c.requires.table ∙ ap (λ file. set found.diagnostics n (diagnostics_of w (n, file))) (sym at))
+          (ap (λ (r : Resolutions). r.diagnostics.items) x.resolutions-is ∙ x.in_ok-set_linked.ensures.diagnostics w c.requires.table ∙ ap (λ file. set found.diagnostics.items n (diagnostics_of w (n, file))) (sym at))
       | else-index x ↦ subst (λ (r : Resolutions). AreLinkedUpTo files w waiting r (n + 1)) (sym x.resolutions-is) (one_passed files w waiting found n so_far (is ∙ x.if-index.false))
     ]
 

@@ -1,22 +1,24 @@
-use Rattle.std.proofs.Common.{rules}
+use Rattle.std.proofs.Common.{◌∙◌, rules}
 use Rattle.work_index.specs.Pieces.{workspace_of}
 use Rattle.work_index.specs.Workspace.{resolution_of, diagnostics_of}
 use Rattle.work_index.proofs.Steps.{all_numbered, as_long, paths_as_long, paths_are, is_analysis}
 use Rattle.work_index.proofs.analyse.analyse_here.Goals as goal
 
 pub link_files-requires-after_bounds : goal.link_files-requires-after_bounds
-link_files-requires-after_bounds c κs = all_numbered c.args.pieces.now _ c.in_ok-table.ensures (search rules)
+link_files-requires-after_bounds c κs = all_numbered c.args.pieces.now _ (c.table-2.ensures ∙ c.in_ok-table.ensures) (search rules)
 
 pub invariant_of-result : goal.invariant_of-result
 invariant_of-result c =
     let ts = c.args.pieces.now in
     let w = workspace_of ts in
     let all = c.in_ok-table.ensures in
-    (paths_as_long ts _ _ c.in_ok-paths.ensures all, as_long (resolution_of w) ts _ _ (c.in_ok-resolutions.ensures.links w all) all, as_long (diagnostics_of w) ts _ _ (c.in_ok-resolutions.ensures.diagnostics w all) all, paths_are ts _ _ c.in_ok-paths.ensures all)
+    let known = c.table-2.ensures ∙ all in
+    (paths_as_long ts _ _ c.in_ok-paths.ensures all, as_long (resolution_of w) ts _ _ (c.in_ok-resolutions.ensures.links w known) all, as_long (diagnostics_of w) ts _ _ (c.in_ok-resolutions.ensures.diagnostics w known) all, paths_are ts _ _ c.in_ok-paths.ensures all)
 
 pub returns : goal.returns
 returns c =
     let ts = c.args.pieces.now in
     let w = workspace_of ts in
     let all = c.in_ok-table.ensures in
-    is_analysis ts _ _ _ _ all c.in_ok-paths.ensures (c.in_ok-resolutions.ensures.links w all) (c.in_ok-resolutions.ensures.diagnostics w all)
+    let known = c.table-2.ensures ∙ all in
+    is_analysis ts _ _ _ _ all c.in_ok-paths.ensures (c.in_ok-resolutions.ensures.links w known) (c.in_ok-resolutions.ensures.diagnostics w known)

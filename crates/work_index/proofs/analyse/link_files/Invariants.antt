@@ -7,5 +7,5 @@ use Rattle.work_index.proofs.analyse.link_files.Given as goal
 abbrev pub invariant-loop-place : goal.invariant-loop-place
 invariant-loop-place g l = record {
   links : (w : Workspace) → l.table ≡ all_facts w → l.resolutions.links.items ++ made_from (resolution_of w) (l.first + l.place) (drop l.place l.pieces) ≡ made_from (resolution_of w) l.first l.pieces;
-  diagnostics : (w : Workspace) → l.table ≡ all_facts w → l.resolutions.diagnostics ++ made_from (diagnostics_of w) (l.first + l.place) (drop l.place l.pieces) ≡ made_from (diagnostics_of w) l.first l.pieces;
+  diagnostics : (w : Workspace) → l.table ≡ all_facts w → l.resolutions.diagnostics.items ++ made_from (diagnostics_of w) (l.first + l.place) (drop l.place l.pieces) ≡ made_from (diagnostics_of w) l.first l.pieces;
 }

@@ -1,8 +1,8 @@
-use Rattle.std.proofs.Common.{◌≡◌, ◌∙◌, List, map, sym, ap, ap₂}
+use Rattle.std.proofs.Common.{◌∙◌, List, map, sym, ap, ap₂}
 use Rattle.std.proofs.lemmas.Simd.{map-map}
 use Rattle.piece_collector.specs.Views.{TextAt}
 use Rattle.work_index.specs.Pieces.{workspace_of}
-use Rattle.work_index.specs.Workspace.{DiagnosisData, diagnosis, diagnostics_of}
+use Rattle.work_index.specs.Workspace.{diagnosis, diagnostics_of}
 use Rattle.work_index.proofs.Steps.{length_made}
 use Rattle.std.proofs.lemmas.List.{length-map}
 use Rattle.work_index.proofs.in_shares.diagnose.Goals as goal

@@ -8,5 +8,5 @@ invariant-loop-answer l = record {
   none_refused : l.yielded ≡ map Ok parts;
   pieces : l.pieces.items ≡ flat_map (λ part. part.pieces.items) parts;
   links : l.links.items ≡ flat_map (λ part. part.resolutions.links.items) parts;
-  diagnostics : l.diagnostics ≡ flat_map (λ part. part.resolutions.diagnostics) parts;
+  diagnostics : l.diagnostics.items ≡ flat_map (λ part. part.resolutions.diagnostics.items) parts;
 }

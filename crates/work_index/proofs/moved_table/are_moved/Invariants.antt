@@ -1,4 +1,4 @@
-use Rattle.std.proofs.Common.{◌≡◌, ◌<◌, ◌≤◌, ◌+◌, ℕ, Some}
+use Rattle.std.proofs.Common.{◌≡◌, ◌<◌, ◌+◌, ℕ, Some}
 use Rattle.import_graph.specs.Moves.{place}
 use Rattle.work_index.proofs.moved_table.are_moved.Given as goal
 

@@ -1,0 +1,123 @@
+-- What is known of a workspace after one file came that none of the others imports.
+use Rattle.std.proofs.Common.{◌≡◌, ◌<◌, ◌≤◌, ◌+◌, ◌++◌, ℕ, List, [], Option, Some, length, get_or, map, arith, refl, sym, ap, ap₂, ◌∙◌, subst}
+use Rattle.std.specs.List.{enumerate_from, insert}
+use Rattle.std.proofs.lemmas.List.{length-map, get_or-map}
+use Rattle.std.proofs.lemmas.Simd.{map-map}
+use Rattle.file_facts.specs.declared.diagnostic.Diag.{Diag}
+use Rattle.file_facts.specs.Facts.{facts_of}
+use Rattle.file_facts.specs.Order.{in_order}
+use Rattle.import_graph.specs.declared.paths.NamedFacts.{NamedFacts}
+use Rattle.import_graph.specs.Arrivals.{ArrivalLaw, MakesRoom, NobodyImports}
+use Rattle.import_graph.specs.Imports.{graph_of}
+use Rattle.import_graph.specs.Moves.{IsMovedOutlook, place}
+use Rattle.import_graph.specs.Outlooks.{outlook}
+use Rattle.proto_resolve.specs.declared.resolve.Links.{Links}
+use Rattle.link_changes.specs.Laws.{MovedLaw, decl_moved}
+use Rattle.link_changes.specs.Touched.{links_after}
+use Rattle.piece_collector.specs.Views.{TextAt}
+use Rattle.work_index.specs.Pieces.{workspace_of}
+use Rattle.work_index.specs.FilesMoves.{ComesUnimported, HasCome}
+use Rattle.work_index.specs.Stayed.{HasMoved, IsSameFile, Stay}
+use Rattle.work_index.specs.Changes.{no_links}
+use Rattle.work_index.specs.Workspace.{Workspace, all_facts, diagnostics_of, named_facts, resolution_of}
+use Rattle.work_index.proofs.Changed.{AreParts, made, made_at, made_length, nothing, piece_at, pieces_length}
+use Rattle.work_index.proofs.FilesMoves.{come_to, with_one_more, with_one_that_came}
+use Rattle.work_index.proofs.Stayed.{graph_length, links_moved}
+
+-- a file that came makes room among the others
+room_for : (to : List (Option ℕ)) (before now k : ℕ) → HasCome to before now k → MakesRoom to before k
+room_for to before now k come = record {
+  within = come.within;
+  front = come.front;
+  behind = come.behind;
+}
+
+module _ (old w : Workspace) (to : List (Option ℕ)) (stayed : Stay old w to) (k : ℕ) (comes : ComesUnimported (all_facts old) w to k) where
+  -- so many files were there before
+  as_many : length (all_facts old) ≡ length old
+  as_many = length-map old named_facts
+
+  place_within : k < length w
+  place_within = let come = comes.came in omega (arith, come.within, come.count)
+
+  -- of what is made of each file, that of the one that came is put among those of the others
+  with_one_made : {X : Type 0} (before after : ℕ × (List ℕ × List ℕ) → X) (d : X) → ((g n : ℕ) → place to g ≡ Some n → before (g, get_or old g nothing) ≡ after (n, get_or w n nothing)) → insert (made before old) k (after (k, get_or w k nothing)) ≡ made after w
+  with_one_made before after d same =
+      let come = come_to to (length (all_facts old)) (length w) k (made before old) (made after w) comes.came (as_many ∙ sym (made_length before old)) (sym (made_length after w)) in
+      with_one_more to (made before old) (made after w) k come d (λ g n moves.
+      let file : IsSameFile old w g n = stayed g n moves in
+      made_at before old g d file.there ∙ same g n moves ∙ sym (made_at after w n d file.here)) (after (k, get_or w k nothing)) (sym (made_at after w k d place_within))
+
+  paths_with_it : insert (map (λ f. f.0) old) k (let file = get_or w k nothing in file.0) ≡ map (λ f. f.0) w
+  paths_with_it =
+      let path : List ℕ × List ℕ → List ℕ = λ f. f.0 in
+      let come = come_to to (length (all_facts old)) (length w) k (map path old) (map path w) comes.came (as_many ∙ sym (length-map old path)) (sym (length-map w path)) in
+      with_one_more to (map path old) (map path w) k come [] (λ g n moves.
+      let file : IsSameFile old w g n = stayed g n moves in
+      get_or-map path old g nothing [] file.there ∙ ap path file.same ∙ sym (get_or-map path w n nothing [] file.here)) (path (get_or w k nothing)) (sym (get_or-map path w k nothing [] place_within))
+
+  files_with_it : insert (all_facts old) k (named_facts (get_or w k nothing)) ≡ all_facts w
+  files_with_it = with_one_that_came old w to stayed k (named_facts (get_or w k nothing)) comes.came refl
+
+  module _ (moved_law : MovedLaw) (arrival_law : ArrivalLaw) where
+    -- the imports say the same of a file that stayed
+    imports_moved : (g n : ℕ) → place to g ≡ Some n → HasMoved (graph_of (all_facts old)) (graph_of (all_facts w)) to g n
+    imports_moved g n moves =
+        let file : IsSameFile old w g n = stayed g n moves in
+        let there : g < length (all_facts old) = omega (arith, file.there, as_many) in
+        let room = room_for to (length (all_facts old)) (length w) k comes.came in
+        record {
+          within = omega (arith, file.there, graph_length old);
+          moves = moves;
+          imports = subst (λ (files : List NamedFacts). IsMovedOutlook to (outlook (graph_of (all_facts old)) g) (outlook (graph_of files) n)) files_with_it
+              (arrival_law (all_facts old) k (named_facts (get_or w k nothing)) to g n comes.nobody room there moves);
+        }
+
+    -- so it is linked as before but for the numbers
+    stays_linked : (g n : ℕ) → place to g ≡ Some n → links_after (decl_moved to) (resolution_of old (g, get_or old g nothing)) ≡ resolution_of w (n, get_or w n nothing)
+    stays_linked g n moves = links_moved old w to stayed moved_law g n (imports_moved g n moves)
+
+    -- and the same is wrong in it
+    stays_diagnosed : (g n : ℕ) → place to g ≡ Some n → diagnostics_of old (g, get_or old g nothing) ≡ diagnostics_of w (n, get_or w n nothing)
+    stays_diagnosed g n moves =
+        let file : IsSameFile old w g n = stayed g n moves in
+        ap₂ (λ (text : List ℕ) (diags : List Diag). in_order ((let facts = facts_of text in facts.diags) ++ diags)) (ap (λ (f : List ℕ × List ℕ). f.1) file.same) (ap (λ (links : Links). links.diags) (stays_linked g n moves))
+
+    links_with_it : insert (map (links_after (decl_moved to)) (made (resolution_of old) old)) k (resolution_of w (k, get_or w k nothing)) ≡ made (resolution_of w) w
+    links_with_it =
+        ap (λ (links : List Links). insert links k (resolution_of w (k, get_or w k nothing))) (map-map (links_after (decl_moved to)) (resolution_of old) (enumerate_from 0 old))
+        ∙ with_one_made (λ file. links_after (decl_moved to) (resolution_of old file)) (resolution_of w) no_links stays_linked
+
+    diagnostics_with_it : insert (made (diagnostics_of old) old) k (diagnostics_of w (k, get_or w k nothing)) ≡ made (diagnostics_of w) w
+    diagnostics_with_it = with_one_made (diagnostics_of old) (diagnostics_of w) [] stays_diagnosed
+
+-- the parts of an analysis, the links under the new numbers, and among them those of the one that came, which is the piece of the number k
+pub record AreWithIt (ts : List TextAt) (to : List (Option ℕ)) (k : ℕ) (piece : TextAt) (table : List NamedFacts) (paths : List (List ℕ)) (links : List Links) (diagnostics : List (List Diag)) : Type 0 where
+  pub place : k < length ts
+  pub table_is : insert table k (named_facts (piece.path, piece.text)) ≡ all_facts (workspace_of ts)
+  pub paths_are : insert paths k piece.path ≡ map (λ t. t.path) ts
+  pub links_count : k ≤ length links
+  pub links_are : insert (map (links_after (decl_moved to)) links) k (resolution_of (workspace_of ts) (k, (piece.path, piece.text))) ≡ made (resolution_of (workspace_of ts)) (workspace_of ts)
+  pub diagnostics_count : k ≤ length diagnostics
+  pub diagnostics_are : insert diagnostics k (diagnostics_of (workspace_of ts) (k, (piece.path, piece.text))) ≡ made (diagnostics_of (workspace_of ts)) (workspace_of ts)
+  pub nobody : NobodyImports table piece.path
+
+pub with_it : (old : Workspace) (ts : List TextAt) (to : List (Option ℕ)) (k : ℕ) (piece : TextAt) (table : List NamedFacts) (paths : List (List ℕ)) (links : List Links) (diagnostics : List (List Diag))
+    → AreParts table paths links diagnostics old → Stay old (workspace_of ts) to → ComesUnimported (all_facts old) (workspace_of ts) to k → piece ≡ get_or ts k piece → MovedLaw → ArrivalLaw
+    → AreWithIt ts to k piece table paths links diagnostics
+with_it old ts to k piece table paths links diagnostics of stayed comes there moved_law arrival_law =
+    let w = workspace_of ts in
+    let come = comes.came in
+    let place : k < length ts = omega (arith, place_within old w to stayed k comes, pieces_length ts) in
+    let at : get_or w k nothing ≡ (piece.path, piece.text) = piece_at ts k piece place there in
+    let long : length (all_facts old) ≡ length old = length-map old named_facts in
+    record {
+      place = place;
+      table_is = ap₂ (λ (files : List NamedFacts) (f : List ℕ × List ℕ). insert files k (named_facts f)) of.table_is (sym at) ∙ files_with_it old w to stayed k comes;
+      paths_are = ap₂ (λ (ps : List (List ℕ)) (f : List ℕ × List ℕ). insert ps k f.0) of.paths_are (sym at) ∙ paths_with_it old w to stayed k comes ∙ map-map (λ f. f.0) (λ t. (t.path, t.text)) ts;
+      links_count = omega (arith, come.within, long, ap length of.links_are, made_length (resolution_of old) old);
+      links_are = ap₂ (λ (ls : List Links) (f : List ℕ × List ℕ). insert (map (links_after (decl_moved to)) ls) k (resolution_of w (k, f))) of.links_are (sym at) ∙ links_with_it old w to stayed k comes moved_law arrival_law;
+      diagnostics_count = omega (arith, come.within, long, ap length of.diagnostics_are, made_length (diagnostics_of old) old);
+      diagnostics_are = ap₂ (λ (ds : List (List Diag)) (f : List ℕ × List ℕ). insert ds k (diagnostics_of w (k, f))) of.diagnostics_are (sym at) ∙ diagnostics_with_it old w to stayed k comes moved_law arrival_law;
+      nobody = subst (λ (files : List NamedFacts). NobodyImports files piece.path) (sym of.table_is) (subst (λ (f : List ℕ × List ℕ). NobodyImports (all_facts old) f.0) at comes.nobody);
+    }
