@@ -85,7 +85,7 @@ def host_text(rng, number):
 
 
 class Asker:
-    """A session that is asked about all files: their diagnostics, and what each name in a field means."""
+    """A session that is asked about all files: their diagnostics, all declarations, and what each name in a field means."""
 
     def __init__(self, server, folder, texts):
         self.server, self.folder, self.texts = server, folder, texts
@@ -109,7 +109,7 @@ class Asker:
         return f"file://{self.folder}/{name}"
 
     def replies(self):
-        questions = [("workspace/diagnostic", {"previousResultIds": []})]
+        questions = [("workspace/diagnostic", {"previousResultIds": []}), ("workspace/symbol", {"query": ""})]
         for name, text in self.texts.items():
             for row, line in enumerate(text.splitlines()):
                 if line.startswith("  "):

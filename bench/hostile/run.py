@@ -3,8 +3,8 @@
 opened in turn.
 
 Each input comes in two sizes. Twice the input may take at most 2.4 times the time, from 50 ms on, and the larger one may take no more time and
-memory than its line below says. The status is 1 where a limit isn't kept. Documents that are opened one after the other are timed and not
-judged by their growth: each one makes the tables of names anew.
+memory than its line below says. The status is 1 where a limit isn't kept. Documents that are opened one after the other have a limit for 4,000, and
+none for their growth: each one gives the files behind its place other numbers.
 
 A time is the best of 3 for what takes less than a second, and memory is what was resident at most. The program is crates/protols/out/protols, or
 the one that PROTOLS names.
@@ -84,6 +84,9 @@ EDITS = [
     Edit("a message above n others", lambda n: {"a.proto": hostile.HEAD + messages(n)}, lambda n: "message New {}\n", 40_000, 0.3),
     Edit("a message above n of one name, with another such file", twice_equal, lambda n: "message New {}\n", 20_000, 0.3),
 ]
+
+# How many documents are opened one after the other, and the seconds that they may take.
+OPENS = [(1_000, None), (2_000, None), (4_000, 2)]
 
 
 def put(folder, files):
@@ -200,13 +203,17 @@ def opened(count):
         return time.perf_counter() - start
 
 
+def judged_opens(count, limit):
+    seconds = opened(count)
+    return show("documents opened one after the other", count, seconds, 0, [(f"over {limit} s", not limit or seconds <= limit)])
+
+
 def main(words):
     lines = [it for it in LINES if not words or any(word in it.name for word in words)]
     well = [judged(it) for it in lines]
     well += [judged_edit(it) for it in EDITS if not words or any(word in it.name for word in words)]
     if not words or "documents" in words:
-        for count in (1_000, 2_000):
-            print(f"{'documents opened one after the other':55} {count:6} {opened(count):8.3f} s", flush=True)
+        well += [judged_opens(count, limit) for count, limit in OPENS]
     return 0 if all(well) else 1
 
 
