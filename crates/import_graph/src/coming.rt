@@ -133,7 +133,7 @@ fn number_above(numbers: &[usize], own: &[FileNo], file: FileNo) -> usize
 }
 
 // The components of the files, where these were those of the others before the one of the number `at` came, which imports these. None of the
-// others leads to it.
+// others leads to it. The files from which numbers were given are of use only while these are given, and stay as they were.
 pub fn components_with(
     at: FileNo,
     own: &[FileNo],
