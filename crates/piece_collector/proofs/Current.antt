@@ -1,5 +1,5 @@
 -- That each held piece is of the current text of its path
-use Rattle.std.proofs.Common.{◌≡◌, ℕ, Bool, true, false, cond, List, Option, Some, None, refl, sym, ap, ◌∙◌, subst, IfSome, String, string_bytes, BTreeMap}
+use Rattle.std.proofs.Common.{◌≡◌, ℕ, Bool, true, false, cond, List, Option, Some, None, refl, sym, ap, ◌∙◌, subst, IfSome, option_map, String, string_bytes, BTreeMap}
 use Rattle.std.specs.Str.{bytes_eq}
 use Rattle.std.specs.declared.alloc.Global.{Global}
 use Rattle.std.specs.Map.{update, lookup}
@@ -8,6 +8,7 @@ use Rattle.std.specs.Cmp.Lexicographic.{slice_cmp, bytes_decides}
 use Rattle.std.specs.Ordering.{nat_cmp}
 use Rattle.piece_collector.specs.declared.verdict.Verdict.TheVariants.{Taken}
 use Rattle.piece_collector.specs.Views.{SlotView, TextAt, text_in, done_at, verdict_at, AreCurrent}
+use Rattle.piece_collector.specs.Lending.{piece_in}
 use Rattle.piece_collector.proofs.IsAfter.{taken_fits, same_of, same_text}
 
 abbrev IsCurrent : List ℕ → Option SlotView → Type 0
@@ -54,3 +55,11 @@ current_kept m n l T c taken put here q =
     at (Some s) h true e f =
         let k = taken_fits T.stamp T.text s (f e) in
         rw e (same_text T (text_in q s) ((bytes_decides T.path q).0 e) (same_of _ _ k.0) ((bytes_decides T.text s.text).0 k.1))
+
+-- what shows the piece of a path shows one of its current text
+pub piece_shown : {B : Type 0} (shown : B → TextAt) (o : Option B) (p : List ℕ) (w : Option SlotView) → option_map shown o ≡ piece_in w → IsCurrent p w → IfSome o (λ b. IfSome w (λ s. shown b ≡ text_in p s))
+piece_shown shown None p w e c = tt
+piece_shown shown (Some b) p None e c = tt
+piece_shown shown (Some b) p (Some s) e c =
+    let P : Option TextAt → Type 0 = λ o. IfSome o (λ piece. piece ≡ text_in p s) in
+    subst P (sym e) c

@@ -4,7 +4,8 @@ ghost use Rattle.piece_collector.specs.Events.{Event, SetText, Remove, NextJob, 
 ghost use Rattle.piece_collector.specs.History.{verdict_on, failure_on, stands_at, first_wanted, history};
 ghost use Rattle.piece_collector.specs.Board.{IsAfter, IsFirstWanted, IsComplete, IsFull, IsTextsOf, IsTextsIn, current_text};
 ghost use Rattle.std.specs.Map.{update};
-ghost use Rattle.piece_collector.specs.Views.{slot_of, known_text};
+ghost use Rattle.piece_collector.specs.Views.{slot_of, known_text, text_in};
+ghost use Rattle.piece_collector.specs.Lending.{piece_in};
 ghost use Rattle.piece_collector.specs.declared.fault.BoardFault.TheVariants.{Exhausted};
 
 use crate::fault::BoardFault;
@@ -215,6 +216,15 @@ impl<W: Work> Board<W> {
         ensures complete { (opening : ℕ) (events : List Event) → IsAfter opening self.now events → (IsTrue result ↔ IsComplete opening events) }
     {
         slots::are_held(&self.slots, &self.unheld)
+    }
+
+    /// The piece of a path, made of its current text; `None` if there is none. Takes no memory. Not while the pieces are lent.
+    pub fn piece(&self, path: &str) -> Option<&Piece<W>>
+        requires { self.now.is_lent ≡ false }
+        ensures piece { option_map (λ p. p.now) result ≡ piece_in (slot_of path.now self.now) }
+        ensures current { IfSome result (λ p. IfSome (slot_of path.now self.now) (λ s. p.now ≡ text_in path.now s)) }
+    {
+        slots::piece_of(&self.slots, path)
     }
 
     /// The last stamp that was given; before the first one that which the board counts from.

@@ -1,5 +1,5 @@
 // What a board keeps for a path.
-ghost use Rattle.std.specs.Prelude.{◌≡◌, Some, None, true, false, cond, ◌&&◌, is_some};
+ghost use Rattle.std.specs.Prelude.{◌≡◌, Some, None, true, false, cond, ◌&&◌, is_some, option_map};
 ghost use Rattle.piece_collector.specs.Views.{is_wanting, failure_at, verdict_at};
 
 use crate::piece::{Piece, Work};
@@ -56,6 +56,13 @@ impl<W: Work> Slot<W> {
         ensures { result ≡ is_some self.now.piece }
     {
         self.piece.is_some()
+    }
+
+    /// Its piece, if it is held.
+    pub(crate) fn piece(&self) -> Option<&Piece<W>>
+        ensures { option_map (λ p. p.now) result ≡ self.now.piece }
+    {
+        self.piece.as_ref()
     }
 
     /// The text is to be worked on, and no job for it is out.

@@ -3,7 +3,7 @@ ghost use Rattle.std.specs.Prelude.{◌≡◌, ℕ, List, [], Some, None, true, 
 ghost use Rattle.std.specs.BTreeMap.{get_by_text, keys, values, btree_map_len};
 ghost use Rattle.std.specs.BTreeMap.{IsOrdered as IsOrderedMap};
 ghost use Rattle.std.specs.BTreeSet.{IsOrdered};
-ghost use Rattle.piece_collector.specs.Lending.{TakesAll, TakesNext, IsPlaced, placed, pieces_in, emptied, given};
+ghost use Rattle.piece_collector.specs.Lending.{TakesAll, TakesNext, IsPlaced, placed, piece_in, pieces_in, emptied, given};
 ghost use Rattle.std.specs.String.{string_cmp};
 ghost use Rattle.std.specs.Vec.Iter.{into_iter_items};
 ghost use Rattle.std.specs.List.{find};
@@ -57,6 +57,16 @@ pub fn judge_piece<W: Work>(slots: &BTreeMap<String, Slot<W>>, piece: &Piece<W>)
         Some(slot) => slot.judge_piece(piece),
         None => Verdict::Foreign,
     }
+}
+
+/// The piece of the path, if it is held.
+pub fn piece_of<'s, W: Work>(
+    slots: &'s BTreeMap<String, Slot<W>>,
+    path: &str,
+) -> Option<&'s Piece<W>>
+    ensures { option_map (λ p. p.now) result ≡ piece_in (get_by_text slots.now path.now) }
+{
+    slots.get(path)?.piece()
 }
 
 /// Whether the path is known, has no piece, and no job for it is out.
