@@ -12,7 +12,7 @@ use Rattle.import_graph.specs.declared.imports.ImportEdge.{ImportEdge}
 use Rattle.import_graph.specs.declared.imports.FileImports.{FileImports}
 use Rattle.import_graph.specs.declared.paths.NamedFacts.{NamedFacts}
 use Rattle.import_graph.specs.Arrivals.{NobodyImports}
-use Rattle.import_graph.specs.Coming.{edge_after, number_after, rows_with}
+use Rattle.import_graph.specs.Coming.{edge_after, file_after, number_after, rows_with}
 use Rattle.import_graph.specs.Imports.{edge_of, graph_of, imports_of, is_analysed, is_complete_in, is_opaque, public_targets, targets}
 use Rattle.import_graph.proofs.FileInserted.{before, edges_moved, map_insert, now, now_is, others_stay, ImportsOthers}
 use Rattle.import_graph.proofs.NewNumbers.{new_number, number_before, number_from}
@@ -32,10 +32,6 @@ target_same k (Some g) = ap Some (sym (number_same k g))
 
 edge_same : (k : ℕ) (l : ImportEdge) → moved_edge k l ≡ edge_after k l
 edge_same k l = ap (λ (t : Option ℕ). record { target = t; is_public = l.is_public }) (target_same k l.target)
-
--- a file, once another comes to the place k
-abbrev pub file_after : ℕ → FileImports → FileImports
-file_after k file = record { edges = map (edge_after k) file.edges; is_opaque = file.is_opaque }
 
 module _ (files : List NamedFacts) (k : ℕ) (file : NamedFacts) (le : k ≤ length files) where
   files_moved : (some : List NamedFacts) → NobodyImports some file.path → now files k file le some ≡ map (file_after k) (before files k file le some)

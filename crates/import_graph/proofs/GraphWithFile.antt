@@ -8,7 +8,7 @@ use Rattle.std.proofs.lemmas.List.Elements.{All-append, All-cons, All-drop, All-
 use Rattle.import_graph.specs.declared.components.Components.{Components}
 use Rattle.import_graph.specs.declared.imports.FileImports.{FileImports}
 use Rattle.import_graph.specs.declared.shared.SharedLists.{SharedLists}
-use Rattle.import_graph.specs.Coming.{HasNoList, HasNumber, number_after, rows_with}
+use Rattle.import_graph.specs.Coming.{HasNoList, HasNumber, file_after, number_after, rows_with}
 use Rattle.import_graph.specs.Components.{Descends}
 use Rattle.import_graph.specs.Condensed.{LeadAlike}
 use Rattle.import_graph.specs.Shared.{AreShared}
@@ -18,7 +18,7 @@ use Rattle.import_graph.specs.Arrivals.{HasArrived}
 use Rattle.import_graph.specs.declared.paths.NamedFacts.{NamedFacts}
 use Rattle.import_graph.proofs.ImportEdges.{graph_within}
 use Rattle.import_graph.specs.Walks.{AllWithin}
-use Rattle.import_graph.proofs.GraphInserted.{file_after, flags_moved, graph_inserted, one_more_file, own_there, public_moved, targets_moved, with_own}
+use Rattle.import_graph.proofs.GraphInserted.{flags_moved, graph_inserted, one_more_file, own_there, public_moved, targets_moved, with_own}
 use Rattle.import_graph.proofs.Renumbered.{all_within}
 use Rattle.import_graph.proofs.RowsInserted.{descends_with, lead_alike_with, shared_with, tied_with}
 use Rattle.import_graph.proofs.Views.{public_of, Within}

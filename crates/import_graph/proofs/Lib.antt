@@ -11,6 +11,7 @@ pub mod Tours
 pub mod Placing
 pub mod Descents
 pub mod PathOrder
+pub mod PathPlaces
 pub mod Turns
 pub mod Mutual
 pub mod Outlooks
@@ -24,6 +25,8 @@ pub mod OneMoreFile
 pub mod FileInserted
 pub mod GraphInserted
 pub mod Renumbered
+pub mod Unmoved
+pub mod NewPaths
 pub mod Walked
 pub mod RowsInserted
 pub mod GraphWithFile

@@ -2,6 +2,7 @@
 use Rattle.std.specs.Prelude.{◌≡◌, ◌⊎◌, ℕ, ◌+◌, ◌≤◌, List, None, false, if◌then◌else◌, nat_lt, map, option_map, slice_index_or, Contains}
 use Rattle.std.specs.List.{insert}
 use Rattle.import_graph.specs.declared.components.Components.{Components}
+use Rattle.import_graph.specs.declared.imports.FileImports.{FileImports}
 use Rattle.import_graph.specs.declared.imports.ImportEdge.{ImportEdge}
 use Rattle.import_graph.specs.declared.shared.SharedLists.{SharedLists}
 
@@ -12,6 +13,10 @@ number_after at file = if nat_lt file at then file else file + 1
 -- what an import names by that number
 abbrev pub edge_after : ℕ → ImportEdge → ImportEdge
 edge_after at l = record { target = option_map (number_after at) l.target; is_public = l.is_public }
+
+-- what a file imports by those numbers
+abbrev pub file_after : ℕ → FileImports → FileImports
+file_after at file = record { edges = map (edge_after at) file.edges; is_opaque = file.is_opaque }
 
 -- rows of files, among which another file comes to the place `at` with a row of its own
 abbrev pub rows_with : ℕ → List ℕ → List (List ℕ) → List (List ℕ)

@@ -4,8 +4,8 @@ ghost use Rattle.std.specs.Prelude.{◌≡◌, ◌<◌, ◌≤◌, ◌+◌, ℕ,
 ghost use Rattle.std.specs.List.{filter_map, insert};
 ghost use Rattle.import_graph.specs.declared.imports.FileImports.{FileImports};
 ghost use Rattle.import_graph.specs.Arrivals.{HasArrived};
-ghost use Rattle.import_graph.specs.Coming.{HasNumber, edge_after, number_after, rows_with};
-ghost use Rattle.import_graph.specs.Imports.{graph_of, is_complete_in};
+ghost use Rattle.import_graph.specs.Coming.{HasNumber, edge_after, file_after, number_after, rows_with};
+ghost use Rattle.import_graph.specs.Imports.{graph_of, is_complete_in, targets};
 ghost use Rattle.import_graph.specs.Paths.{IsInPathOrder};
 ghost use Rattle.import_graph.specs.Walks.{AllWithin};
 
@@ -29,12 +29,22 @@ fn renumber(at: FileNo, row: &mut Items<FileNo>)
 }
 
 // The same for each row.
-pub fn renumber_rows(at: FileNo, rows: &mut Vec<Items<FileNo>>)
+fn renumber_rows(at: FileNo, rows: &mut Vec<Items<FileNo>>)
     requires { All (AllWithin 18446744073709551615) rows.old.items }
     ensures { rows.new.items ≡ map (map (number_after at)) rows.old.items }
 {
     for row in rows.iter_mut() {
         renumber(at, row);
+    }
+}
+
+// The same where the rows have numbers of so many files. If the other file comes behind all of these, no number changes.
+pub fn make_way(at: FileNo, count: usize, rows: &mut Vec<Items<FileNo>>)
+    requires { All (AllWithin count) rows.old.items }
+    ensures { rows.new.items ≡ map (map (number_after at)) rows.old.items }
+{
+    if at < count {
+        renumber_rows(at, rows);
     }
 }
 
@@ -45,11 +55,11 @@ pub fn rows_with(
     rows: Vec<Items<FileNo>>,
 ) -> Result<Vec<Items<FileNo>>, AllocError>
     requires place { at ≤ length rows.items }
-    requires small { All (AllWithin 18446744073709551615) rows.items }
+    requires small { All (AllWithin (length rows.items)) rows.items }
     ensures { IfOk result (λ v. v.items ≡ rows_with at own rows.items) }
 {
     let mut rows = rows;
-    renumber_rows(at, &mut rows);
+    make_way(at, rows.len(), &mut rows);
     rows.insert(at, own)?;
     Ok(rows)
 }
@@ -83,6 +93,20 @@ fn renumber_edges(at: FileNo, edges: &mut Items<ImportEdge>)
     }
 }
 
+// What files import by the numbers that files have after another file comes to the place `at`. If that is behind all of them, no number
+// changes.
+fn renumber_imports(at: FileNo, graph: &mut Vec<FileImports>)
+    requires { All (λ file. AllWithin (length graph.old.items) (targets file)) graph.old.items }
+    ensures { graph.new.items ≡ map (file_after at) graph.old.items }
+{
+    if at >= graph.len() {
+        return;
+    }
+    for file in graph.iter_mut() {
+        renumber_edges(at, &mut file.edges);
+    }
+}
+
 // What the imports of the files name, where this was known of the others before the one of the number `at` came, which none of them imports.
 pub fn imports_with(
     alloc: Global,
@@ -95,9 +119,7 @@ pub fn imports_with(
     ensures { IfOk result (λ graph. graph.items ≡ graph_of files.now) }
 {
     let mut graph = others;
-    for file in graph.iter_mut() {
-        renumber_edges(at, &mut file.edges);
-    }
+    renumber_imports(at, &mut graph);
     graph.insert(at, imports_of(alloc, files, files[at].facts.get())?)?;
     Ok(graph)
 }

@@ -1,10 +1,11 @@
 // The graph of imports.
 
-ghost use Rattle.std.specs.Prelude.{◌≡◌, ◌<◌, ◌↔◌, ℕ, List, length, IfOk, IfSome, IsTrue, Contains, All};
+ghost use Rattle.std.specs.Prelude.{◌≡◌, ◌<◌, ◌↔◌, ℕ, List, None, length, position, bytes_eq, IfOk, IfSome, IsFalse, IsTrue, Contains, All};
 ghost use Rattle.std.specs.List.Sorted.{IsStrictlyIncreasing};
-ghost use Rattle.import_graph.specs.Arrivals.{HasArrived};
+ghost use Rattle.import_graph.specs.Arrivals.{HasArrived, NobodyImports};
 ghost use Rattle.import_graph.specs.Paths.{IsInPathOrder};
 
+use crate::arrivals::have_path;
 use crate::coming::{components_with, flags_with, imports_with, rows_with};
 use crate::components::{Components, components_of};
 use crate::condensed::condensed_steps;
@@ -114,6 +115,23 @@ impl Graph {
             components,
             shared: shared.with_file(at)?,
         })
+    }
+
+    /// Whether an import of one of the files, of which this is the graph, has the path, which is that of none of them. Looks only at the
+    /// imports of files that import something that isn't there or is opaque. Takes no memory.
+    pub fn is_imported(&self, files: &[NamedFacts], path: &str) -> bool
+        requires graph { self.now ≡ graph_of files.now }
+        requires new { position (λ file. bytes_eq file.path path.now) files.now ≡ None }
+        ensures { IsFalse result ↔ NobodyImports files.now path.now }
+    {
+        for file in 0..files.len() {
+            if !self.is_complete(file)
+                && have_path(files[file].facts.get().imports.as_slice(), path)
+            {
+                return true;
+            }
+        }
+        false
     }
 
     /// The number of the file that an import names: `None` where there is no such file. The import is given by its place,

@@ -1,7 +1,7 @@
 // Files by their paths.
 
-ghost use Rattle.std.specs.Prelude.{◌≡◌, ◌↔◌, IsTrue, ◌∷◌, [], nat_eq};
-ghost use Rattle.std.specs.List.{starts_with};
+ghost use Rattle.std.specs.Prelude.{◌≡◌, ◌≤◌, ◌↔◌, ℕ, IsTrue, ◌∷◌, [], length, position, bytes_eq, nat_eq};
+ghost use Rattle.std.specs.List.{insert, starts_with};
 ghost use Rattle.std.specs.Cmp.Lexicographic.{slice_cmp};
 ghost use Rattle.std.specs.Ordering.{nat_cmp};
 ghost use Rattle.import_graph.specs.Paths.{IsInPathOrder, slash, file_named};
@@ -49,7 +49,23 @@ fn is_rooted(path: &str) -> bool
     path.as_bytes().starts_with(b"/")
 }
 
-// The number of the file whose path is the text, if any; none begins with a slash.
+/// The number of the file with a path, by halving: `None` where there is none. Takes no memory.
+pub fn number_of(files: &[NamedFacts], path: &str) -> Option<FileNo>
+    requires { IsInPathOrder files.now }
+    ensures { result ≡ position (λ file. bytes_eq file.path path.now) files.now }
+{
+    files.binary_search_by(|file| file.path_cmp(path)).ok()
+}
+
+/// The number that a file with this path gets if it joins these files, which are in the order of their paths and none of which has the path.
+/// Found by halving; takes no memory.
+pub fn place_for(files: &[NamedFacts], path: &str) -> FileNo
+    ensures { (at : ℕ) (file : NamedFacts) → file.path ≡ path.now → at ≤ length files.now → IsInPathOrder (insert files.now at file) → result ≡ at }
+{
+    files.partition_point(|file| file.path_cmp(path).is_lt())
+}
+
+// The number of the file that an import with the text names, if any; none begins with a slash.
 pub fn file_named(files: &[NamedFacts], path: &str) -> Option<FileNo>
     requires { IsInPathOrder files.now }
     ensures { result ≡ file_named files.now path.now }
@@ -57,5 +73,5 @@ pub fn file_named(files: &[NamedFacts], path: &str) -> Option<FileNo>
     if is_rooted(path) {
         return None;
     }
-    files.binary_search_by(|file| file.path_cmp(path)).ok()
+    number_of(files, path)
 }

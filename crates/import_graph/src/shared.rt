@@ -7,7 +7,7 @@ ghost use Rattle.import_graph.specs.Coming.{HasNoList};
 ghost use Rattle.import_graph.specs.Condensed.{representative};
 ghost use Rattle.import_graph.specs.Shared.{IsStart, LeadsAlike, AreShared, Fills, list_at, number_at};
 
-use crate::coming::renumber_rows;
+use crate::coming::make_way;
 use crate::components::components_of;
 use crate::condensed::representatives_of;
 use crate::file_search::{ascending, reached};
@@ -150,14 +150,14 @@ impl SharedLists {
     // then.
     pub fn with_file(self, at: FileNo) -> Result<SharedLists, AllocError>
         requires place { at ≤ vec_len self.numbers }
-        requires small { All (AllWithin 18446744073709551615) self.lists.items }
+        requires small { All (AllWithin (vec_len self.numbers)) self.lists.items }
         ensures { IfOk result (HasNoList at self) }
     {
         let SharedLists {
             mut numbers,
             mut lists,
         } = self;
-        renumber_rows(at, &mut lists);
+        make_way(at, numbers.len(), &mut lists);
         numbers.insert(at, None)?;
         Ok(SharedLists { numbers, lists })
     }

@@ -1,5 +1,5 @@
 -- Entries dealt into lists, one for each bucket.
-use Rattle.std.proofs.Common.{◌≡◌, ◌∙◌, sym, ap, ap₂, subst, refl, inl, inr, suc, zero, ◌<◌, ◌+◌, ◌%◌, ℕ, List, [], ◌∷◌, ◌++◌, append_assoc, append-nil, true, false, map, filter, length, get_or, set, arith}
+use Rattle.std.proofs.Common.{◌≡◌, ◌∙◌, sym, ap, ap₂, subst, refl, inl, inr, suc, zero, ◌<◌, ◌%◌, ℕ, List, [], ◌∷◌, ◌++◌, append_assoc, append-nil, true, false, map, filter, length, get_or, set, arith}
 use Rattle.std.specs.Prelude.{All}
 use Rattle.std.specs.List.Sorted.{IsPermutation, IsSorted}
 use Rattle.std.specs.declared.cmp.Ordering.{Ordering}

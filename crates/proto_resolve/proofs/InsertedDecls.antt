@@ -2,7 +2,7 @@
 use Rattle.std.proofs.Common.{◌≡◌, ◌∙◌, sym, ap, subst, refl, ◌<◌, ◌≤◌, ◌+◌, ℕ, zero, suc, List, [], ◌∷◌, ◌++◌, append_assoc, append-nil, map, length, arith}
 use Rattle.std.specs.Prelude.{All}
 use Rattle.std.specs.List.{enumerate_from, flat_map, insert, splice}
-use Rattle.std.proofs.lemmas.List.{get_or-map, length-append, length-map, map-append}
+use Rattle.std.proofs.lemmas.List.{get_or-map, length-append, map-append}
 use Rattle.std.proofs.lemmas.List.Edits.{get_or-insert_at, length-insert}
 use Rattle.std.proofs.lemmas.List.Elements.{All-append, All-nil, All-weaker}
 use Rattle.file_facts.specs.declared.fact.Decl.{Decl}

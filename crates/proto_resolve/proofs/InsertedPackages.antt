@@ -1,22 +1,25 @@
 -- The files that have packages, before and after another file came to them.
-use Rattle.std.proofs.Common.{◌≡◌, ◌∙◌, sym, ap, ap₂, subst, refl, ◌<◌, ◌≤◌, ◌+◌, ℕ, zero, suc, List, [], ◌∷◌, ◌++◌, append_assoc, map, length, get_or, Option, Some, None, arith}
-use Rattle.std.specs.Prelude.{All}
+use Rattle.std.proofs.Common.{◌≡◌, ◌∙◌, sym, ap, ap₂, subst, refl, ◌<◌, ◌≤◌, ◌+◌, ℕ, zero, suc, List, [], ◌∷◌, ◌++◌, append_assoc, Bool, true, false, map, length, get_or, Option, Some, None, Result, Ok, Err, arith}
+use Rattle.std.specs.Prelude.{All, OnOk}
+use Rattle.std.specs.Cmp.{IsStrictWeakOrder}
+use Rattle.std.specs.Cmp.Lexicographic.{slice_cmp}
 use Rattle.std.specs.List.{enumerate_from, flat_map, insert}
-use Rattle.std.specs.List.Sorted.{IsPermutation}
-use Rattle.std.proofs.lemmas.List.{get_or-map, map-append}
+use Rattle.std.specs.List.Sorted.{IsPartitionPoint, IsPermutation}
+use Rattle.std.specs.Ordering.{nat_cmp, is_lt}
+use Rattle.std.proofs.lemmas.Cmp.{nat_list_cmp_total}
+use Rattle.std.proofs.lemmas.List.{get_or-map, length-map, map-append}
 use Rattle.std.proofs.lemmas.List.Edits.{get_or-insert_at, length-insert}
-use Rattle.std.proofs.lemmas.List.Elements.{All-append, All-cons, All-head, All-nil, All-tail, All-weaker}
-use Rattle.std.proofs.lemmas.List.Sorted.{All-permutation, IsPermutation-append_comm, IsPermutation-append_left, IsPermutation-append_right, IsPermutation-map, IsPermutation-trans}
+use Rattle.std.proofs.lemmas.List.Elements.{All-append, All-cons, All-head, All-map, All-nil, All-tail, All-weaker}
+use Rattle.std.proofs.lemmas.List.Sorted.{ranks_by, All-permutation, IsPermutation-append_comm, IsPermutation-append_left, IsPermutation-append_right, IsPermutation-insert, IsPermutation-map, IsPermutation-sym, IsPermutation-to_front, IsPermutation-trans}
 use Rattle.file_facts.specs.declared.fact.FileFacts.{FileFacts}
 use Rattle.file_facts.specs.declared.fact.PackageFact.{PackageFact}
 use Rattle.file_facts.specs.FullNames.{dot}
 use Rattle.import_graph.specs.declared.paths.NamedFacts.{NamedFacts}
-use Rattle.proto_resolve.specs.declared.moving.Change.TheVariants.{Comes}
 use Rattle.proto_resolve.specs.declared.packages.PackagedFile.{PackagedFile}
 use Rattle.proto_resolve.specs.Bases.{HadOtherPackages}
 use Rattle.proto_resolve.specs.Files.{facts_at, no_facts}
-use Rattle.proto_resolve.specs.Moved.{number_after}
-use Rattle.proto_resolve.specs.Packages.{all_packaged, moved, packaged, AreByPackage, ArePackaged}
+use Rattle.proto_resolve.specs.Packages.{all_packaged, moved, packaged, AreByPackage, AreNoLonger, ArePackaged}
+use Rattle.proto_resolve.proofs.Leaving.{inserted_sorted}
 use Rattle.proto_resolve.proofs.MovedFiles.{before_it, from_it, nobody}
 
 abbrev package_in : NamedFacts → Option PackageFact
@@ -129,10 +132,10 @@ module _ (files : List NamedFacts) (k : ℕ) (list : List PackagedFile) (had : H
       let same : length files ≡ length (insert had.others k came.file) = ap length came.files_are in
       ap (λ (facts : FileFacts). facts.«package») (sym (get_or-map (λ (x : NamedFacts). x.facts) files k d no_facts (omega (arith, long, same, came.within))))
 
-  -- those renumbered, and the one that came
-  pub come : (added sorted : List PackagedFile) → added ≡ map (moved k) list ++ packaged k (let facts = facts_at files k in facts.«package») → IsPermutation added sorted → AreByPackage sorted → ArePackaged files sorted
+  -- those that had packages with their new numbers, and its own, if it has one
+  all_are : IsPermutation (all_packaged files) (map (moved k) list ++ packaged k (let facts = facts_at files k in facts.«package»))
   unfolding own
-  come added sorted are same ordered =
+  all_are =
       let w = way in
       let behind : List PackagedFile = map (moved k) w.rest in
       let others : IsPermutation (w.front ++ behind) (map (moved k) list) =
@@ -143,8 +146,51 @@ module _ (files : List NamedFacts) (k : ℕ) (list : List PackagedFile) (had : H
       (IsPermutation-append_right w.front (own ++ behind) (behind ++ own) (IsPermutation-append_comm own behind)) in
       let both : IsPermutation (w.front ++ (own ++ behind)) (map (moved k) list ++ own) =
       IsPermutation-trans (w.front ++ (own ++ behind)) ((w.front ++ behind) ++ own) (map (moved k) list ++ own) last (IsPermutation-append_left own (w.front ++ behind) (map (moved k) list) others) in
-      record {
-        all = IsPermutation-trans (all_packaged files) added sorted
-            (subst (λ ps. IsPermutation (all_packaged files) ps) (sym are) (subst (λ ps. IsPermutation ps (map (moved k) list ++ own)) (sym w.are) both)) same;
-        ordered = ordered;
-      }
+      subst (λ ps. IsPermutation ps (map (moved k) list ++ own)) (sym w.are) both
+
+  pub come : (now : List PackagedFile) → IsPermutation (map (moved k) list ++ packaged k (let facts = facts_at files k in facts.«package»)) now → AreByPackage now → ArePackaged files now
+  come now same ordered = record {
+    all = IsPermutation-trans (all_packaged files) (map (moved k) list ++ packaged k (let facts = facts_at files k in facts.«package»)) now all_are same;
+    ordered = ordered;
+  }
+
+  -- none of the names is longer than the longest of the others' and its own
+  pub no_longer : (before longest : ℕ) (now : List PackagedFile) → AreNoLonger before list → before ≤ longest → AreNoLonger longest (packaged k (let facts = facts_at files k in facts.«package»))
+      → ArePackaged files now → AreNoLonger longest now
+  no_longer before longest now others le its are =
+      let facts_there = facts_at files k in
+      let fits : PackagedFile → Type 0 = λ p. length p.name ≤ longest in
+      let renumbered : All fits (map (moved k) list) =
+      All-map fits (moved k) list (All-weaker (λ p. length p.name ≤ before) fits (λ p shorter. omega (arith, shorter, le)) list others) in
+      All-permutation fits (all_packaged files) now are.all
+      (All-permutation fits (map (moved k) list ++ packaged k facts_there.«package») (all_packaged files)
+      (IsPermutation-sym (all_packaged files) (map (moved k) list ++ packaged k facts_there.«package») all_are)
+      (All-append fits (map (moved k) list) (packaged k facts_there.«package») renumbered its))
+
+-- what a call ensures in two clauses
+pub both_so : {T E P Q R : Type 0} (r : Result T E) → OnOk r P → OnOk r Q → (P → Q → R) → OnOk r R
+both_so (Ok v) p q f = f p q
+both_so (Err e) p q f = tt
+
+-- ---- their order
+
+-- it speaks of names alone
+pub moved_by_package : (k : ℕ) (list : List PackagedFile) → AreByPackage list → AreByPackage (map (moved k) list)
+moved_by_package k list ordered n d from lt =
+    let inside : n + 1 < length list = omega (arith, lt, length-map list (moved k)) in
+    let first : n < length list = omega (arith, inside) in
+    rw (get_or-map (moved k) list (n + 1) d d inside, get_or-map (moved k) list n d d first) (ordered n d from inside)
+
+module _ (list : List PackagedFile) (one : PackagedFile) (place : ℕ) where
+  abbrev is_before : PackagedFile → PackagedFile → Bool
+  is_before a b = is_lt (slice_cmp nat_cmp a.name b.name)
+
+  pub stays_by_package : AreByPackage list → place ≤ length list → IsPartitionPoint (λ p. is_before p one ≡ true) (λ p. is_before p one ≡ false) list place → AreByPackage (insert list place one)
+  stays_by_package ordered within between =
+      let weak : IsStrictWeakOrder is_before = ranks_by nat_list_cmp_total (λ (p : PackagedFile). p.name) in
+      inserted_sorted is_before weak list ordered place one within
+      (λ n d last. weak.one_way (get_or list n d) one (between.0 n d (omega arith) (omega (arith, last))))
+      (λ d lt. between.1 place d (omega arith) lt)
+
+  pub is_there : IsPermutation (list ++ one ∷ []) (insert list place one)
+  is_there = IsPermutation-trans (list ++ one ∷ []) (one ∷ list) (insert list place one) (IsPermutation-to_front list one) (IsPermutation-insert list place one)

@@ -30,8 +30,8 @@ module _ {X : Type 0} (lt : X → X → Bool) (o : IsStrictWeakOrder lt) (xs : L
       let from : place ≤ k = omega (arith, later) in
       rw (next, get_or-insert_above xs place one d k from within) (sorted k d (omega arith) (omega (arith, inside)))
 
-  -- put between one that doesn't come behind it and one that does
-  pub inserted_sorted : (one : X) → place ≤ length xs → ((n : ℕ) (d : X) → n + 1 ≡ place → lt one (get_or xs n d) ≡ false) → ((d : X) → place < length xs → lt one (get_or xs place d) ≡ true) → IsSortedBy lt (insert xs place one)
+  -- put between two that stand in order with it
+  pub inserted_sorted : (one : X) → place ≤ length xs → ((n : ℕ) (d : X) → n + 1 ≡ place → lt one (get_or xs n d) ≡ false) → ((d : X) → place < length xs → lt (get_or xs place d) one ≡ false) → IsSortedBy lt (insert xs place one)
   inserted_sorted one within before behind k d from inside =
       let long : k + 1 < length xs + 1 = omega (arith, inside, length-insert xs place one within) in
       elim (cases_lt (k + 1) place) [
@@ -50,7 +50,7 @@ module _ {X : Type 0} (lt : X → X → Bool) (o : IsStrictWeakOrder lt) (xs : L
                 | inl at ↦
                     let here : place < length xs = omega (arith, at, long) in
                     subst (λ i. lt (get_or xs i d) (get_or (insert xs place one) i d) ≡ false) at
-                    (rw (get_or-insert_at xs place one d within) (o.one_way one (get_or xs place d) (behind d here)))
+                    (rw (get_or-insert_at xs place one d within) (behind d here))
                 | inr other ↦ behind_inserted one within k d (omega (arith, later, other)) (omega (arith, long))
               ])
         ]
@@ -150,10 +150,11 @@ module _ (order : HashedDecl → HashedDecl → Ordering) (total : IsTotalOrder 
       let standing : StandIn are.sorted before = record { hashes_are = are.hashes_are; decls_are = are.decls_are } in
       let within : place ≤ length are.sorted = omega (arith, inside, ap length are.hashes_are, length-map are.sorted (λ (k : HashedDecl). k.hash)) in
       let goes = between are.sorted standing in
+      let weak : IsStrictWeakOrder (λ a b. is_lt (order a b)) = ranks_by total (λ k. k) in
       record {
         sorted = insert are.sorted place one;
         same = λ p. omega (arith, are.same p, counted_both p entries (one ∷ []), counted_both p (one ∷ []) are.sorted, same_moved (one ∷ are.sorted) (insert are.sorted place one) (IsPermutation-insert are.sorted place one) p);
-        ordered = inserted_sorted (λ a b. is_lt (order a b)) (ranks_by total (λ k. k)) are.sorted are.ordered place one within goes.before goes.behind;
+        ordered = inserted_sorted (λ a b. is_lt (order a b)) weak are.sorted are.ordered place one within goes.before (λ d lt. weak.one_way one (get_or are.sorted place d) (goes.behind d lt));
         hashes_are = hashes ∙ ap (λ es. insert es place one.hash) are.hashes_are ∙ map_inserted (λ (k : HashedDecl). k.hash) are.sorted place one;
         decls_are = decls ∙ ap (λ es. insert es place one.decl) are.decls_are ∙ map_inserted (λ (k : HashedDecl). k.decl) are.sorted place one;
       }

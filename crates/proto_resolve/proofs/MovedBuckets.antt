@@ -1,5 +1,5 @@
 -- Buckets of files with one more, and of those without it.
-use Rattle.std.proofs.Common.{◌≡◌, ◌∙◌, sym, ap, ap₂, subst, refl, ◌<◌, ◌≤◌, ◌+◌, ◌-◌, ℕ, List, [], ◌++◌, append-nil, Bool, true, false, not, map, filter, get_or, length, arith}
+use Rattle.std.proofs.Common.{◌≡◌, ◌∙◌, sym, ap, ap₂, subst, refl, ◌<◌, ◌≤◌, ◌+◌, ◌-◌, ℕ, List, [], ◌∷◌, ◌++◌, append-nil, Bool, true, false, not, map, filter, get_or, length, arith}
 use Rattle.std.specs.Prelude.{All, nat_lt}
 use Rattle.std.specs.List.{insert, range_with_len, remove}
 use Rattle.std.specs.List.Sorted.{IsSorted}
@@ -9,7 +9,7 @@ use Rattle.std.proofs.Math.Path.{fun_ext}
 use Rattle.std.proofs.lemmas.Bool.Decides.{nat_tests}
 use Rattle.std.proofs.lemmas.List.{get_or-map, length-map, map-id}
 use Rattle.std.proofs.lemmas.List.Edits.{length-insert, length-remove}
-use Rattle.std.proofs.lemmas.List.Elements.{All-map, All-weaker, filter_passes}
+use Rattle.std.proofs.lemmas.List.Elements.{All-head, All-map, All-tail, All-weaker, filter_passes}
 use Rattle.std.proofs.lemmas.Simd.{map-map}
 use Rattle.file_facts.specs.declared.fact.Decl.{Decl}
 use Rattle.file_facts.specs.FullNames.{hash_of, last_of}
@@ -30,7 +30,7 @@ use Rattle.proto_resolve.proofs.ByLast.{keeps_fits}
 use Rattle.proto_resolve.proofs.Entries.{all_within}
 use Rattle.proto_resolve.proofs.Hashes.{keeps_mapped}
 use Rattle.proto_resolve.proofs.InBuckets.{buckets_moved}
-use Rattle.proto_resolve.proofs.MovedFiles.{decl_moved, moved_back, name_moved, names_come, names_leave, nobody, one_more_at_most, others_moved, put_back, scopes_come, scopes_leave}
+use Rattle.proto_resolve.proofs.MovedFiles.{decl_moved, moved_back, moved_before, name_moved, names_come, names_leave, nobody, one_more_at_most, others_moved, put_back, scopes_come, scopes_leave}
 use Rattle.proto_resolve.proofs.Replaced.{another, holders_gathered, names_gathered, not_there, numbered, numbered_from, parted}
 use Rattle.proto_resolve.proofs.Same.{same_all, same_mapped}
 
@@ -105,6 +105,21 @@ small_buckets order es bs m are all n d lt =
     same_all (IsBelow m) (λ k. not (nat_lt (let r = k.decl in r.file) m)) (λ k e. lower_so (let r = k.decl in r.file) m e) (λ k le. lower_is (let r = k.decl in r.file) m le)
     (filter (is_in (length bs) n) es) here.sorted here.same (keeps_fits (IsBelow m) (is_in (length bs) n) es all) in
     rw here.decls_are (All-map (λ (r : DeclRef). r.file < m) (λ (k : HashedDecl). k.decl) here.sorted sorted)
+
+-- no number changes where all are in front
+all_stay : (at count : ℕ) (bs : List HashedDecls) → count ≤ at + 1 → All (λ b. All (λ r. r.file + 1 < count) (decls_in b)) bs → map decls_in bs ≡ map (λ b. map (moved Comes at) (decls_in b)) bs
+all_stay at count [] last all = refl
+all_stay at count (b ∷ bs) last all =
+    let small : All (λ r. r.file + 1 < count) (decls_in b) = All-head (λ b. All (λ r. r.file + 1 < count) (decls_in b)) b bs all in
+    ap₂ (λ (d : List DeclRef) (ds : List (List DeclRef)). d ∷ ds)
+    (sym (moved_before at (decls_in b) (All-weaker (λ r. r.file + 1 < count) (λ r. r.file < at) (λ r lt. omega (arith, lt, last)) (decls_in b) small)))
+    (all_stay at count bs last (All-tail (λ b. All (λ r. r.file + 1 < count) (decls_in b)) b bs all))
+
+pub buckets_before : (at count : ℕ) (bs : List HashedDecls) → count ≤ at + 1 → All (λ b. All (λ r. r.file + 1 < count) (decls_in b)) bs → AreMoved Comes at bs bs
+buckets_before at count bs last all = record {
+  hashes_stay = refl;
+  decls_are = all_stay at count bs last all;
+}
 
 abbrev pub lasts : List NamedFacts → DeclRef → List ℕ
 lasts files r = last_of (name_at files r)

@@ -1,5 +1,6 @@
 // The numbers of files in buckets, once another file comes between them or one of them leaves.
-ghost use Rattle.std.specs.Prelude.{◌≡◌, ◌<◌, ℕ, All, map};
+ghost use Rattle.std.specs.Prelude.{◌≡◌, ◌<◌, ◌+◌, ℕ, All, map};
+ghost use Rattle.proto_resolve.specs.declared.moving.Change.TheVariants.{Comes};
 ghost use Rattle.proto_resolve.specs.Moved.{number_after, moved, AreMoved};
 
 use crate::buckets::Buckets;
@@ -43,6 +44,17 @@ impl Buckets {
     {
         for bucket in self.list.iter_mut() {
             renumber(change, at, &mut bucket.decls);
+        }
+    }
+
+    // Names all declarations by the numbers of the files, once one comes to the place `at`, so that there are so many. If that is the last
+    // place, no number changes.
+    pub fn make_way(&mut self, at: usize, count: usize)
+        requires { All (λ b. All (λ r. r.file + 1 < count) b.decls.items) self.old.list.items }
+        ensures { AreMoved Comes at self.old.list.items self.new.list.items }
+    {
+        if count.saturating_sub(at) > 1 {
+            self.renumber(Change::Comes, at);
         }
     }
 }

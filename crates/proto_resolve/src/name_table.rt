@@ -53,6 +53,15 @@ impl Model for NameTable {
     ghost invariant = { λ t. AreByName t.files.items t.names t.holders };
 }
 
+// A table gets one entry anew in the time in which so many of a bucket are compared and moved, by measurement.
+const MOVES_OF_ONE: usize = 32;
+
+// A bucket with more entries than so many is long. It may be that many declarations have one name, or that buckets are few for all entries.
+const LONG_BUCKET: usize = 256;
+
+// Buckets are few for all entries if each has more than so many, on the average. A table that is made anew has at most 64 for each.
+const CROWDED_BUCKET: usize = 128;
+
 // All declarations of some files by full name, where the hashes of these are given.
 fn names_in_buckets(
     alloc: Global,
@@ -87,6 +96,28 @@ fn count_in(entries: &[HashedDecl], lens: &mut Vec<usize>) -> usize
     moves
 }
 
+// How many entries there are in buckets.
+fn entry_count(buckets: &Buckets) -> usize {
+    let mut count = 0usize;
+    for bucket in buckets.list.as_slice() {
+        count = count.saturating_add(bucket.hashes.len());
+    }
+    count
+}
+
+// Whether there are far more entries than buckets are meant for, as after many files came one by one. They are counted only if one
+// that comes falls into a long bucket. Only time depends on the answer.
+fn is_crowded(buckets: &Buckets, come: &[HashedDecl]) -> bool
+    requires { 0 < length buckets.now.list.items }
+{
+    for one in come {
+        if buckets.of_hash(one.hash).hashes.len() > LONG_BUCKET {
+            return entry_count(buckets) / buckets.list.len() > CROWDED_BUCKET;
+        }
+    }
+    false
+}
+
 // Whether it takes longer that these entries go and come one by one than that a table gets all entries anew, as where many are in one
 // bucket. Only time depends on the answer. An `Err` comes only where memory was refused.
 fn is_slow(
@@ -97,15 +128,29 @@ fn is_slow(
 ) -> Result<bool, AllocError>
     requires { 0 < length buckets.now.list.items }
 {
+    // (with so few the answer is no: each compares and moves every entry once at most)
+    if gone.len().saturating_add(come.len()) < MOVES_OF_ONE {
+        return Ok(false);
+    }
     let mut lens = Vec::with_capacity(alloc, buckets.list.len())?;
-    let mut all = come.len();
     for bucket in buckets.list.as_slice() {
         lens.push(bucket.hashes.len())?;
-        all = all.saturating_add(bucket.hashes.len());
     }
+    let all = entry_count(buckets).saturating_add(come.len());
     let moves = count_in(gone, &mut lens).saturating_add(count_in(come, &mut lens));
-    // (a table gets one entry anew in the time in which 32 of a bucket are compared and moved, by measurement)
-    Ok(moves / 32 > all)
+    Ok(moves / MOVES_OF_ONE > all)
+}
+
+// Whether a table is to get all entries anew, and not only these. Only time depends on the answer. An `Err` comes only where memory was refused.
+fn is_due(
+    alloc: Global,
+    buckets: &Buckets,
+    gone: &[HashedDecl],
+    come: &[HashedDecl],
+) -> Result<bool, AllocError>
+    requires { 0 < length buckets.now.list.items }
+{
+    Ok(is_crowded(buckets, come) || is_slow(alloc, buckets, gone, come)?)
 }
 
 // The table of the files, where the buckets have entries of other files, before a change: those are gone, and these come. An `Err` comes
@@ -122,8 +167,8 @@ fn with_entries(
     requires holders { WereInBuckets (λ old. by_scope (name_at old)) holder_entries files.items gone.now.holders.items come.now.holders.items holders.list.items }
     ensures { IfOk result (λ t. t ≡ files.items) }
 {
-    if is_slow(alloc, &names, gone.names.as_slice(), come.names.as_slice())?
-        || is_slow(
+    if is_due(alloc, &names, gone.names.as_slice(), come.names.as_slice())?
+        || is_due(
             alloc,
             &holders,
             gone.holders.as_slice(),
@@ -305,8 +350,8 @@ impl NameTable {
             mut holders,
         } = self;
         files.insert(at, file)?;
-        names.renumber(Change::Comes, at);
-        holders.renumber(Change::Comes, at);
+        names.make_way(at, files.len());
+        holders.make_way(at, files.len());
         let gone = OwnEntries {
             names: Vec::new(alloc),
             holders: Vec::new(alloc),

@@ -1,10 +1,10 @@
 // The files that have packages, by the full names of these, each with a dot behind it. Those with the same first components
 // stand together so.
-ghost use Rattle.std.specs.Prelude.{◌≡◌, ◌<◌, ◌≤◌, ◌+◌, ◌++◌, ◌∷◌, ◌&&◌, [], ℕ, List, Bool, All, IfOk, OnOk, false, length, map, take, nat_eq, string_bytes};
+ghost use Rattle.std.specs.Prelude.{◌≡◌, ◌<◌, ◌≤◌, ◌+◌, ◌++◌, ◌∷◌, ◌&&◌, [], ℕ, List, Bool, All, IfOk, OnOk, false, true, length, map, take, nat_eq, string_bytes};
 ghost use Rattle.std.specs.Cmp.Lexicographic.{slice_cmp};
 ghost use Rattle.std.specs.Ordering.{is_lt, nat_cmp};
 ghost use Rattle.std.specs.List.{list_any, starts_with};
-ghost use Rattle.std.specs.List.Sorted.{IsNonDecreasing, IsPermutation};
+ghost use Rattle.std.specs.List.Sorted.{IsNonDecreasing, IsPartitionPoint, IsPermutation};
 ghost use Rattle.file_facts.specs.Text.{joined};
 ghost use Rattle.proto_resolve.specs.Bases.{HadOtherPackages};
 ghost use Rattle.proto_resolve.specs.Files as spec;
@@ -214,6 +214,46 @@ fn make_way(at: usize, count: usize, found: &mut Vec<PackagedFile>)
     }
 }
 
+// The place of a name among files by their packages: those before it come before the name, and those from there on don't.
+fn place_among(found: &[PackagedFile], name: &str) -> usize
+    requires { AreByPackage found.now }
+    ensures within { result ≤ length found.now }
+    ensures between { IsPartitionPoint (λ p. is_lt (slice_cmp nat_cmp p.name name.now) ≡ true) (λ p. is_lt (slice_cmp nat_cmp p.name name.now) ≡ false) found.now result }
+{
+    found.partition_point(|file| file.name.as_str().cmp(name).is_lt())
+}
+
+// Puts a file in its place among those by their packages.
+fn put_among(one: PackagedFile, found: &mut Vec<PackagedFile>) -> Result<(), AllocError>
+    requires { AreByPackage found.old.items }
+    ensures sorted { OnOk result (AreByPackage found.new.items) }
+    ensures same { OnOk result (IsPermutation (found.old.items ++ one ∷ []) found.new.items) }
+{
+    let place = place_among(found, one.name.as_str());
+    found.insert(place, one)?;
+    Ok(())
+}
+
+// Does so with the file of this number, from 0, if it has a package.
+fn put_packaged(
+    alloc: Global,
+    file: usize,
+    package: &Option<PackageFact>,
+    found: &mut Vec<PackagedFile>,
+) -> Result<(), AllocError>
+    requires { AreByPackage found.old.items }
+    ensures sorted { OnOk result (AreByPackage found.new.items) }
+    ensures same { OnOk result (IsPermutation (found.old.items ++ packages.packaged file «package».now) found.new.items) }
+{
+    match package {
+        None => Ok(()),
+        Some(package) => {
+            let name = with_dot(alloc, &package.full_name)?;
+            put_among(PackagedFile { name, file }, found)
+        }
+    }
+}
+
 // The files that have packages, by these, among which the one of the number `at`, from 0, came to those that had them before. An `Err` comes
 // only where memory was refused; what is there then is neither.
 pub fn add_packaged(
@@ -226,9 +266,7 @@ pub fn add_packaged(
     ensures { OnOk result (ArePackaged files.now found.new.items) }
 {
     make_way(at, files.len(), found);
-    push_packaged(alloc, at, &files[at].facts.get().package, found)?;
-    sort_by_package(found);
-    Ok(())
+    put_packaged(alloc, at, &files[at].facts.get().package, found)
 }
 
 // A length that none of the names exceeds: that of the longest.
@@ -240,6 +278,18 @@ pub fn longest_of(files: &[PackagedFile]) -> usize
         longest = file.name.as_str().len().max(longest);
     }
     longest
+}
+
+// A length that none of the names exceeds once a file with this package, or without one, came to those of which none exceeds this
+// length.
+pub fn longest_with(longest: usize, package: &Option<PackageFact>) -> usize
+    ensures others { longest ≤ result }
+    ensures own { (file : ℕ) → AreNoLonger result (packages.packaged file «package».now) }
+{
+    match package {
+        None => longest,
+        Some(package) => longest.max(package.full_name.as_str().len() + 1),
+    }
 }
 
 // Of files by their packages, of which none has a longer name than this, those whose package has the name or lies in it.

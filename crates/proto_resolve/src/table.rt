@@ -1,5 +1,6 @@
 // An index that holds its files.
-ghost use Rattle.std.specs.Prelude.{◌≡◌, ◌<◌, ◌≤◌, ◌↔◌, length, IfOk, IsFalse};
+ghost use Rattle.std.specs.Prelude.{◌≡◌, ◌<◌, ◌≤◌, ◌↔◌, ℕ, None, bytes_eq, length, position, IfOk, IsFalse};
+ghost use Rattle.import_graph.specs.declared.paths.NamedFacts.{NamedFacts};
 ghost use Rattle.std.specs.List.{insert, remove};
 ghost use Rattle.import_graph.specs.Arrivals.{NobodyImports};
 ghost use Rattle.import_graph.specs.Imports.{graph_of};
@@ -17,7 +18,7 @@ use crate::packages::{PackagedFile, of_package};
 use crate::table_base::TableBase;
 use crate::target::DeclRef;
 use file_facts::{FileFacts, FullName, NameParts};
-use import_graph::{Graph, NamedFacts, SharedFacts, is_imported};
+use import_graph::{FileNo, Graph, NamedFacts, SharedFacts, number_of, place_for};
 use std::alloc::{AllocError, Global};
 use std::marker::Model;
 
@@ -150,11 +151,28 @@ impl Table {
         Ok((Table::of_parts(names, made), base.graph))
     }
 
-    /// Whether an import of one of the files has the path. Takes no memory.
+    /// The number, from 0, of the file with a path; `None` where there is none. Found by halving; takes no memory.
+    pub fn number_of(&self, path: &str) -> Option<FileNo>
+        ensures { result ≡ position (λ file. bytes_eq file.path path.now) self.now }
+    {
+        number_of(self.names.files(), path)
+    }
+
+    /// The number, from 0, that a file with this path gets if it joins the files, none of which has the path. Found by halving; takes no
+    /// memory.
+    pub fn place_for(&self, path: &str) -> FileNo
+        ensures { (at : ℕ) (file : NamedFacts) → file.path ≡ path.now → at ≤ length self.now → IsInPathOrder (insert self.now at file) → result ≡ at }
+    {
+        place_for(self.names.files(), path)
+    }
+
+    /// Whether an import of one of the files has a path that none of them has. It looks only at files that import a missing or an opaque one,
+    /// and takes no memory.
     pub fn is_imported(&self, path: &str) -> bool
+        requires { position (λ file. bytes_eq file.path path.now) self.now ≡ None }
         ensures { IsFalse result ↔ NobodyImports self.now path.now }
     {
-        is_imported(self.names.files(), path)
+        self.base.graph.is_imported(self.names.files(), path)
     }
 
     /// The table with one more file, which none of the others imports and which gets the number `at`, counted from 0: those from there on

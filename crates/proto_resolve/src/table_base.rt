@@ -3,7 +3,7 @@ ghost use Rattle.std.specs.Prelude.{IfOk};
 ghost use Rattle.import_graph.specs.Paths.{IsInPathOrder};
 ghost use Rattle.proto_resolve.specs.Bases.{IsBaseOf, WasBaseOf, WasBaseOfOthers};
 
-use crate::packages::{PackagedFile, add_packaged, longest_of, packaged_files};
+use crate::packages::{PackagedFile, add_packaged, longest_of, longest_with, packaged_files};
 use import_graph::{Graph, NamedFacts};
 use std::alloc::{AllocError, Global};
 
@@ -71,11 +71,11 @@ impl TableBase {
         let TableBase {
             graph,
             mut packaged,
-            ..
+            longest,
         } = self;
         let graph = graph.with_file(files, at)?;
         add_packaged(alloc, files, at, &mut packaged)?;
-        let longest = longest_of(packaged.as_slice());
+        let longest = longest_with(longest, &files[at].facts.get().package);
         Ok(TableBase {
             graph,
             packaged,

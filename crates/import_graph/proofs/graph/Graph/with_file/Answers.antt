@@ -1,4 +1,4 @@
-use Rattle.std.proofs.Common.{◌≡◌, ◌∙◌, ◌+◌, ◌<◌, ap, sym, subst, ℕ, List, length, get_or, map, arith}
+use Rattle.std.proofs.Common.{◌≡◌, ◌∙◌, ◌+◌, ap, sym, subst, ℕ, List, length, get_or, map, arith}
 use Rattle.std.specs.Prelude.{All, vec_len}
 use Rattle.std.specs.List.{insert}
 use Rattle.std.proofs.lemmas.List.{length-map}
@@ -11,10 +11,6 @@ use Rattle.import_graph.proofs.GraphInserted.{own_there, with_own}
 use Rattle.import_graph.proofs.GraphWithFile.{graph_is, is_graph, new_within, own_of, own_within, room}
 use Rattle.import_graph.proofs.Views.{imports_within}
 use Rattle.import_graph.proofs.graph.Graph.with_file.Goals as goal
-
--- what a row has is small, if it is within a list
-all_small : (n : ℕ) (rows : List (List ℕ)) → n < 18446744073709551616 → All (AllWithin n) rows → All (AllWithin 18446744073709551615) rows
-all_small n rows lt within = λ k d there k' d' there'. let less = within k d there k' d' there' in omega (arith, less, lt)
 
 pub components_with-requires-clause-own : goal.components_with-requires-clause-own
 components_with-requires-clause-own c =
@@ -33,13 +29,20 @@ pub rows_with-requires-clause-small : goal.rows_with-requires-clause-small
 rows_with-requires-clause-small c =
     let old : List FileImports = c.self.inside.files.items in
     let stay : All (AllWithin (length (map targets old))) (map targets old) = imports_within old c.self.invariant.within in
-    rw c.self.invariant.imports (all_small (length (map targets old)) (map targets old) (omega (arith, length-map old targets, c.self.inside.files.ok.0, c.self.inside.files.ok.1, c.self.inside.files.small)) stay)
+    rw c.self.invariant.imports stay
+
+pub rows_with-requires-2-clause-small : goal.rows_with-requires-2-clause-small
+rows_with-requires-2-clause-small c =
+    let steps : List (List ℕ) = c.self.inside.steps.items in
+    subst (λ (n : ℕ). All (AllWithin n) steps) (sym c.self.invariant.counted) c.self.invariant.stay
 
 pub with_file-requires-clause-small : goal.with_file-requires-clause-small
 with_file-requires-clause-small c =
     let steps : List (List ℕ) = c.self.inside.steps.items in
-    let few : length steps < 18446744073709551616 = omega (arith, c.self.inside.steps.ok.0, c.self.inside.steps.ok.1, c.self.inside.steps.small) in
-    all_small (length steps) c.self.inside.shared.lists.items few c.self.invariant.lists.listed
+    let lists : List (List ℕ) = c.self.inside.shared.lists.items in
+    let rows : length c.self.inside.imports.items ≡ length c.self.inside.files.items = ap length c.self.invariant.imports ∙ length-map c.self.inside.files.items targets in
+    let as_many : length steps ≡ vec_len c.self.inside.shared.numbers = omega (arith, c.self.invariant.counted, c.self.invariant.lists.as_many, c.self.inside.shared.numbers.ok.0, rows) in
+    subst (λ (n : ℕ). All (AllWithin n) lists) as_many c.self.invariant.lists.listed
 
 pub invariant_of-result : goal.invariant_of-result
 invariant_of-result c =

@@ -5,17 +5,17 @@ use Rattle.proto_resolve.specs.Tables.{by_name, by_scope, holder_entries, name_a
 use Rattle.proto_resolve.proofs.MovedBuckets.{holders_below, holders_were, names_below, names_were, small_buckets}
 use Rattle.proto_resolve.proofs.name_table.NameTable.with_file.Goals as goal
 
-pub renumber-requires : goal.renumber-requires
-renumber-requires c =
+pub make_way-requires : goal.make_way-requires
+make_way-requires c = λ k d lt k' d' lt'.
     let old : List NamedFacts = c.self.inside.files.items in
-    let few : length old ≤ 18446744073709551615 = omega (arith, c.self.inside.files.ok, c.self.inside.files.small) in
-    small_buckets (by_name (name_at old)) (name_entries old) c.self.inside.names.list.items 18446744073709551615 c.self.invariant.names_are (names_below old 18446744073709551615 few)
+    let below = small_buckets (by_name (name_at old)) (name_entries old) c.self.inside.names.list.items (length old) c.self.invariant.names_are (names_below old (length old) (omega arith)) in
+    omega (arith, below k d lt k' d' lt', c.len.ensures, c.in_ok-insert.ensures.len, c.self.inside.files.ok)
 
-pub renumber-requires-2 : goal.renumber-requires-2
-renumber-requires-2 c =
+pub make_way-requires-2 : goal.make_way-requires-2
+make_way-requires-2 c = λ k d lt k' d' lt'.
     let old : List NamedFacts = c.self.inside.files.items in
-    let few : length old ≤ 18446744073709551615 = omega (arith, c.self.inside.files.ok, c.self.inside.files.small) in
-    small_buckets (by_scope (name_at old)) (holder_entries old) c.self.inside.holders.list.items 18446744073709551615 c.self.invariant.holders_are (holders_below old 18446744073709551615 few)
+    let below = small_buckets (by_scope (name_at old)) (holder_entries old) c.self.inside.holders.list.items (length old) c.self.invariant.holders_are (holders_below old (length old) (omega arith)) in
+    omega (arith, below k d lt k' d' lt', c.len-2.ensures, c.in_ok-insert.ensures.len, c.self.inside.files.ok)
 
 pub with_entries-requires-clause-names : goal.with_entries-requires-clause-names
 with_entries-requires-clause-names c =
@@ -24,7 +24,7 @@ with_entries-requires-clause-names c =
     let within : c.args.at ≤ length old = rw seen at c.requires in
     let new : c.as_slice.result.now ≡ insert old c.args.at c.args.file = c.as_slice.ensures.value ∙ c.in_ok-insert.ensures.items in
     rw (c.in_ok-insert.ensures.items, c.new.ensures.items)
-    (names_were old c.args.at c.args.file within c.in_ok-come.come.names.items c.self.inside.names.list.items c.renumber.new.self.list.items (rw new at c.in_ok-come.ensures.names) c.renumber.ensures
+    (names_were old c.args.at c.args.file within c.in_ok-come.come.names.items c.self.inside.names.list.items c.make_way.new.self.list.items (rw new at c.in_ok-come.ensures.names) c.make_way.ensures
     c.self.invariant.names_are)
 
 pub with_entries-requires-clause-holders : goal.with_entries-requires-clause-holders
@@ -34,5 +34,5 @@ with_entries-requires-clause-holders c =
     let within : c.args.at ≤ length old = rw seen at c.requires in
     let new : c.as_slice.result.now ≡ insert old c.args.at c.args.file = c.as_slice.ensures.value ∙ c.in_ok-insert.ensures.items in
     rw (c.in_ok-insert.ensures.items, c.new-2.ensures.items)
-    (holders_were old c.args.at c.args.file within c.in_ok-come.come.holders.items c.self.inside.holders.list.items c.renumber-2.new.self.list.items (rw new at c.in_ok-come.ensures.holders) c.renumber-2.ensures
+    (holders_were old c.args.at c.args.file within c.in_ok-come.come.holders.items c.self.inside.holders.list.items c.make_way-2.new.self.list.items (rw new at c.in_ok-come.ensures.holders) c.make_way-2.ensures
     c.self.invariant.holders_are)

@@ -1,3 +1,12 @@
+use Rattle.std.proofs.Common.{◌≡◌, ◌∙◌, List, Option, ap, subst}
+use Rattle.file_facts.specs.declared.fact.FileFacts.{FileFacts}
+use Rattle.file_facts.specs.declared.fact.PackageFact.{PackageFact}
+use Rattle.import_graph.specs.declared.paths.NamedFacts.{NamedFacts}
+use Rattle.proto_resolve.specs.declared.packages.PackagedFile.{PackagedFile}
+use Rattle.proto_resolve.specs.Bases.{HadOtherPackages}
+use Rattle.proto_resolve.specs.Files.{facts_at}
+use Rattle.proto_resolve.specs.Packages.{packaged, AreNoLonger}
+use Rattle.proto_resolve.proofs.InsertedPackages.{no_longer, package_is}
 use Rattle.proto_resolve.proofs.table_base.TableBase.with_file.Goals as goal
 
 pub with_file-requires-clause-arrived : goal.with_file-requires-clause-arrived
@@ -18,9 +27,17 @@ add_packaged-requires c =
     record { others = w.others; came = w.came; were = w.was.packaged }
 
 pub returns : goal.returns
-returns c = record {
-  ordered = c.requires.ordered;
-  graph = c.in_ok-graph.ensures;
-  packaged = c.in_ok-add_packaged.ensures;
-  longest = rw c.as_slice.ensures.value at c.longest_of-longest.ensures;
-}
+returns c =
+    let w = c.requires.came in
+    let files : List NamedFacts = c.args.files.now in
+    let list : List PackagedFile = c.args.self.packaged.items in
+    let had : HadOtherPackages files c.args.at list = record { others = w.others; came = w.came; were = w.was.packaged } in
+    let is : (let facts = c.get.result.now in facts.«package») ≡ (let facts = facts_at files c.args.at in facts.«package») =
+    ap (λ (facts : FileFacts). facts.«package») c.get.ensures ∙ package_is files c.args.at list had c.index-files-at.result in
+    let own = subst (λ (o : Option PackageFact). AreNoLonger c.longest_with-longest.result (packaged c.args.at o)) is (c.longest_with-longest.ensures.own c.args.at) in
+    record {
+      ordered = c.requires.ordered;
+      graph = c.in_ok-graph.ensures;
+      packaged = c.in_ok-add_packaged.ensures;
+      longest = no_longer files c.args.at list had c.args.self.longest c.longest_with-longest.result c.add_packaged.new.found.items w.was.longest c.longest_with-longest.ensures.others own c.in_ok-add_packaged.ensures;
+    }
