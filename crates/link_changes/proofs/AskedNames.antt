@@ -115,7 +115,7 @@ has_all-grows old new (n ∷ ns) more all =
     and_from (may_ask new n) (has_all new ns) (more n both.0) (has_all-grows old new ns more both.1)
 
 -- what may ask for any name has all
-has_all-any : (asked : Asked) (names : List (List ℕ)) → asked.all ≡ true → has_all asked names ≡ true
+pub has_all-any : (asked : Asked) (names : List (List ℕ)) → asked.all ≡ true → has_all asked names ≡ true
 has_all-any asked [] all = refl
 has_all-any asked (n ∷ ns) all = and_from (may_ask asked n) (has_all asked ns) (rw all refl) (has_all-any asked ns all)
 

@@ -19,7 +19,7 @@ pub struct Asked {
     uses: Vec<u32>,
     // The keys of those that it declares, in no order.
     declares: Vec<u32>,
-    // Whether it may ask for any name. Of a tree that is parsed it never does: each name there has a component.
+    // Whether it may ask for any name. What `of` makes of a parsed tree never does: each name there has a component.
     all: bool,
 }
 
@@ -47,6 +47,17 @@ impl Asked {
             uses: Vec::from_slice(alloc, asked.uses.as_slice())?,
             ..asked
         })
+    }
+
+    /// Asks for every full name: for a file of which it doesn't matter for which names it asks. It takes no memory.
+    pub fn any(alloc: Global) -> Asked
+        ensures { (names : List (List ℕ)) → has_all result names ≡ true }
+    {
+        Asked {
+            uses: Vec::new(alloc),
+            declares: Vec::new(alloc),
+            all: true,
+        }
     }
 
     // Adds what the names of statements, and of all inside them, may ask for.

@@ -1,8 +1,8 @@
 -- What is known of files before some came, left or got other texts.
-use Rattle.std.proofs.Common.{◌≡◌, ◌≢◌, ◌<◌, ◌≤◌, ◌+◌, ◌||◌, ℕ, zero, suc, List, [], ◌∷◌, ◌++◌, Bool, true, false, not, cond, nat_lt, Option, Some, None, inl, inr, is_some, length, get_or, nat_cmp, refl, sym, ap, ap₂, subst, ◌∙◌, arith}
-use Rattle.std.specs.Prelude.{◌⊎◌, Contains, IfSome, bytes_eq}
+use Rattle.std.proofs.Common.{◌≡◌, ◌≢◌, ◌<◌, ◌≤◌, ◌+◌, ◌==◌, ℕ, zero, suc, List, [], ◌∷◌, ◌++◌, Bool, true, false, not, cond, nat_lt, Option, Some, None, inl, inr, is_some, length, get_or, nat_cmp, refl, sym, ap, ap₂, subst, ◌∙◌, arith}
+use Rattle.std.specs.Prelude.{◌⊎◌, Contains, IfSome, bytes_eq, if◌then◌else◌}
 use Rattle.std.specs.Cmp.Lexicographic.{slice_cmp, bytes_decides}
-use Rattle.std.specs.List.{position, position_or_len}
+use Rattle.std.specs.List.{list_any, position, position_or_len}
 use Rattle.std.specs.List.Sorted.{IsStrictlySortedBy}
 use Rattle.std.specs.Map.{lookup}
 use Rattle.std.specs.Ordering.{is_eq}
@@ -22,9 +22,12 @@ use Rattle.work_index.specs.Pieces.{workspace_of}
 use Rattle.work_index.specs.Stayed.{IsAmong, IsSameFile}
 use Rattle.work_index.specs.Workspace.{Workspace, AnalysisData, analysis}
 use Rattle.lsp_workspace.specs.Files.{Files, text_at, workspace}
-use Rattle.lsp_workspace.specs.Kept.{AreNumbersNow, DifferAt, IsOf, IsOfEarlier, IsUnchangedAt, with_number}
+use Rattle.lsp_workspace.specs.Kept.{AreNumbersNow, DifferAt, FollowMove, HasOneMore, IsBeforeMoves, IsOf, IsOfEarlier, IsUnchangedAt, with_number}
 use Rattle.lsp_workspace.specs.declared.known.Known.{Known}
-use Rattle.lsp_workspace.proofs.Held.{before_more, is_at_position, of_now, text_in_workspace, unlisted}
+use Rattle.lsp_workspace.specs.declared.known.Moves.{Moves}
+use Rattle.lsp_workspace.specs.declared.known.Moves.TheVariants.{Stayed, Came, Others}
+use Rattle.lsp_workspace.proofs.Held.{before_more, is_at_position, now_of, of_now, text_in_workspace, unlisted}
+use Rattle.lsp_workspace.proofs.OneMore.{none-at, one_more, still_one_more}
 use Rattle.lsp_workspace.proofs.PathOrder.{AreBehind, Ascend, paths}
 
 -- ---- the files by their numbers
@@ -133,41 +136,81 @@ earlier_still path text changed a old new differ at was =
         let found : position (λ p. bytes_eq p path) (paths was.old) ≡ None = ap (λ (b : AnalysisData). position (λ p. bytes_eq p path) b.paths) (sym was.is) ∙ at in
         ap (λ p. bytes_eq p path) (sym (path-at was.old n nothing there)) ∙ not_found (λ p. bytes_eq p path) (paths was.old) n [] found (omega (arith, there, length-map was.old (λ f. f.0)))
 
--- no file moved before, and the path still has a text
-stays_known : (before stays : Bool) → (before || not stays) ≡ false → (before ≡ false) × (stays ≡ true)
-stays_known false true is = (refl, refl)
-stays_known false false is = absurd (false≢true (sym is))
-stays_known true stays is = absurd (false≢true (sym is))
+-- a list with one more number has one
+with_number-some : (n : ℕ) (numbers : List ℕ) → with_number n numbers ≢ []
+with_number-some n [] none = absurd (cc)
+with_number-some n (x ∷ numbers) none = by (list_any (λ m. m == n) (x ∷ numbers)) none
+  where
+    by : (b : Bool) → (if b then x ∷ numbers else (x ∷ numbers) ++ n ∷ []) ≡ [] → ⊥
+    by true none = absurd (cc)
+    by false none = absurd (cc)
 
 pub known_marked : (path : List ℕ) (text : Option (List ℕ)) (old new : Files) (known : Known) (file : ℕ) (stays : Bool) (r : Option Known) → DifferAt path text old new → stays ≡ is_some text → IsOf known (workspace old)
-    → position (λ p. bytes_eq p path) known.analysis.paths ≡ Some file → IfSome r (λ k. k.analysis ≡ known.analysis) → IfSome r (λ k. k.changed.items ≡ with_number file known.changed.items) → IfSome r (λ k. k.moved ≡ (known.moved || not stays))
+    → position (λ p. bytes_eq p path) known.analysis.paths ≡ Some file → IfSome r (λ k. k.analysis ≡ known.analysis) → IfSome r (λ k. k.changed.items ≡ with_number file known.changed.items) → IfSome r (λ k. k.moves ≡ (if stays then known.moves else Others))
     → IfSome r (λ k. IsOf k (workspace new))
-known_marked path text old new known file stays None differ some of at same changed moved = tt
-known_marked path text old new known file stays (Some k) differ some of at same changed moved = record {
-  before = λ still.
-      let both = stays_known known.moved stays (sym moved ∙ still) in
-      as_marked (λ a numbers. IsBefore a (workspace new) numbers) (before_text text differ (sym some ∙ both.1) both.0);
+known_marked path text old new known file stays None differ some of at same changed moves = tt
+known_marked path text old new known file stays (Some k) differ some of at same changed moves = record {
+  before = subst (λ m. IsBeforeMoves m k.analysis (workspace new) k.changed.items) (sym moves) (by stays some);
   earlier = as_marked (λ a numbers. IsOfEarlier a (workspace new) numbers) (earlier_more path text file known.changed.items known.analysis old new differ at of.earlier);
 }
   where
     as_marked : (P : AnalysisData → List ℕ → Type 0) → P known.analysis (with_number file known.changed.items) → P k.analysis k.changed.items
     as_marked P holds = subst (λ numbers. P k.analysis numbers) (sym changed) (subst (λ a. P a (with_number file known.changed.items)) (sym same) holds)
 
-    before_text : (t : Option (List ℕ)) → DifferAt path t old new → is_some t ≡ true → known.moved ≡ false → IsBefore known.analysis (workspace new) (with_number file known.changed.items)
-    before_text None differ there still = absurd (false≢true there)
-    before_text (Some t) differ there still = before_more path t file known.changed.items known.analysis old new differ.old_order differ.new_order differ.texts at (of.before still)
+    before_text : (t : Option (List ℕ)) → DifferAt path t old new → is_some t ≡ true → IsBefore known.analysis (workspace old) known.changed.items → IsBefore known.analysis (workspace new) (with_number file known.changed.items)
+    before_text None differ there before = absurd (false≢true there)
+    before_text (Some t) differ there before = before_more path t file known.changed.items known.analysis old new differ.old_order differ.new_order differ.texts at before
 
-pub known_moved : (path : List ℕ) (text : Option (List ℕ)) (old new : Files) (known k : Known) → DifferAt path text old new → IsOf known (workspace old) → position (λ p. bytes_eq p path) known.analysis.paths ≡ None
-    → k.analysis ≡ known.analysis → k.changed.items ≡ known.changed.items → k.moved ≡ true → IsOf k (workspace new)
-known_moved path text old new known k differ of at same changed moved = record {
-  before = λ still. absurd (false≢true (sym still ∙ moved));
+    moved : (m : Moves) → is_some text ≡ true → IsBeforeMoves m known.analysis (workspace old) known.changed.items → IsBeforeMoves m known.analysis (workspace new) (with_number file known.changed.items)
+    moved Stayed there before = before_text text differ there before
+    moved (Came own) there before = λ none. absurd (with_number-some file known.changed.items none)
+    moved Others there before = tt
+
+    by : (b : Bool) → b ≡ is_some text → IsBeforeMoves (if b then known.moves else Others) k.analysis (workspace new) k.changed.items
+    by false is = tt
+    by true is = as_marked (λ a numbers. IsBeforeMoves known.moves a (workspace new) numbers) (moved known.moves (sym is) of.before)
+
+pub known_moved : (path : List ℕ) (text : Option (List ℕ)) (stays : Bool) (old new : Files) (known : Known) (r : Option Known) → DifferAt path text old new → stays ≡ is_some text → IsOf known (workspace old)
+    → position (λ p. bytes_eq p path) known.analysis.paths ≡ None → IfSome r (λ k. k.analysis ≡ known.analysis) → IfSome r (λ k. k.changed.items ≡ known.changed.items) → IfSome r (λ k. FollowMove known.moves k.moves path stays)
+    → IfSome r (λ k. IsOf k (workspace new))
+known_moved path text stays old new known None differ some of at same changed follows = tt
+known_moved path text stays old new known (Some k) differ some of at same changed follows = record {
+  before = subst (λ (numbers : List ℕ). IsBeforeMoves k.moves k.analysis (workspace new) numbers) (sym changed) (subst (λ a. IsBeforeMoves k.moves a (workspace new) known.changed.items) (sym same) (moved known.moves k.moves of.before follows));
   earlier = subst (λ numbers. IsOfEarlier k.analysis (workspace new) numbers) (sym changed) (subst (λ a. IsOfEarlier a (workspace new) known.changed.items) (sym same) (earlier_still path text known.changed.items known.analysis old new differ at of.earlier));
 }
+  where
+    a : AnalysisData
+    a = known.analysis
+
+    unknown : (n : ℕ) → n < length (workspace old) → a ≡ analysis (workspace old) → bytes_eq (get_or (workspace old) n nothing).0 path ≡ false
+    unknown n there is =
+        let found : position (λ p. bytes_eq p path) (paths (workspace old)) ≡ None = ap (λ (b : AnalysisData). position (λ p. bytes_eq p path) b.paths) (sym is) ∙ at in
+        ap (λ p. bytes_eq p path) (sym (path-at (workspace old) n nothing there)) ∙ not_found (λ p. bytes_eq p path) (paths (workspace old)) n [] found (omega (arith, there, length-map (workspace old) (λ f. f.0)))
+
+    has_text : (t : Option (List ℕ)) → DifferAt path t old new → is_some t ≡ true → (P : AnalysisData → Workspace → List ℕ → Type 0) → ((s : List ℕ) → DifferAt path (Some s) old new → P a (workspace new) path) → P a (workspace new) path
+    has_text None differ there P make = absurd (false≢true there)
+    has_text (Some s) differ there P make = make s differ
+
+    moved : (m m' : Moves) → IsBeforeMoves m a (workspace old) known.changed.items → FollowMove m m' path stays → IsBeforeMoves m' a (workspace new) known.changed.items
+    moved Stayed (Came own) before follows = λ none.
+        let is : a ≡ analysis (workspace old) = now_of a (workspace old) (subst (λ (numbers : List ℕ). IsBefore a (workspace old) numbers) none before) in
+        subst (HasOneMore a (workspace new)) (sym follows.0)
+        (has_text text differ (sym some ∙ follows.1) HasOneMore (λ s differ. one_more path s a old new differ is (none-at path (workspace old) (λ n there. unknown n there is))))
+    moved (Came own) (Came own') before follows = λ none.
+        subst (HasOneMore a (workspace new)) (sym follows.1)
+        (has_text text differ (sym some ∙ follows.2) HasOneMore (λ s differ. still_one_more path s a old new differ (subst (HasOneMore a (workspace old)) follows.0 (before none))))
+    moved Others (Came own) before follows = absurd follows
+    moved Stayed Stayed before follows = absurd follows
+    moved (Came own) Stayed before follows = absurd follows
+    moved Others Stayed before follows = absurd follows
+    moved Stayed Others before follows = tt
+    moved (Came own) Others before follows = tt
+    moved Others Others before follows = tt
 
 -- an analysis of the files as they are
-pub known_fresh : (w : Workspace) (now : Known) → Ascend w → now.analysis ≡ analysis w → now.changed.items ≡ [] → IsOf now w
-known_fresh w now order is current = record {
-  before = λ still. subst (λ (numbers : List ℕ). IsBefore now.analysis w numbers) (sym current) (of_now now.analysis w is);
+pub known_fresh : (w : Workspace) (now : Known) → Ascend w → now.analysis ≡ analysis w → now.changed.items ≡ [] → now.moves ≡ Stayed → IsOf now w
+known_fresh w now order is current still = record {
+  before = subst (λ m. IsBeforeMoves m now.analysis w now.changed.items) (sym still) (subst (λ (numbers : List ℕ). IsBefore now.analysis w numbers) (sym current) (of_now now.analysis w is));
   earlier = record {
     old = w;
     ordered = order;

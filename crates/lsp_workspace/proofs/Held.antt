@@ -61,7 +61,7 @@ held_texts files board ts order holds are =
 abbrev with_text : Workspace → ℕ → List ℕ → Workspace
 with_text w file text = set w file (get_or (paths w) file [], text)
 
-symm : (p q : List ℕ) → bytes_eq p q ≡ bytes_eq q p
+pub symm : (p q : List ℕ) → bytes_eq p q ≡ bytes_eq q p
 symm p q = nat_list_eq_equiv.symm p q
 
 abbrev IsAt : List ℕ → ℕ → Workspace → Type 0

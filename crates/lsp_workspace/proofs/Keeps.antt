@@ -1,9 +1,9 @@
 -- What a workspace keeps beside its files stays true.
 use Rattle.std.proofs.Common.{◌≡◌, ℕ, ◌<◌, List, [], ◌∷◌, Bool, true, false, cond, Option, Some, None, Result, Ok, Err, is_some, inl, inr, ◌≤◌, length, get_or, refl, sym, ap, subst, ◌∙◌, arith}
-use Rattle.std.specs.Prelude.{◌⊎◌, ◌==◌, not, option_and_then, option_map, bytes_eq, IfSome, IsTrue, OnOk, OnErr, unwrap_or, if◌then◌else◌}
+use Rattle.std.specs.Prelude.{◌⊎◌, ◌==◌, option_and_then, option_map, bytes_eq, IfSome, IsTrue, OnOk, OnErr, unwrap_or, if◌then◌else◌}
 use Rattle.std.specs.List.{slice_get}
 use Rattle.std.specs.Map.{lookup, update}
-use Rattle.std.proofs.lemmas.Bool.{and_parts}
+use Rattle.std.proofs.lemmas.Bool.{and_parts, false≢true}
 use Rattle.std.proofs.lemmas.Bool.Decides.{nat_tests}
 use Rattle.std.proofs.lemmas.List.{length-map}
 use Rattle.std.proofs.lemmas.Option.{get_or_from_slice_get, slice_get_cases}
@@ -13,10 +13,12 @@ use Rattle.work_index.specs.Changes.{IsBefore}
 use Rattle.work_index.specs.Pieces.{workspace_of}
 use Rattle.work_index.specs.Workspace.{Workspace, AnalysisData, analysis}
 use Rattle.lsp_workspace.specs.Files.{OpenDocument, File, Files, file_at, set_file, text_at, workspace, with_open_file, with_document, closed_at, closed_files, AreInPathOrder}
-use Rattle.lsp_workspace.specs.Kept.{IsOf, IsKept, DifferAt, is_current}
+use Rattle.lsp_workspace.specs.Kept.{IsBeforeMoves, IsOf, IsKept, DifferAt, have_stayed, is_current}
 use Rattle.lsp_workspace.specs.Steps.{with_document_at}
 use Rattle.lsp_workspace.specs.Texts.{open_document, is_open, text_event, event_at, events_at, TextsChangeAt}
 use Rattle.lsp_workspace.specs.declared.known.Known.{Known}
+use Rattle.lsp_workspace.specs.declared.known.Moves.{Moves}
+use Rattle.lsp_workspace.specs.declared.known.Moves.TheVariants.{Stayed, Came, Others}
 use Rattle.lsp_workspace.proofs.Earlier.{known_fresh, path-at, text-at}
 use Rattle.lsp_workspace.proofs.Held.{same_workspace, text_in_workspace, held_texts, now_of}
 use Rattle.lsp_workspace.proofs.PathOrder.{paths, from_disk-order, ascend-workspace}
@@ -110,26 +112,33 @@ lent_workspace files before lent_board ts known k is are =
     held_texts files before ts k.ordered k.texts (record { ascends = there.ascends; each = there.each })
 
 pub keeps_refreshed : (files : Files) (before lent_board after : BoardView) (known : Option Known) (now : Known) (a : AnalysisData) → IsKept files before known → lent_board ≡ record before { is_lent = true } → after ≡ record lent_board { is_lent = false }
-    → now.analysis ≡ a → now.changed.items ≡ [] → a ≡ analysis (workspace files) → IsKept files after (Some now)
-keeps_refreshed files before lent_board after known now a k is back made current fresh =
-    let of : IsOf now (workspace files) = known_fresh (workspace files) now (ascend-workspace files k.ordered) (made ∙ fresh) current in
+    → now.analysis ≡ a → now.changed.items ≡ [] → now.moves ≡ Stayed → a ≡ analysis (workspace files) → IsKept files after (Some now)
+keeps_refreshed files before lent_board after known now a k is back made current still fresh =
+    let of : IsOf now (workspace files) = known_fresh (workspace files) now (ascend-workspace files k.ordered) (made ∙ fresh) current still in
     subst (λ b. IsKept files b (Some now)) (sym (back ∙ ap {A = BoardView} (λ (b : BoardView). record b { is_lent = false }) is)) (record { ordered = k.ordered; here = refl; texts = k.texts; is_of = of })
+
+-- where the board stays as it is
+pub keeps_known : (files : Files) (board : BoardView) (known : Option Known) (now : Known) (a : AnalysisData) → IsKept files board known
+    → now.analysis ≡ a → now.changed.items ≡ [] → now.moves ≡ Stayed → a ≡ analysis (workspace files) → IsKept files board (Some now)
+keeps_known files board known now a k made current still fresh =
+    record { ordered = k.ordered; here = k.here; texts = k.texts; is_of = known_fresh (workspace files) now (ascend-workspace files k.ordered) (made ∙ fresh) current still }
 
 empty : (numbers : List ℕ) → IsTrue (length numbers == 0) → numbers ≡ []
 empty [] is = refl
 empty (x ∷ numbers) is = absurd (grind (arith, nat_tests))
 
-not_moved : (moved : Bool) → not moved ≡ true → moved ≡ false
-not_moved false is = refl
-not_moved true is = sym is
+before_none : (m : Moves) (a : AnalysisData) (w : Workspace) (numbers : List ℕ) → have_stayed m ≡ true → IsBeforeMoves m a w numbers → IsBefore a w numbers
+before_none Stayed a w numbers still before = before
+before_none (Came path) a w numbers still before = absurd (false≢true still)
+before_none Others a w numbers still before = absurd (false≢true still)
 
 -- an analysis that is current is that of the files
 pub known_now : (files : Files) (known : Option Known) (k : Known) → IfSome known (λ k. IsOf k (workspace files)) → known ≡ Some k → IsTrue (is_current known) → k.analysis ≡ analysis (workspace files)
 known_now files known k of is current =
-    let both = and_parts (length k.changed.items == 0) (not k.moved) (subst (λ (o : Option Known). IsTrue (is_current o)) is current) in
+    let both = and_parts (length k.changed.items == 0) (have_stayed k.moves) (subst (λ (o : Option Known). IsTrue (is_current o)) is current) in
     let none : k.changed.items ≡ [] = empty k.changed.items both.0 in
     let of' : IsOf k (workspace files) = subst (λ (o : Option Known). IfSome o (λ k. IsOf k (workspace files))) is of in
-    now_of k.analysis (workspace files) (subst (λ (numbers : List ℕ). IsBefore k.analysis (workspace files) numbers) none (of'.before (not_moved k.moved both.1)))
+    now_of k.analysis (workspace files) (subst (λ (numbers : List ℕ). IsBefore k.analysis (workspace files) numbers) none (before_none k.moves k.analysis (workspace files) k.changed.items both.1 of'.before))
 
 -- where no file is left
 pub keeps_nothing : (files : Files) (board : BoardView) → files ≡ [] → board.is_lent ≡ false → ((q : List ℕ) → known_text q board ≡ None) → IsKept files board None

@@ -6,5 +6,6 @@ pub mod WorkspaceLemmas
 pub mod TextChanges
 pub mod Held
 pub mod FirstEvents
+pub mod OneMore
 pub mod Earlier
 mod Keeps

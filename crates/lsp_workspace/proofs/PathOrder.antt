@@ -18,7 +18,7 @@ abbrev pub AreBehind : List ℕ → List (List ℕ) → Type 0
 AreBehind p paths = AllByRecursion (λ q. slice_cmp nat_cmp p q ≡ Less) paths
 
 -- what comes after a path comes after each one before it
-behind-later : (p q : List ℕ) (paths : List (List ℕ)) → slice_cmp nat_cmp p q ≡ Less → AreBehind q paths → AreBehind p paths
+pub behind-later : (p q : List ℕ) (paths : List (List ℕ)) → slice_cmp nat_cmp p q ≡ Less → AreBehind q paths → AreBehind p paths
 behind-later p q [] less all = tt
 behind-later p q (r ∷ paths) less all = (nat_list_cmp_total.trans p q r less all.0, behind-later p q paths less all.1)
 

@@ -1,18 +1,22 @@
 -- What a workspace keeps beside its files.
-use Rattle.std.specs.Prelude.{◌≡◌, ℕ, ◌==◌, ◌<◌, ◌&&◌, not, List, [], ◌∷◌, ◌++◌, Bool, false, Option, Some, None, Contains, bytes_eq, length, map, slice_index_or, IfSome, if◌then◌else◌}
+use Rattle.std.specs.Prelude.{◌≡◌, ℕ, ◌==◌, ◌<◌, ◌&&◌, List, [], ◌∷◌, ◌++◌, Bool, true, false, Option, Some, None, Contains, bytes_eq, length, map, slice_index_or, IfSome, IsSome, String, string_bytes, ⊤, if◌then◌else◌}
 use Rattle.std.specs.Cmp.Lexicographic.{slice_cmp}
-use Rattle.std.specs.List.{list_any}
+use Rattle.std.specs.declared.alloc.Global.{Global}
+use Rattle.std.specs.List.{insert, list_any}
 use Rattle.std.specs.List.Sorted.{IsStrictlySortedBy}
 use Rattle.std.specs.Map.{lookup}
 use Rattle.std.specs.Ordering.{nat_cmp}
 use Rattle.import_graph.specs.Moves.{place}
 use Rattle.piece_collector.specs.Views.{BoardView}
+use Rattle.work_index.specs.Arrivals.{Arrives, NoneImports}
 use Rattle.work_index.specs.Changes.{IsBefore}
 use Rattle.work_index.specs.Workspace.{Workspace, AnalysisData, analysis}
 use Rattle.lsp_workspace.specs.Files.{Files, workspace, AreInPathOrder}
 use Rattle.lsp_workspace.specs.Texts.{HoldsTexts, TextsChangeAt}
 use Rattle.lsp_workspace.specs.View.{WorkspaceData}
 use Rattle.lsp_workspace.specs.declared.known.Known.{Known}
+use Rattle.lsp_workspace.specs.declared.known.Moves.{Moves}
+use Rattle.lsp_workspace.specs.declared.known.Moves.TheVariants.{Stayed, Came, Others}
 
 -- The analysis is that of an earlier workspace, which was in the order of its paths. Each file of that but those with these numbers is
 -- in the workspace, with the same text.
@@ -22,16 +26,63 @@ pub record IsOfEarlier (a : AnalysisData) (w : Workspace) (files : List ℕ) : T
   pub is : a ≡ analysis old
   pub stayed : (n : ℕ) → n < length old → (Contains files n → ⊥) → (let file = slice_index_or old n ([], []) in lookup (bytes_eq file.0) w ≡ Some file.1)
 
--- Where no file came or left, the analysis is that of the workspace before changes of the texts of the changed files. In any case each
--- file of which it is and that isn't among these is in the workspace as it was.
+-- The analysis is that of an earlier workspace, which was in the order of its paths and had no file with this path. That file came, and each
+-- other path has the text that it had, if any.
+pub record HasOneMore (a : AnalysisData) (w : Workspace) (path : List ℕ) : Type 0 where
+  pub old : Workspace
+  pub ordered : IsStrictlySortedBy (slice_cmp nat_cmp) (map (λ f. f.0) old)
+  pub is : a ≡ analysis old
+  pub new : lookup (bytes_eq path) old ≡ None
+  pub there : IsSome (lookup (bytes_eq path) w)
+  pub others : (q : List ℕ) → bytes_eq path q ≡ false → lookup (bytes_eq q) w ≡ lookup (bytes_eq q) old
+
+-- What the analysis is of, by the files that came or left. If none did: of the workspace before changes of the texts of the changed files. If
+-- one came, and no other text changed: of the workspace without it. Else nothing is said here.
+abbrev pub IsBeforeMoves : Moves → AnalysisData → Workspace → List ℕ → Type 0
+IsBeforeMoves Stayed a w files = IsBefore a w files
+IsBeforeMoves (Came path) a w files = files ≡ [] → HasOneMore a w (string_bytes path)
+IsBeforeMoves Others a w files = ⊤
+
+-- The analysis is that of a workspace before these moves and changes. In any case each file of which it is and that isn't among the changed
+-- ones is in the workspace as it was.
 pub record IsOf (known : Known) (w : Workspace) : Type 0 where
-  pub before : known.moved ≡ false → IsBefore known.analysis w known.changed.items
+  pub before : IsBeforeMoves known.moves known.analysis w known.changed.items
   pub earlier : IsOfEarlier known.analysis w known.changed.items
+
+-- whether no file came or left
+abbrev pub have_stayed : Moves → Bool
+have_stayed Stayed = true
+have_stayed (Came path) = false
+have_stayed Others = false
 
 -- whether it is that of the workspace as it is
 abbrev pub is_current : Option Known → Bool
 is_current None = false
-is_current (Some known) = (length known.changed.items == 0) && not known.moved
+is_current (Some known) = (length known.changed.items == 0) && have_stayed known.moves
+
+-- The moves after a text of this path was set or lost, which is that of no known file. That others moved may always be said: it only costs
+-- time.
+abbrev pub FollowMove : Moves → Moves → List ℕ → Bool → Type 0
+FollowMove Stayed (Came path) new stays = (string_bytes path ≡ new) × (stays ≡ true)
+FollowMove (Came own) (Came path) new stays = (string_bytes own ≡ new) × (string_bytes path ≡ new) × (stays ≡ true)
+FollowMove Others (Came path) new stays = ⊥
+FollowMove before Stayed new stays = ⊥
+FollowMove before Others new stays = ⊤
+
+-- the file with this path came since the analysis, no other file came, left or changed, and none of those of the analysis imports it
+pub record HasArrival (known : Known) (path : List ℕ) : Type 0 where
+  pub own : String Global
+  pub moves : known.moves ≡ Came own
+  pub own_is : string_bytes own ≡ path
+  pub unchanged : known.changed.items ≡ []
+  pub nobody : (let a = known.analysis in NoneImports a.facts path)
+
+-- the file came to a workspace of which the analysis is known, none of whose files imports it, and with it that is the workspace
+pub record HasArrived (known : Option Known) (w : Workspace) (file : List ℕ × List ℕ) : Type 0 where
+  pub own : Known
+  pub is : known ≡ Some own
+  pub arrives : Arrives own.analysis file
+  pub with_it : insert arrives.old arrives.at file ≡ w
 
 abbrev pub workspace_data : Files → BoardView → Option Known → WorkspaceData
 workspace_data files board known = record { files = files; board = board; is_current = is_current known }

@@ -1,5 +1,5 @@
 // What is known of the files of a workspace.
-ghost use Rattle.std.specs.Prelude.{◌≡◌, ◌<◌, ◌≤◌, ◌||◌, List, ℕ, Option, Some, [], Contains, false, not, position, bytes_eq, is_some, length, slice_index_or, IfOk, IfSome};
+ghost use Rattle.std.specs.Prelude.{◌≡◌, ◌<◌, ◌≤◌, List, ℕ, Option, Some, [], Contains, false, is_some, length, slice_index_or, IfOk, IfSome, if◌then◌else◌};
 ghost use Rattle.std.specs.Cmp.Lexicographic.{slice_cmp};
 ghost use Rattle.std.specs.Ordering.{nat_cmp};
 ghost use Rattle.std.specs.declared.cmp.Ordering.TheVariants.{Less};
@@ -7,10 +7,10 @@ ghost use Rattle.piece_collector.specs.Board.{Ascends};
 ghost use Rattle.work_index.specs.Pieces.{workspace_of};
 ghost use Rattle.work_index.specs.Workspace.{analysis};
 ghost use Rattle.lsp_workspace.specs.Files.{Files, workspace};
-ghost use Rattle.lsp_workspace.specs.Kept.{AreNumbersNow, DifferAt, IsOf, is_current, with_number};
+ghost use Rattle.lsp_workspace.specs.Kept.{AreNumbersNow, DifferAt, FollowMove, HasArrival, HasArrived, IsKept, IsOf, is_current, with_number};
 
 use import_graph::FileNo;
-use piece_collector::Piece;
+use piece_collector::{Board, Piece};
 use std::alloc::{AllocError, Global};
 use std::cmp::Ordering;
 use work_index::{Analysis, FileWork, analyse_after, analyse_again, analyse_here};
@@ -18,14 +18,25 @@ use work_index::{Analysis, FileWork, analyse_after, analyse_again, analyse_here}
 // After changes of more files than that a whole analysis, by threads, is faster than one that takes a change after the other.
 const MOST_CHANGED: usize = 64;
 
+/// Which files came or left since an analysis.
+#[derive(Drop)]
+pub enum Moves {
+    /// None.
+    Stayed,
+    /// The one with this path came, and no other came or left.
+    Came(String),
+    /// Any others may have come or left.
+    Others,
+}
+
 /// An analysis of the files, or of the files before some came, left or got other texts.
 #[derive(Drop)]
 pub struct Known {
     pub analysis: Analysis,
     /// The numbers of the files of which it is that left since or got other texts.
     pub changed: Vec<FileNo>,
-    /// Whether files came or left since, so that files may have other numbers now.
-    pub moved: bool,
+    /// Which files came or left since, so that files may have other numbers now.
+    pub moves: Moves,
 }
 
 impl Known {
@@ -33,12 +44,12 @@ impl Known {
     pub fn current(alloc: Global, analysis: Analysis) -> Known
         ensures analysis { result.analysis ≡ analysis }
         ensures changed { result.changed.items ≡ [] }
-        ensures moved { result.moved ≡ false }
+        ensures moves { result.moves ≡ Moves.Stayed }
     {
         Known {
             analysis,
             changed: Vec::new(alloc),
-            moved: false,
+            moves: Moves::Stayed,
         }
     }
 
@@ -46,28 +57,36 @@ impl Known {
     pub fn is_current(&self) -> bool
         ensures { result ≡ is_current (Some self.now) }
     {
-        self.changed.is_empty() && !self.moved
+        self.changed.is_empty() && matches!(self.moves, Moves::Stayed)
     }
-}
 
-// The number of the file with a path.
-fn number_of(analysis: &Analysis, path: &str) -> Option<FileNo>
-    ensures { result ≡ position (λ p. bytes_eq p path.now) analysis.now.paths }
-{
-    analysis
-        .files()
-        .iter()
-        .position(|file| file.as_str() == path)
+    // The path of the file that came since, if nothing else changed and no other file imports it.
+    fn arrival(&self) -> Option<&str>
+        ensures { IfSome result (λ path. HasArrival self.now path.now) }
+    {
+        let Moves::Came(path) = &self.moves else {
+            return None;
+        };
+        if !self.changed.is_empty()
+            || self.analysis.number_of(path.as_str()).is_some()
+            || self.analysis.is_imported(path.as_str())
+        {
+            return None;
+        }
+        Some(path.as_str())
+    }
 }
 
 // What is known after one more of its files left or got another text: nothing where too many files have, or where memory was refused.
 fn marked(known: Known, file: FileNo, stays: bool) -> Option<Known>
     ensures analysis { IfSome result (λ k. k.analysis ≡ known.analysis) }
     ensures changed { IfSome result (λ k. k.changed.items ≡ with_number file known.changed.items) }
-    ensures moved { IfSome result (λ k. k.moved ≡ (known.moved || not stays)) }
+    ensures moves { IfSome result (λ k. k.moves ≡ (if stays then known.moves else Moves.Others)) }
 {
     let mut known = known;
-    known.moved = known.moved || !stays;
+    if !stays {
+        known.moves = Moves::Others;
+    }
     if known.changed.as_slice().contains(&file) {
         return Some(known);
     }
@@ -80,19 +99,52 @@ fn marked(known: Known, file: FileNo, stays: bool) -> Option<Known>
     }
 }
 
+// Which files came or left, after a text was set, or lost, at a path that is that of none of the files that are known.
+fn moves_after(alloc: Global, moves: &Moves, path: &str, stays: bool) -> Result<Moves, AllocError>
+    ensures { IfOk result (λ after. FollowMove moves.now after path.now stays) }
+{
+    let is_alone = match moves {
+        Moves::Stayed => true,
+        Moves::Came(own) => own.as_str() == path,
+        Moves::Others => false,
+    };
+    if stays && is_alone {
+        return Ok(Moves::Came(String::from_str(alloc, path)?));
+    }
+    Ok(Moves::Others)
+}
+
+// What is known then: nothing where memory was refused.
+fn with_move(alloc: Global, known: Known, path: &str, stays: bool) -> Option<Known>
+    ensures analysis { IfSome result (λ k. k.analysis ≡ known.analysis) }
+    ensures changed { IfSome result (λ k. k.changed.items ≡ known.changed.items) }
+    ensures moves { IfSome result (λ k. FollowMove known.moves k.moves path.now stays) }
+{
+    let mut known = known;
+    let moves = moves_after(alloc, &known.moves, path, stays).ok()?;
+    known.moves = moves;
+    Some(known)
+}
+
 /// What is known after a path has another text, or none: nothing where too many of the files that are known left or got other texts,
 /// or where memory was refused.
-pub fn known_after(known: Option<Known>, path: &str, stays: bool) -> Option<Known>
+pub fn known_after(alloc: Global, known: Option<Known>, path: &str, stays: bool) -> Option<Known>
     ensures { (text : Option (List ℕ)) (old new : Files) → DifferAt path.now text old new → stays ≡ is_some text → IfSome known (λ k. IsOf k (workspace old)) → IfSome result (λ k. IsOf k (workspace new)) }
 {
     let known = known?;
-    match number_of(&known.analysis, path) {
+    match known.analysis.number_of(path) {
         Some(file) => marked(known, file, stays),
-        None => Some(Known {
-            moved: true,
-            ..known
-        }),
+        None => with_move(alloc, known, path, stays),
     }
+}
+
+/// The piece of a board that is of the file that came since an analysis, if nothing else changed and no other file imports it.
+pub fn arrived<'b>(known: &Option<Known>, board: &'b Board<FileWork>) -> Option<&'b Piece<FileWork>>
+    requires { board.now.is_lent ≡ false }
+    ensures { (files : Files) → IsKept files board.now known.now → IfSome result (λ piece. HasArrived known.now (workspace files) (piece.now.path, piece.now.text)) }
+{
+    let path = known.as_ref()?.arrival()?;
+    board.piece(path)
 }
 
 // The first place, from one on, of a piece whose path doesn't come before this one; past the end if there is none.
@@ -171,9 +223,9 @@ pub fn analyse(
     let Known {
         analysis,
         changed,
-        moved,
+        moves,
     } = known;
-    if !moved {
+    if matches!(moves, Moves::Stayed) {
         return analyse_again(alloc, analysis, changed.as_slice(), pieces);
     }
     let to = numbers_now(alloc, &analysis, changed.as_slice(), pieces)?;

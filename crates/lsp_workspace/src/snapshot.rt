@@ -60,8 +60,7 @@ impl<'w> Snapshot<'w> {
     pub fn number_of(&self, path: &str) -> Option<FileNo>
         ensures { result ≡ position (λ p. bytes_eq p path.now) (map (λ f. f.0) self.now) }
     {
-        let mut paths = self.analysis.files().iter();
-        paths.position(|file| file.as_str() == path)
+        self.analysis.number_of(path)
     }
 
     /// The path of a file; empty where there is no such file.

@@ -14,7 +14,7 @@ ghost use Rattle.lsp_workspace.specs.View.{document_view, file_view, files_view}
 use crate::diagnosed::DiagnosedFiles;
 use crate::disk::DiskFile;
 use crate::files::{self, Document, Edits, FileEntry, Files};
-use crate::known::{Known, analyse, known_after};
+use crate::known::{Known, analyse, arrived, known_after};
 use crate::snapshot::Snapshot;
 use collector_laws::texts_of_events;
 use piece_collector::{Board, BoardFault, Job, Piece, SharedText, Verdict};
@@ -22,7 +22,7 @@ use std::alloc::{AllocError, Global};
 use std::marker::Model;
 use std::sync::Wait;
 use std::thread::Threads;
-use work_index::{AnalyseFault, FileWork, Gate, analyse_in_shares, diagnose};
+use work_index::{AnalyseFault, FileWork, Gate, analyse_in_shares, analyse_with, diagnose};
 
 /// The files that an editor's session knows, the board of their texts with the work on them, and the analysis of them.
 ///
@@ -150,7 +150,7 @@ impl Workspace {
         files::make_room(self.alloc, &mut self.files, path)?;
         tell(self.alloc, &mut self.board, path, Some(copy))?;
         files::open(&mut self.files, path, uri, document);
-        self.known = known_after(self.known.take(), path, true);
+        self.known = known_after(self.alloc, self.known.take(), path, true);
         Ok(())
     }
 
@@ -170,7 +170,7 @@ impl Workspace {
         let copy = files::copied(self.alloc, &document.text)?;
         tell(self.alloc, &mut self.board, path, Some(copy))?;
         files::set_document(&mut self.files, path, document);
-        self.known = known_after(self.known.take(), path, true);
+        self.known = known_after(self.alloc, self.known.take(), path, true);
         Ok(())
     }
 
@@ -205,7 +205,7 @@ impl Workspace {
         let stays = kept.is_some();
         tell(self.alloc, &mut self.board, path, kept)?;
         files::close(&mut self.files, path);
-        self.known = known_after(self.known.take(), path, stays);
+        self.known = known_after(self.alloc, self.known.take(), path, stays);
         Ok(())
     }
 
@@ -279,6 +279,14 @@ impl Workspace {
         ensures current { OnOk result (IsTrue self.new.is_current) }
     {
         if self.is_current() {
+            return Ok(());
+        }
+        if let Some(piece) = arrived(&self.known, &self.board) {
+            let Some(known) = self.known.take() else {
+                unreachable!();
+            };
+            let analysis = analyse_with(self.alloc, known.analysis, piece)?;
+            self.known = Some(Known::current(self.alloc, analysis));
             return Ok(());
         }
         let lent = self.board.lend_all()?;

@@ -1,5 +1,5 @@
 -- Shares whose pieces are kept, or not.
-use Rattle.std.proofs.Common.{◌≡◌, ℕ, zero, suc, ◌+◌, ◌<◌, List, [], ◌∷◌, ◌++◌, Bool, All, arith, sym, subst}
+use Rattle.std.proofs.Common.{◌≡◌, zero, suc, List, [], ◌∷◌, ◌++◌, Bool, All, arith, sym, subst}
 use Rattle.std.proofs.lemmas.List.Elements.{All-append}
 use Rattle.work_index.specs.declared.shares.Share.{Share}
 

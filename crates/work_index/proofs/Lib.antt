@@ -5,6 +5,7 @@ pub mod Relinked
 pub mod Stayed
 pub mod FilesMoves
 pub mod Unimported
+pub mod Arrived
 pub mod Balance
 pub mod Crossing
 pub mod Merged

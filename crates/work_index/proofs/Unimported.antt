@@ -1,5 +1,5 @@
 -- What is known of a workspace after one file came that none of the others imports.
-use Rattle.std.proofs.Common.{◌≡◌, ◌<◌, ◌≤◌, ◌+◌, ◌++◌, ℕ, List, [], Option, Some, length, get_or, map, arith, refl, sym, ap, ap₂, ◌∙◌, subst}
+use Rattle.std.proofs.Common.{◌≡◌, ◌<◌, ◌≤◌, ◌++◌, ℕ, List, [], Option, Some, length, get_or, map, arith, refl, sym, ap, ap₂, ◌∙◌, subst}
 use Rattle.std.specs.List.{enumerate_from, insert}
 use Rattle.std.proofs.lemmas.List.{length-map, get_or-map}
 use Rattle.std.proofs.lemmas.Simd.{map-map}
@@ -14,15 +14,18 @@ use Rattle.import_graph.specs.Outlooks.{outlook}
 use Rattle.proto_resolve.specs.declared.resolve.Links.{Links}
 use Rattle.link_changes.specs.Laws.{MovedLaw, decl_moved}
 use Rattle.link_changes.specs.Touched.{links_after}
-use Rattle.piece_collector.specs.Views.{TextAt}
-use Rattle.work_index.specs.Pieces.{workspace_of}
-use Rattle.work_index.specs.FilesMoves.{ComesUnimported, HasCome}
+use Rattle.work_index.specs.FilesMoves.{HasCome}
 use Rattle.work_index.specs.Stayed.{HasMoved, IsSameFile, Stay}
 use Rattle.work_index.specs.Changes.{no_links}
 use Rattle.work_index.specs.Workspace.{Workspace, all_facts, diagnostics_of, named_facts, resolution_of}
-use Rattle.work_index.proofs.Changed.{AreParts, made, made_at, made_length, nothing, piece_at, pieces_length}
+use Rattle.work_index.proofs.Changed.{AreParts, made, made_at, made_length, nothing}
 use Rattle.work_index.proofs.FilesMoves.{come_to, with_one_more, with_one_that_came}
 use Rattle.work_index.proofs.Stayed.{graph_length, links_moved}
+
+-- one file came to those of a table, which has the number k in the workspace, and none of the others imports it
+pub record ComesUnimported (files : List NamedFacts) (w : Workspace) (to : List (Option ℕ)) (k : ℕ) : Type 0 where
+  pub came : HasCome to (length files) (length w) k
+  pub nobody : NobodyImports files (let file = get_or w k nothing in file.0)
 
 -- a file that came makes room among the others
 room_for : (to : List (Option ℕ)) (before now k : ℕ) → HasCome to before now k → MakesRoom to before k
@@ -91,33 +94,34 @@ module _ (old w : Workspace) (to : List (Option ℕ)) (stayed : Stay old w to) (
     diagnostics_with_it : insert (made (diagnostics_of old) old) k (diagnostics_of w (k, get_or w k nothing)) ≡ made (diagnostics_of w) w
     diagnostics_with_it = with_one_made (diagnostics_of old) (diagnostics_of w) [] stays_diagnosed
 
--- the parts of an analysis, the links under the new numbers, and among them those of the one that came, which is the piece of the number k
-pub record AreWithIt (ts : List TextAt) (to : List (Option ℕ)) (k : ℕ) (piece : TextAt) (table : List NamedFacts) (paths : List (List ℕ)) (links : List Links) (diagnostics : List (List Diag)) : Type 0 where
-  pub place : k < length ts
-  pub table_is : insert table k (named_facts (piece.path, piece.text)) ≡ all_facts (workspace_of ts)
-  pub paths_are : insert paths k piece.path ≡ map (λ t. t.path) ts
+-- the parts of an analysis, the links under the new numbers, and among them those of the one that came, which has the number k
+pub record AreWithIt (w : Workspace) (to : List (Option ℕ)) (k : ℕ) (file : List ℕ × List ℕ) (table : List NamedFacts) (paths : List (List ℕ)) (links : List Links) (diagnostics : List (List Diag)) : Type 0 where
+  pub place : k < length w
+  pub table_count : k ≤ length table
+  pub table_is : insert table k (named_facts file) ≡ all_facts w
+  pub paths_count : k ≤ length paths
+  pub paths_are : insert paths k file.0 ≡ map (λ f. f.0) w
   pub links_count : k ≤ length links
-  pub links_are : insert (map (links_after (decl_moved to)) links) k (resolution_of (workspace_of ts) (k, (piece.path, piece.text))) ≡ made (resolution_of (workspace_of ts)) (workspace_of ts)
+  pub links_are : insert (map (links_after (decl_moved to)) links) k (resolution_of w (k, file)) ≡ made (resolution_of w) w
   pub diagnostics_count : k ≤ length diagnostics
-  pub diagnostics_are : insert diagnostics k (diagnostics_of (workspace_of ts) (k, (piece.path, piece.text))) ≡ made (diagnostics_of (workspace_of ts)) (workspace_of ts)
-  pub nobody : NobodyImports table piece.path
+  pub diagnostics_are : insert diagnostics k (diagnostics_of w (k, file)) ≡ made (diagnostics_of w) w
+  pub nobody : NobodyImports table file.0
 
-pub with_it : (old : Workspace) (ts : List TextAt) (to : List (Option ℕ)) (k : ℕ) (piece : TextAt) (table : List NamedFacts) (paths : List (List ℕ)) (links : List Links) (diagnostics : List (List Diag))
-    → AreParts table paths links diagnostics old → Stay old (workspace_of ts) to → ComesUnimported (all_facts old) (workspace_of ts) to k → piece ≡ get_or ts k piece → MovedLaw → ArrivalLaw
-    → AreWithIt ts to k piece table paths links diagnostics
-with_it old ts to k piece table paths links diagnostics of stayed comes there moved_law arrival_law =
-    let w = workspace_of ts in
+pub with_it : (old w : Workspace) (to : List (Option ℕ)) (k : ℕ) (file : List ℕ × List ℕ) (table : List NamedFacts) (paths : List (List ℕ)) (links : List Links) (diagnostics : List (List Diag))
+    → AreParts table paths links diagnostics old → Stay old w to → ComesUnimported (all_facts old) w to k → get_or w k nothing ≡ file → MovedLaw → ArrivalLaw
+    → AreWithIt w to k file table paths links diagnostics
+with_it old w to k file table paths links diagnostics of stayed comes at moved_law arrival_law =
     let come = comes.came in
-    let place : k < length ts = omega (arith, place_within old w to stayed k comes, pieces_length ts) in
-    let at : get_or w k nothing ≡ (piece.path, piece.text) = piece_at ts k piece place there in
     let long : length (all_facts old) ≡ length old = length-map old named_facts in
     record {
-      place = place;
+      place = place_within old w to stayed k comes;
+      table_count = omega (arith, come.within, ap length of.table_is);
       table_is = ap₂ (λ (files : List NamedFacts) (f : List ℕ × List ℕ). insert files k (named_facts f)) of.table_is (sym at) ∙ files_with_it old w to stayed k comes;
-      paths_are = ap₂ (λ (ps : List (List ℕ)) (f : List ℕ × List ℕ). insert ps k f.0) of.paths_are (sym at) ∙ paths_with_it old w to stayed k comes ∙ map-map (λ f. f.0) (λ t. (t.path, t.text)) ts;
+      paths_count = omega (arith, come.within, long, ap length of.paths_are, length-map old (λ f. f.0));
+      paths_are = ap₂ (λ (ps : List (List ℕ)) (f : List ℕ × List ℕ). insert ps k f.0) of.paths_are (sym at) ∙ paths_with_it old w to stayed k comes;
       links_count = omega (arith, come.within, long, ap length of.links_are, made_length (resolution_of old) old);
       links_are = ap₂ (λ (ls : List Links) (f : List ℕ × List ℕ). insert (map (links_after (decl_moved to)) ls) k (resolution_of w (k, f))) of.links_are (sym at) ∙ links_with_it old w to stayed k comes moved_law arrival_law;
       diagnostics_count = omega (arith, come.within, long, ap length of.diagnostics_are, made_length (diagnostics_of old) old);
       diagnostics_are = ap₂ (λ (ds : List (List Diag)) (f : List ℕ × List ℕ). insert ds k (diagnostics_of w (k, f))) of.diagnostics_are (sym at) ∙ diagnostics_with_it old w to stayed k comes moved_law arrival_law;
-      nobody = subst (λ (files : List NamedFacts). NobodyImports files piece.path) (sym of.table_is) (subst (λ (f : List ℕ × List ℕ). NobodyImports (all_facts old) f.0) at comes.nobody);
+      nobody = subst (λ (files : List NamedFacts). NobodyImports files file.0) (sym of.table_is) (subst (λ (f : List ℕ × List ℕ). NobodyImports (all_facts old) f.0) at comes.nobody);
     }

@@ -1,7 +1,6 @@
 -- One file that came to a workspace, or left it, while all others stayed.
-use Rattle.std.specs.Prelude.{◌≡◌, ◌<◌, ◌≤◌, ◌+◌, ℕ, List, [], Option, Some, length, slice_index_or, ⊤}
+use Rattle.std.specs.Prelude.{◌≡◌, ◌<◌, ◌≤◌, ◌+◌, ℕ, List, Option, Some, length, ⊤}
 use Rattle.import_graph.specs.declared.paths.NamedFacts.{NamedFacts}
-use Rattle.import_graph.specs.Arrivals.{NobodyImports}
 use Rattle.import_graph.specs.Moves.{place}
 use Rattle.work_index.specs.declared.moved_table.FilesMove.{FilesMove}
 use Rattle.work_index.specs.declared.moved_table.FilesMove.TheVariants.{Came, Left, Other}
@@ -29,11 +28,6 @@ abbrev pub Tells : List (Option ℕ) → ℕ → ℕ → FilesMove → Type 0
 Tells to before now (Came k) = HasCome to before now k
 Tells to before now (Left k) = HasLeft to before now k
 Tells to before now Other = ⊤
-
--- one file came to those of a table, which has the number k in the workspace, and none of the others imports it
-pub record ComesUnimported (files : List NamedFacts) (w : Workspace) (to : List (Option ℕ)) (k : ℕ) : Type 0 where
-  pub came : HasCome to (length files) (length w) k
-  pub nobody : NobodyImports files (let file = slice_index_or w k ([], []) in file.0)
 
 -- the table is that of a workspace of which the files that have a number stayed as they were
 pub record IsTableBefore (table : List NamedFacts) (w : Workspace) (to : List (Option ℕ)) : Type 0 where

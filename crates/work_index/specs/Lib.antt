@@ -7,3 +7,4 @@ pub mod Fault
 pub mod Stretches
 pub mod Parts
 pub mod Shares
+pub mod Arrivals

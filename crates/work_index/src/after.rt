@@ -13,10 +13,9 @@ ghost use Rattle.work_index.specs.Workspace.{all_facts, analysis, diagnostics_of
 
 use crate::analyse::{paths_of, push_found, resolution_of};
 use crate::analysis::{Analysis, Resolutions};
-use crate::arrival::{unimported, with_arrival};
 use crate::file_work::FileWork;
 use crate::moved_table::table_after;
-use import_graph::{FileNo, Graph, arrival_law, moved_outlook};
+use import_graph::{FileNo, Graph, moved_outlook};
 use link_changes::{move_files, moved_law};
 use piece_collector::Piece;
 use proto_resolve::{Index, Links, Table};
@@ -141,9 +140,8 @@ fn link_after(
 
 /// The analysis of the workspace of some pieces, which are in the order of their paths, no path twice, after files came, left or got
 /// other texts. Given are the analysis before, and for each file there its number now, from 0, or `None` if it left or has another
-/// text. A file that stayed as it was, and sees the same files as before, is not linked again. If one file came, which none of the others
-/// imports, and all others stayed as they were, what was known stays in place but for the numbers of files. An `Err` comes only where memory
-/// was refused; the earlier analysis is gone then.
+/// text. A file that stayed as it was, and sees the same files as before, is not linked again. An `Err` comes only where memory was refused;
+/// the earlier analysis is gone then.
 pub fn analyse_after(
     alloc: Global,
     earlier: Analysis,
@@ -155,10 +153,6 @@ pub fn analyse_after(
     ensures { IfOk result (λ found. found ≡ analysis (workspace_of pieces.now)) }
 {
     moved_law();
-    arrival_law();
-    if let Some(at) = unimported(earlier.table.table(), to, pieces) {
-        return with_arrival(alloc, earlier, at, to, pieces);
-    }
     let Analysis {
         table: known,
         resolutions: known_resolutions,

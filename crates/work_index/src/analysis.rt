@@ -1,5 +1,6 @@
 // What is known of a workspace.
-ghost use Rattle.std.specs.Prelude.{◌≡◌, ◌<◌, [], length, Some, bytes_eq, position, slice_index_or};
+ghost use Rattle.std.specs.Prelude.{◌≡◌, ◌<◌, ◌↔◌, [], length, Some, None, bytes_eq, position, slice_index_or, IsFalse};
+ghost use Rattle.work_index.specs.Arrivals.{NoneImports};
 
 use file_facts::{Diag, FileFacts, Name};
 use import_graph::FileNo;
@@ -102,11 +103,20 @@ impl Analysis {
         }
     }
 
-    // The number of the file with a path.
-    fn number_of(&self, path: &str) -> Option<FileNo>
+    /// The number of the file with a path; `None` where there is none. Found by halving; takes no memory.
+    pub fn number_of(&self, path: &str) -> Option<FileNo>
         ensures { result ≡ position (λ p. bytes_eq p path.now) self.now.paths }
     {
-        self.files().iter().position(|file| file.as_str() == path)
+        self.table.table().number_of(path)
+    }
+
+    /// Whether a file imports a path that none of them has. It looks only at files that import a missing or an opaque one, and takes no
+    /// memory.
+    pub fn is_imported(&self, path: &str) -> bool
+        requires { position (λ p. bytes_eq p path.now) self.now.paths ≡ None }
+        ensures { IsFalse result ↔ NoneImports self.now.facts path.now }
+    {
+        self.table.table().is_imported(path)
     }
 
     // The diagnostics of a file; none where there is no such file.

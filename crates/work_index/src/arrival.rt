@@ -1,37 +1,30 @@
-// The analysis of a workspace after one file came that none of the others imports.
-ghost use Rattle.std.specs.Prelude.{◌≡◌, map, IfOk, IfSome};
-ghost use Rattle.import_graph.specs.Arrivals.{ArrivalLaw};
-ghost use Rattle.link_changes.specs.Laws.{MovedLaw, decl_moved};
+// The analysis of a workspace with one more file, which none of the others imports.
+ghost use Rattle.std.specs.Prelude.{◌≡◌, ◌≤◌, map, IfOk, OnOk};
+ghost use Rattle.std.specs.List.{insert};
+ghost use Rattle.link_changes.specs.Laws.{decl_moved};
 ghost use Rattle.link_changes.specs.Touched.{links_after};
-ghost use Rattle.piece_collector.specs.Board.{Ascends};
-ghost use Rattle.work_index.specs.FilesMoves.{ComesUnimported};
-ghost use Rattle.work_index.specs.Pieces.{workspace_of};
-ghost use Rattle.work_index.specs.Stayed.{IsAmong};
-ghost use Rattle.work_index.specs.Workspace.{Workspace, all_facts, analysis};
+ghost use Rattle.work_index.specs.Arrivals.{Arrives, numbers_with};
+ghost use Rattle.work_index.specs.Workspace.{analysis};
 
 use crate::analyse::{diagnostics_of, path_of, resolution_of};
 use crate::analysis::Analysis;
 use crate::file_work::FileWork;
-use crate::moved_table::{FilesMove, move_of};
 use crate::table_of::named_facts;
-use import_graph::FileNo;
-use link_changes::move_files;
+use import_graph::{FileNo, arrival_law};
+use link_changes::{move_files, moved_law};
 use piece_collector::Piece;
-use proto_resolve::{Links, Table};
+use proto_resolve::Links;
 use std::alloc::{AllocError, Global};
 
-// The number of a file that came, if no other came or left, all others stayed as they were, and none of them imports it.
-pub fn unimported(
-    table: &Table,
-    to: &[Option<FileNo>],
-    pieces: &[Piece<FileWork>],
-) -> Option<FileNo>
-    ensures { IfSome result (ComesUnimported table.now (workspace_of pieces.now) to.now) }
+// The numbers of so many files, once another comes to the place `at`.
+fn numbers_with(alloc: Global, at: FileNo, count: usize) -> Result<Vec<Option<FileNo>>, AllocError>
+    ensures { IfOk result (λ to. to.items ≡ numbers_with at count) }
 {
-    match move_of(to, table.len(), pieces.len()) {
-        FilesMove::Came(at) if !table.is_imported(pieces[at].path()) => Some(at),
-        _ => None,
+    let mut to = Vec::with_capacity(alloc, count)?;
+    for file in 0..count {
+        to.push(Some(if file < at { file } else { file + 1 }))?;
     }
+    Ok(to)
 }
 
 // Gives the declarations in the links of all files the new numbers of their files.
@@ -43,32 +36,44 @@ fn move_all(to: &[Option<FileNo>], links: &mut Vec<Links>)
     }
 }
 
-// The analysis after a file came with the number `at`, counted from 0, which none of the others imports. Those stay linked as they were, but
-// for the numbers of files, and only that one is linked. `to` has the number of each of those now. An `Err` comes only where memory was
-// refused; the earlier analysis is gone then.
-pub fn with_arrival(
+// Gives them the numbers that so many files have once another comes to the place `at`. If that is the last one, no number changes.
+fn make_way(
+    alloc: Global,
+    at: FileNo,
+    count: usize,
+    links: &mut Vec<Links>,
+) -> Result<(), AllocError>
+    ensures { OnOk result (links.new.items ≡ map (links_after (decl_moved (numbers_with at count))) links.old.items) }
+{
+    if at < count {
+        let to = numbers_with(alloc, at, count)?;
+        move_all(to.as_slice(), links);
+    }
+    Ok(())
+}
+
+/// The analysis of a workspace with one more file, which is that of the piece, from the analysis without it. None of the others imports it:
+/// those stay linked as they were, but for the numbers of files, of which none changes if its path comes after theirs. An `Err` comes only
+/// where memory was refused; the earlier analysis is gone then.
+pub fn analyse_with(
     alloc: Global,
     earlier: Analysis,
-    at: FileNo,
-    to: &[Option<FileNo>],
-    pieces: &[Piece<FileWork>],
+    piece: &Piece<FileWork>,
 ) -> Result<Analysis, AllocError>
-    requires ascends { Ascends pieces.now }
-    requires stayed { IsAmong earlier (workspace_of pieces.now) to.now }
-    requires unimported { (old : Workspace) → earlier ≡ analysis old → ComesUnimported (all_facts old) (workspace_of pieces.now) to.now at }
-    requires moved_law { MovedLaw }
-    requires arrival_law { ArrivalLaw }
-    ensures { IfOk result (λ found. found ≡ analysis (workspace_of pieces.now)) }
+    requires { Arrives earlier (piece.now.path, piece.now.text) }
+    ensures { (arrives : Arrives earlier (piece.now.path, piece.now.text)) → IfOk result (λ found. found ≡ analysis (insert arrives.old arrives.at (piece.now.path, piece.now.text))) }
 {
+    moved_law();
+    arrival_law();
     let Analysis {
         table,
         mut paths,
         mut resolutions,
     } = earlier;
-    let piece = &pieces[at];
+    let at = table.table().place_for(piece.path());
+    make_way(alloc, at, paths.len(), &mut resolutions.links)?;
     let table = table.with_unimported(alloc, at, named_facts(alloc, piece)?)?;
     paths.insert(at, path_of(alloc, piece)?)?;
-    move_all(to, &mut resolutions.links);
     let found = resolution_of(alloc, table.table(), at, piece)?;
     let diagnostics = diagnostics_of(alloc, piece, &found)?;
     resolutions.links.insert(at, found)?;

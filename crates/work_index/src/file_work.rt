@@ -1,5 +1,5 @@
 // The work on one file.
-ghost use Rattle.std.specs.Prelude.{◌≡◌, true, IfOk};
+ghost use Rattle.std.specs.Prelude.{◌≡◌, true, false, IfOk};
 ghost use Rattle.file_facts.specs.Facts.{facts_of};
 ghost use Rattle.link_changes.specs.Asked.{has_all};
 ghost use Rattle.syntax_tree.specs.Read.{value_tree};
@@ -22,22 +22,60 @@ pub struct FileOut {
     pub tree: FileTree,
     /// What the text says by itself.
     pub facts: SharedFacts,
-    /// For which full names the file asks.
+    /// For which full names the file asks, or more of them.
     pub asked: Asked,
 }
 
 /// The work on one file: its tokens, its tree and its facts, and for which names it asks.
-#[derive(Drop)]
+#[derive(Clone, Copy)]
 pub struct FileWork {
     alloc: Global,
+    // Whether the file may be linked again, after another one has changed.
+    links_again: bool,
 }
 
 impl FileWork {
-    /// Work that takes its memory from this allocator.
+    /// Work for files that are linked again after changes. It takes its memory from this allocator.
     pub fn new(alloc: Global) -> FileWork
-        ensures { result.alloc ≡ alloc }
+        ensures alloc { result.alloc ≡ alloc }
+        ensures again { result.links_again ≡ true }
     {
-        FileWork { alloc }
+        FileWork {
+            alloc,
+            links_again: true,
+        }
+    }
+
+    /// Work for files that are linked once: it keeps no names for which they ask, as if each asked for all names. It takes its memory from this
+    /// allocator.
+    pub fn linking_once(alloc: Global) -> FileWork
+        ensures alloc { result.alloc ≡ alloc }
+        ensures once { result.links_again ≡ false }
+    {
+        FileWork {
+            alloc,
+            links_again: false,
+        }
+    }
+
+    /// The allocator from which it takes its memory.
+    pub fn alloc(&self) -> Global
+        ensures { result ≡ self.now.alloc }
+    {
+        self.alloc
+    }
+
+    // For which names a file asks, as far as that is kept.
+    fn asked(&self, text: &str, facts: &FileFacts, tree: &FileTree) -> Result<Asked, AllocError>
+        requires facts { facts.now ≡ facts_of text.now }
+        requires tree { tree.now ≡ value_tree text.now }
+        ensures { IfOk result (λ asked. has_all asked (asked_of text.now) ≡ true) }
+    {
+        if self.links_again {
+            Asked::of(self.alloc, text, facts, tree)
+        } else {
+            Ok(Asked::any(self.alloc))
+        }
     }
 }
 
@@ -56,7 +94,7 @@ impl Work for FileWork {
         make_room(self.alloc, text.len());
         let tree = tree_of(self.alloc, text)?;
         let facts = facts(self.alloc, text, &tree)?;
-        let asked = Asked::of(self.alloc, text, &facts, &tree)?;
+        let asked = self.asked(text, &facts, &tree)?;
         Ok(FileOut {
             tree,
             facts: SharedFacts::of(self.alloc, facts)?,

@@ -1,6 +1,6 @@
 //! What is known of a whole workspace: its files' texts in, their facts, names and diagnostics out.
 //!
-//! [`FileWork`] is the work on one file, whose product depends on its text alone; [`analyse_here`] links the products of all
+//! [`FileWork`] is the work on one file, whose product stands for its text; [`analyse_here`] links the products of all
 //! files, and [`analyse_in_shares`] has several threads do so, as does [`diagnose`], which keeps only what is wrong. What
 //! the analysis of a workspace is, is defined in specs/Workspace.antt as a function of the list of paths and texts; the products save time
 //! and take no part in it.
@@ -29,6 +29,7 @@ pub use after::analyse_after;
 pub use again::analyse_again;
 pub use analyse::analyse_here;
 pub use analysis::Analysis;
+pub use arrival::analyse_with;
 pub use diagnosis::Diagnosis;
 pub use done::Done;
 pub use fault::AnalyseFault;

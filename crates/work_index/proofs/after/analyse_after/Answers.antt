@@ -1,7 +1,5 @@
-use Rattle.std.proofs.Common.{List, ◌∙◌, ap, arith, subst}
+use Rattle.std.proofs.Common.{◌∙◌, ap, arith}
 use Rattle.import_graph.specs.Imports.{graph_of}
-use Rattle.import_graph.specs.declared.paths.NamedFacts.{NamedFacts}
-use Rattle.work_index.specs.FilesMoves.{ComesUnimported}
 use Rattle.work_index.specs.Pieces.{workspace_of}
 use Rattle.work_index.specs.Stayed.{IsSameFile}
 use Rattle.work_index.specs.Workspace.{resolution_of, diagnostics_of}
@@ -9,12 +7,6 @@ use Rattle.work_index.proofs.Changed.{parts, pieces_length}
 use Rattle.work_index.proofs.Stayed.{none_taken}
 use Rattle.work_index.proofs.Steps.{as_long, paths_as_long, paths_are, is_analysis}
 use Rattle.work_index.proofs.after.analyse_after.Goals as goal
-
-pub with_arrival-requires-clause-unimported : goal.with_arrival-requires-clause-unimported
-with_arrival-requires-clause-unimported c = λ old is.
-    let inside = c.earlier.inside in
-    let of = parts inside.table inside.paths.items inside.resolutions.links.items inside.resolutions.diagnostics.items old c.earlier.invariant.3 (c.earlier.view_is ∙ is) in
-    subst (λ (files : List NamedFacts). ComesUnimported files (workspace_of c.args.pieces.now) c.args.to.now c.in-Some.at) (c.table.ensures ∙ of.table_is) c.in-Some.ensures
 
 pub numbers_before-requires : goal.numbers_before-requires
 numbers_before-requires c = λ g n moves.

@@ -14,7 +14,7 @@ pub invariant_of-self-in-Ok : goal.invariant_of-self-in-Ok
 invariant_of-self-in-Ok g c =
     let files = files_view c.self.inside.files.entries in
     let w : workspace_of c.in_ok-lent.lent ≡ workspace files = lent_workspace files c.self.inside.board c.lend_all.new.self c.in_ok-lent.lent c.self.inside.known c.self.invariant c.in_ok-lent.ensures.lent c.in_ok-lent.ensures.back in
-    keeps_refreshed files c.self.inside.board c.lend_all.new.self c.take_back.new.self c.self.inside.known c.current.result c.in-Ok.analysis c.self.invariant c.in_ok-lent.ensures.lent c.take_back.ensures.here c.current.ensures.analysis c.current.ensures.changed (c.in-Ok.ensures.analysis ∙ ap analysis w)
+    keeps_refreshed files c.self.inside.board c.lend_all.new.self c.take_back.new.self c.self.inside.known c.current.result c.in-Ok.analysis c.self.invariant c.in_ok-lent.ensures.lent c.take_back.ensures.here c.current.ensures.analysis c.current.ensures.changed c.current.ensures.moves (c.in-Ok.ensures.analysis ∙ ap analysis w)
 
 pub invariant_of-self-in-Err : goal.invariant_of-self-in-Err
 invariant_of-self-in-Err g c = keeps_nothing (files_view c.new.result.entries) c.counting_from.result (ap files_view c.new.ensures.empty) c.counting_from.ensures.here c.counting_from.ensures.texts

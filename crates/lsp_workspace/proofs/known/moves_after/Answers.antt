@@ -1,0 +1,1 @@
+use Rattle.lsp_workspace.proofs.known.moves_after.Goals as goal

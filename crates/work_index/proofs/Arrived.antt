@@ -1,0 +1,205 @@
+-- The analysis of a workspace to which a file comes that none of its files imports, and its parts with that file.
+use Rattle.std.proofs.Common.{◌≡◌, ◌<◌, ◌≤◌, ◌+◌, ℕ, List, [], ◌∷◌, Bool, true, false, not, cond, Option, Some, None, unwrap_or, inl, inr, length, get_or, map, nat_lt, arith, refl, sym, ap, ap₂, ◌∙◌, subst}
+use Rattle.std.specs.Prelude.{All, bytes_eq}
+use Rattle.std.specs.Cmp.Lexicographic.{slice_cmp}
+use Rattle.std.specs.Ordering.{nat_cmp}
+use Rattle.std.specs.List.{insert, position, position_or_len}
+use Rattle.std.specs.List.Sorted.{IsStrictlySortedBy}
+use Rattle.std.proofs.Math.Path.{fun_ext}
+use Rattle.std.proofs.lemmas.Bool.{cases_lt}
+use Rattle.std.proofs.lemmas.Bool.Decides.{nat_tests}
+use Rattle.std.proofs.lemmas.List.{length-map, map-id, get_or_past, get_or-map}
+use Rattle.std.proofs.lemmas.List.Edits.{get_or-insert_at, get_or-insert_below, get_or-insert_above, length-insert}
+use Rattle.std.proofs.lemmas.List.Elements.{All-map}
+use Rattle.std.proofs.lemmas.List.FromFn.{length-map-range_with_len, get_or-map-range_with_len}
+use Rattle.std.proofs.lemmas.Option.{same_Some}
+use Rattle.std.proofs.lemmas.Simd.{map-map}
+use Rattle.file_facts.specs.declared.diagnostic.Diag.{Diag}
+use Rattle.file_facts.specs.declared.fact.FileFacts.{FileFacts}
+use Rattle.import_graph.specs.declared.paths.NamedFacts.{NamedFacts}
+use Rattle.import_graph.specs.Arrivals.{ArrivalLaw, NobodyImports}
+use Rattle.import_graph.specs.Moves.{place}
+use Rattle.import_graph.specs.Paths.{IsInPathOrder}
+use Rattle.import_graph.proofs.FileInserted.{map_insert}
+use Rattle.proto_resolve.specs.Files.{all_decls}
+use Rattle.proto_resolve.specs.declared.resolve.Links.{Links}
+use Rattle.proto_resolve.specs.declared.target.DeclRef.{DeclRef}
+use Rattle.proto_resolve.specs.declared.target.Target.{Target}
+use Rattle.proto_resolve.specs.declared.target.Target.TheVariants.{Declared, Package}
+use Rattle.proto_resolve.specs.declared.uses.NameUse.{NameUse}
+use Rattle.link_changes.specs.Laws.{MovedLaw, decl_moved}
+use Rattle.link_changes.specs.Touched.{links_after, target_after, use_after}
+use Rattle.work_index.specs.Arrivals.{Arrives, NoneImports, numbers_with}
+use Rattle.work_index.specs.FilesMoves.{HasCome}
+use Rattle.work_index.specs.Stayed.{Stay}
+use Rattle.work_index.specs.Workspace.{Workspace, AnalysisData, all_facts, analysis, diagnostics_of, named_facts, resolution_of}
+use Rattle.work_index.proofs.Ascending.{ordered_files}
+use Rattle.work_index.proofs.Changed.{AreParts, made, made_length, nothing}
+use Rattle.work_index.proofs.Unimported.{AreWithIt, ComesUnimported, with_it}
+
+-- ---- the numbers of files
+
+pub lower : (a b : ℕ) → a < b → nat_lt a b ≡ true
+lower a b lt = grind (arith, nat_tests)
+
+pub higher : (a b : ℕ) → b ≤ a → nat_lt a b ≡ false
+higher a b le = grind (arith, nat_tests)
+
+abbrev pub number : ℕ → ℕ → Option ℕ
+number at g = Some (cond (nat_lt g at) g (g + 1))
+
+module _ (at count : ℕ) where
+  numbered : (g : ℕ) → g < count → place (numbers_with at count) g ≡ number at g
+  numbered g less = get_or-map-range_with_len (number at) 0 count g g None less (omega arith)
+
+  as_many : length (numbers_with at count) ≡ count
+  as_many = length-map-range_with_len (number at) 0 count
+
+  unnumbered : (g : ℕ) → count ≤ g → place (numbers_with at count) g ≡ None
+  unnumbered g past = get_or_past (numbers_with at count) g None (omega (arith, past, as_many))
+
+  front : (g : ℕ) → g < count → g < at → place (numbers_with at count) g ≡ Some g
+  front g less before = numbered g less ∙ ap (λ b. Some (cond b g (g + 1))) (lower g at before)
+
+  behind : (g : ℕ) → g < count → at ≤ g → place (numbers_with at count) g ≡ Some (g + 1)
+  behind g less from = numbered g less ∙ ap (λ b. Some (cond b g (g + 1))) (higher g at from)
+
+  pub come : at ≤ count → HasCome (numbers_with at count) count (count + 1) at
+  come within = record {
+    files = sym as_many;
+    count = refl;
+    within = within;
+    front = λ g before. front g (omega (arith, before, within)) before;
+    behind = λ g from less. behind g less from;
+  }
+
+-- ---- where the file comes behind all others
+
+module _ (at count : ℕ) (last : count ≤ at) where
+  decl_stays : (r : DeclRef) → decl_moved (numbers_with at count) r ≡ r
+  decl_stays r = elim (cases_lt r.file count) [
+    | inl less ↦ ap (λ o. record { file = unwrap_or o r.file; number = r.number }) (front at count r.file less (omega (arith, less, last)))
+    | inr past ↦ ap (λ o. record { file = unwrap_or o r.file; number = r.number }) (unnumbered at count r.file past)
+  ]
+
+  moves_none : decl_moved (numbers_with at count) ≡ (λ (r : DeclRef). r)
+  moves_none = fun_ext decl_stays
+
+  pub all_stay : (links : List Links) → links ≡ map (links_after (decl_moved (numbers_with at count))) links
+  all_stay links = sym (ap (λ (move : DeclRef → DeclRef). map (links_after move) links) moves_none ∙ ap (λ (f : Links → Links). map f links) (fun_ext links_same) ∙ map-id links)
+    where
+      target_same : (t : Target) → target_after (λ r. r) t ≡ t
+      target_same (Declared r) = refl
+      target_same (Package name) = refl
+
+      use_same : (u : NameUse) → use_after (λ r. r) u ≡ u
+      use_same u = ap (λ (t : Target). record { span = u.span; name = u.name; target = t }) (target_same u.target)
+
+      links_same : (l : Links) → links_after (λ r. r) l ≡ l
+      links_same l = ap (λ (us : List NameUse). record { uses = us; diags = l.diags }) (ap (λ (f : NameUse → NameUse). map f l.uses) (fun_ext use_same) ∙ map-id l.uses)
+
+-- ---- the imports by the facts of the files, or by the files
+
+all_unmapped : {X Y : Type 0} (P : Y → Type 0) (f : X → Y) (xs : List X) → All P (map f xs) → All (λ x. P (f x)) xs
+all_unmapped P f xs all = λ k d lt. subst P (get_or-map f xs k d (f d) lt) (all k (f d) (omega (arith, lt, length-map xs f)))
+
+pub nobody_imports : (files : List NamedFacts) (path : List ℕ) → NoneImports (map (λ f. f.facts) files) path → NobodyImports files path
+nobody_imports files path none = all_unmapped (λ f. All (λ i. bytes_eq i.path path ≡ false) f.imports) (λ (f : NamedFacts). f.facts) files none
+
+pub none_imports : (files : List NamedFacts) (path : List ℕ) → NobodyImports files path → NoneImports (map (λ f. f.facts) files) path
+none_imports files path nobody = All-map (λ (f : FileFacts). All (λ i. bytes_eq i.path path ≡ false) f.imports) (λ (f : NamedFacts). f.facts) files nobody
+
+-- ---- a number by the paths, or by the files
+
+first_mapped : {X Y : Type 0} (p : Y → Bool) (f : X → Y) (xs : List X) → position_or_len p (map f xs) ≡ position_or_len (λ x. p (f x)) xs
+first_mapped p f [] = refl
+first_mapped p f (x ∷ xs) = ap (λ n. cond (not (p (f x))) (1 + n) 0) (first_mapped p f xs)
+
+pub position_mapped : {X Y : Type 0} (p : Y → Bool) (f : X → Y) (xs : List X) → position p (map f xs) ≡ position (λ x. p (f x)) xs
+position_mapped p f xs = ap₂ (λ (n m : ℕ). cond (nat_lt n m) (Some n) None) (first_mapped p f xs) (length-map xs f)
+
+-- ---- the workspace with the file
+
+module _ (old : Workspace) (at : ℕ) (file : List ℕ × List ℕ) (within : at ≤ length old) where
+  abbrev w : Workspace
+  w = insert old at file
+
+  longer : length w ≡ length old + 1
+  longer = length-insert old at file within
+
+  stay : Stay old w (numbers_with at (length old))
+  stay g n moves = elim (cases_lt g (length old)) [
+    | inr past ↦ let no : None ≡ Some n = sym (unnumbered at (length old) g past) ∙ moves in absurd (cc)
+    | inl less ↦ elim (cases_lt g at) [
+      | inl before ↦
+          let is : n ≡ g = same_Some n g (sym moves ∙ front at (length old) g less before) in record {
+            there = less;
+            here = omega (arith, less, is, longer);
+            same = sym (ap (λ m. get_or w m nothing) is ∙ get_or-insert_below old at file nothing g before within);
+          }
+      | inr from ↦
+          let is : n ≡ g + 1 = same_Some n (g + 1) (sym moves ∙ behind at (length old) g less from) in record {
+            there = less;
+            here = omega (arith, less, is, longer);
+            same = sym (ap (λ m. get_or w m nothing) is ∙ get_or-insert_above old at file nothing g from within);
+          }
+    ]
+  ]
+
+  comes : NobodyImports (all_facts old) file.0 → ComesUnimported (all_facts old) w (numbers_with at (length old)) at
+  comes nobody = record {
+    came = subst (λ n. HasCome (numbers_with at (length old)) n (length w) at) (sym (length-map old named_facts)) (subst (λ n. HasCome (numbers_with at (length old)) (length old) n at) (sym longer) (come at (length old) within));
+    nobody = subst (λ (f : List ℕ × List ℕ). NobodyImports (all_facts old) f.0) (sym (get_or-insert_at old at file nothing within)) nobody;
+  }
+
+  -- its facts are put among those of the others in the order of the paths
+  in_order : IsStrictlySortedBy (slice_cmp nat_cmp) (map (λ f. f.0) w) → IsInPathOrder (insert (all_facts old) at (named_facts file))
+  in_order ordered = subst (λ (files : List NamedFacts). IsInPathOrder files) (map_insert named_facts old at file) (ordered_files w ordered)
+
+-- the parts of the analysis with the file, which gets this number
+pub arrived : (a : AnalysisData) (file : List ℕ × List ℕ) (arrives : Arrives a file) (k : ℕ) (table : List NamedFacts) (paths : List (List ℕ)) (links : List Links) (diagnostics : List (List Diag))
+    → AreParts table paths links diagnostics arrives.old → map (λ f. f.facts) table ≡ a.facts → k ≡ arrives.at → MovedLaw → ArrivalLaw
+    → AreWithIt (insert arrives.old arrives.at file) (numbers_with k (length paths)) k file table paths links diagnostics
+arrived a file arrives k table paths links diagnostics of facts here moved_law arrival_law =
+    let old = arrives.old in
+    let many : length paths ≡ length old = ap length of.paths_are ∙ length-map old (λ f. f.0) in
+    let nobody : NobodyImports (all_facts old) file.0 = nobody_imports (all_facts old) file.0 (subst (λ (facts : List FileFacts). NoneImports facts file.0) (sym facts ∙ ap (map (λ (f : NamedFacts). f.facts)) of.table_is) arrives.nobody) in
+    subst (λ k. AreWithIt (insert old arrives.at file) (numbers_with k (length paths)) k file table paths links diagnostics) (sym here)
+    (subst (λ n. AreWithIt (insert old arrives.at file) (numbers_with arrives.at n) arrives.at file table paths links diagnostics) (sym many)
+    (with_it old (insert old arrives.at file) (numbers_with arrives.at (length old)) arrives.at file table paths links diagnostics of (stay old arrives.at file arrives.within)
+    (comes old arrives.at file arrives.within nobody) (get_or-insert_at old arrives.at file nothing arrives.within) moved_law arrival_law))
+
+-- the number at which the path goes among those of the files is that of the file
+pub place_is : (a : AnalysisData) (file : List ℕ × List ℕ) (arrives : Arrives a file) (k : ℕ) (table : List NamedFacts) → table ≡ all_facts arrives.old
+    → ((at : ℕ) (f : NamedFacts) → f.path ≡ file.0 → at ≤ length table → IsInPathOrder (insert table at f) → k ≡ at) → k ≡ arrives.at
+place_is a file arrives k table is placed =
+    let old = arrives.old in
+    placed arrives.at (named_facts file) refl (omega (arith, arrives.within, ap length is, length-map old named_facts))
+    (subst (λ (files : List NamedFacts). IsInPathOrder (insert files arrives.at (named_facts file))) (sym is) (in_order old arrives.at file arrives.within arrives.ordered))
+
+-- with it the files are in the order of their paths
+pub still_ordered : (a : AnalysisData) (file : List ℕ × List ℕ) (arrives : Arrives a file) (k : ℕ) (table : List NamedFacts) → table ≡ all_facts arrives.old → k ≡ arrives.at → IsInPathOrder (insert table k (named_facts file))
+still_ordered a file arrives k table is here =
+    subst (λ (files : List NamedFacts). IsInPathOrder (insert files k (named_facts file))) (sym is)
+    (subst (λ k. IsInPathOrder (insert (all_facts arrives.old) k (named_facts file))) (sym here) (in_order arrives.old arrives.at file arrives.within arrives.ordered))
+
+-- ---- the analysis of its parts
+
+pub is_analysis_of : (w : Workspace) (index : List NamedFacts) (paths : List (List ℕ)) (links : List Links) (diagnostics : List (List Diag))
+    → index ≡ all_facts w → paths ≡ map (λ f. f.0) w → links ≡ made (resolution_of w) w → diagnostics ≡ made (diagnostics_of w) w
+    → record { paths = paths; facts = map (λ file. file.facts) index; decls = all_decls index; links = links; diagnostics = diagnostics } ≡ analysis w
+is_analysis_of w index paths links diagnostics all are linked wrong =
+    rw (all, are, linked, wrong) (ap (λ fs. record { paths = map (λ f. f.0) w; facts = fs; decls = all_decls (all_facts w); links = made (resolution_of w) w; diagnostics = made (diagnostics_of w) w })
+    (map-map (λ file. file.facts) named_facts w))
+
+-- there are as many of all as files
+pub as_many_of : (w : Workspace) (index : List NamedFacts) (paths : List (List ℕ)) (links : List Links) (diagnostics : List (List Diag))
+    → index ≡ all_facts w → paths ≡ map (λ f. f.0) w → links ≡ made (resolution_of w) w → diagnostics ≡ made (diagnostics_of w) w
+    → (length paths ≡ length index) × (length links ≡ length index) × (length diagnostics ≡ length index) × (paths ≡ map (λ file. file.path) index)
+as_many_of w index paths links diagnostics all are linked wrong =
+    let long : length index ≡ length w = ap length all ∙ length-map w named_facts in (
+      ap length are ∙ length-map w (λ f. f.0) ∙ sym long,
+      ap length linked ∙ made_length (resolution_of w) w ∙ sym long,
+      ap length wrong ∙ made_length (diagnostics_of w) w ∙ sym long,
+      are ∙ sym (map-map (λ file. file.path) named_facts w) ∙ ap (map (λ file. file.path)) (sym all),
+    )
