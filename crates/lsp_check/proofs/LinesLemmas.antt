@@ -1,8 +1,7 @@
 -- The lines of diagnostics and their positions, and the lines of the files of a workspace.
-use Rattle.std.proofs.Common.{◌≡◌, ℕ, ◌+◌, ◌<◌, ◌≤◌, List, [], ◌∷◌, ◌++◌, length, take, drop, get_or, refl, ap, sym, subst, ◌∙◌, append_assoc, append-nil, flat_map, add-one, drop-cons, Option, Some, Result, Ok, Err}
+use Rattle.std.proofs.Common.{◌≡◌, ℕ, ◌+◌, ◌<◌, ◌≤◌, List, [], ◌∷◌, ◌++◌, length, take, drop, get_or, refl, ap, sym, ◌∙◌, append_assoc, append-nil, flat_map, add-one, drop-cons, Option, Some, Result, Ok, Err}
 use Rattle.std.specs.Prelude.{OnErr}
 use Rattle.std.specs.List.{enumerate_from, slice_get}
-use Rattle.std.specs.Io.KnownBytes.{Appends}
 use Rattle.std.proofs.KnownBytes.{Appends-trans, Appends-nil}
 use Rattle.std.proofs.lemmas.List.{take_more, drop_all}
 use Rattle.std.proofs.lemmas.Grind.{flat_map-append}
@@ -34,27 +33,40 @@ listed-more path ds walk now place old before after i d lt utf16 same found b a 
     a ∙ ap (λ l. l ++ line_at path place here.message) b ∙ append_assoc old lines (line_at path place here.message)
     ∙ ap (λ p. old ++ (lines ++ line_at path p here.message)) start ∙ ap (λ l. old ++ l) one
 
--- ---- lines that go out part by part
+-- ---- lines that gather in a room, and go out whenever it is full
 
+room-cut : (room lines left more : List ℕ) → left ≡ lines ++ more → room ++ left ≡ (room ++ lines) ++ more
+room-cut room lines left more cut = ap (λ l. room ++ l) cut ∙ sym (append_assoc room lines more)
+
+-- nothing went out
 pub sent-none : (v : Option (List ℕ)) (all : List ℕ) → Sent v v all all
 sent-none v all = record { front = []; joined = refl; appended = Appends-nil v }
 
--- what comes next went out
-pub sent-next : (old now new : Option (List ℕ)) (all lines left more : List ℕ) → left ≡ lines ++ more → Sent old now all left → Appends now new lines → Sent old new all more
-sent-next old now new all lines left more cut sent next = record {
-  front = sent.front ++ lines;
-  joined = sent.joined ∙ ap (λ l. sent.front ++ l) cut ∙ sym (append_assoc sent.front lines more);
-  appended = Appends-trans old now new sent.front lines sent.appended next;
+-- the lines that come next were added to the room
+pub sent-next : (old now new : Option (List ℕ)) (all room rest lines left more : List ℕ) → left ≡ lines ++ more
+    → Sent old now all (room ++ left) → Sent now new (room ++ lines) rest → Sent old new all (rest ++ more)
+sent-next old now new all room rest lines left more cut sent next = record {
+  front = sent.front ++ next.front;
+  joined = sent.joined ∙ ap (λ l. sent.front ++ l) (room-cut room lines left more cut ∙ ap (λ l. l ++ more) next.joined ∙ append_assoc next.front rest more) ∙ sym (append_assoc sent.front next.front (rest ++ more));
+  appended = Appends-trans old now new sent.front next.front sent.appended next.appended;
 }
 
--- what comes next went out in part
-pub part-next : (old now new : Option (List ℕ)) (all lines left more : List ℕ) → left ≡ lines ++ more → Sent old now all left → SendsPrefix now new lines → SendsPrefix old new all
-part-next old now new all lines left more cut sent part =
-    front-behind old now new sent.front lines more all (sent.joined ∙ ap (λ l. sent.front ++ l) cut) sent.appended part
+-- of the room and the lines that come next a part went out
+pub part-next : (old now new : Option (List ℕ)) (all room lines left more : List ℕ) → left ≡ lines ++ more
+    → Sent old now all (room ++ left) → SendsPrefix now new (room ++ lines) → SendsPrefix old new all
+part-next old now new all room lines left more cut sent part =
+    front-behind old now new sent.front (room ++ lines) more all (sent.joined ∙ ap (λ l. sent.front ++ l) (room-cut room lines left more cut)) sent.appended part
 
--- none is left
-pub sent-whole : (old new : Option (List ℕ)) (all left : List ℕ) → left ≡ [] → Sent old new all left → Appends old new all
-sent-whole old new all left none sent = subst (Appends old new) (sym (sent.joined ∙ ap (λ l. sent.front ++ l) none ∙ append-nil sent.front)) sent.appended
+-- no line is to be added
+pub sent-last : (old new : Option (List ℕ)) (all room left : List ℕ) → left ≡ [] → Sent old new all (room ++ left) → Sent old new all room
+sent-last old new all room left none sent =
+    record { front = sent.front; joined = sent.joined ∙ ap (λ l. sent.front ++ l) (ap (λ l. room ++ l) none ∙ append-nil room); appended = sent.appended }
+
+-- at an error the last room went out in part
+pub part-last : {A E : Type 0} (r : Result A E) (old now new : Option (List ℕ)) (all room : List ℕ) → Sent old now all room → OnErr r (SendsPrefix now new room) → OnErr r (SendsPrefix old new all)
+part-last (Ok x) old now new all room sent part = tt
+part-last (Err e) old now new all room sent part =
+    front-behind old now new sent.front room [] all (sent.joined ∙ ap (λ l. sent.front ++ l) (sym (append-nil room))) sent.appended part
 
 -- the lines of a part, and those of the others
 pub lines-cut : (path text : List ℕ) (ds part more : List Diag) → ds ≡ part ++ more → lines_of path text ds ≡ lines_of path text part ++ lines_of path text more
@@ -77,19 +89,19 @@ left-more a w n d there = ap (λ rest. flat_map (numbered_lines a) (enumerate_fr
 file-cut : (a : AnalysisData) (w : Workspace) (n : ℕ) (d : List ℕ × List ℕ) (lines : List ℕ) → n < length w → lines ≡ numbered_lines a (n, get_or w n d) → left_from a n w ≡ lines ++ left_from a (n + 1) w
 file-cut a w n d lines there of = left-more a w n d there ∙ ap (λ l. l ++ left_from a (n + 1) w) (sym of)
 
--- one more file went out
-pub sent-more : (a : AnalysisData) (w : Workspace) (n : ℕ) (d : List ℕ × List ℕ) (old now new : Option (List ℕ)) (all lines : List ℕ) → n < length w → lines ≡ numbered_lines a (n, get_or w n d)
-    → Sent old now all (left_from a n w) → Appends now new lines → Sent old new all (left_from a (n + 1) w)
-sent-more a w n d old now new all lines there of = sent-next old now new all lines (left_from a n w) (left_from a (n + 1) w) (file-cut a w n d lines there of)
+-- the lines of one more file were added to the room
+pub sent-more : (a : AnalysisData) (w : Workspace) (n : ℕ) (d : List ℕ × List ℕ) (old now new : Option (List ℕ)) (all room rest lines : List ℕ) → n < length w → lines ≡ numbered_lines a (n, get_or w n d)
+    → Sent old now all (room ++ left_from a n w) → Sent now new (room ++ lines) rest → Sent old new all (rest ++ left_from a (n + 1) w)
+sent-more a w n d old now new all room rest lines there of = sent-next old now new all room rest lines (left_from a n w) (left_from a (n + 1) w) (file-cut a w n d lines there of)
 
--- the next file went out in part
-pub sent-part : (a : AnalysisData) (w : Workspace) (n : ℕ) (d : List ℕ × List ℕ) (old now new : Option (List ℕ)) (all lines : List ℕ) → n < length w → lines ≡ numbered_lines a (n, get_or w n d)
-    → Sent old now all (left_from a n w) → SendsPrefix now new lines → SendsPrefix old new all
-sent-part a w n d old now new all lines there of = part-next old now new all lines (left_from a n w) (left_from a (n + 1) w) (file-cut a w n d lines there of)
+-- of the room and the lines of the next file a part went out
+pub sent-part : (a : AnalysisData) (w : Workspace) (n : ℕ) (d : List ℕ × List ℕ) (old now new : Option (List ℕ)) (all room lines : List ℕ) → n < length w → lines ≡ numbered_lines a (n, get_or w n d)
+    → Sent old now all (room ++ left_from a n w) → SendsPrefix now new (room ++ lines) → SendsPrefix old new all
+sent-part a w n d old now new all room lines there of = part-next old now new all room lines (left_from a n w) (left_from a (n + 1) w) (file-cut a w n d lines there of)
 
--- none is left
-pub sent-all : (a : AnalysisData) (w : Workspace) (n : ℕ) (old new : Option (List ℕ)) (all : List ℕ) → length w ≤ n → Sent old new all (left_from a n w) → Appends old new all
-sent-all a w n old new all none = sent-whole old new all (left_from a n w) (ap (λ rest. flat_map (numbered_lines a) (enumerate_from n rest)) (drop_all n w none))
+-- the lines of all files were added
+pub sent-all : (a : AnalysisData) (w : Workspace) (n : ℕ) (old new : Option (List ℕ)) (all room : List ℕ) → length w ≤ n → Sent old new all (room ++ left_from a n w) → Sent old new all room
+sent-all a w n old new all room none = sent-last old new all room (left_from a n w) (ap (λ rest. flat_map (numbered_lines a) (enumerate_from n rest)) (drop_all n w none))
 
 -- the lines of the file with a number
 pub lines-at : (w : Workspace) (n : ℕ) (a : AnalysisData) (path text : List ℕ) (diags : List Diag) → a ≡ analysis w → path ≡ (get_or w n ([], [])).0 → text ≡ (get_or w n ([], [])).1 → slice_get a.diagnostics n ≡ Some diags

@@ -1,10 +1,11 @@
 // The check of a workspace, without an editor.
-ghost use Rattle.std.specs.Prelude.{◌≡◌, ◌+◌, ◌≤◌, IfOk, IfErr, OnOk, OnErr};
+ghost use Rattle.std.specs.Prelude.{◌≡◌, ◌+◌, ◌≤◌, [], ◌++◌, IfOk, IfErr, OnOk, OnErr};
 ghost use Rattle.std.specs.Io.KnownBytes.{Appends};
 ghost use Rattle.doc_text.specs.declared.encoding.Encoding.TheVariants.{Utf16};
 ghost use Rattle.lsp_frame.specs.Counts.{NoneFell, NoError};
 ghost use Rattle.lsp_workspace.specs.Files.{workspace};
 ghost use Rattle.lsp_check.specs.Listing.{lines_of, listing, has_errors};
+ghost use Rattle.lsp_check.specs.Steps.{Sent};
 ghost use Rattle.lsp_config.specs.Configuration.{files_of};
 ghost use Rattle.lsp_config.specs.Fault.{ComesWhileChecking};
 ghost use Rattle.lsp_config.specs.Sending.{SendsPrefix};
@@ -23,12 +24,33 @@ use std::sync::{Arc, Wait};
 use std::thread::Threads;
 use work_index::Gate;
 
-// How many lines are in memory at a time.
+// How many lines of a file are added to the room at a time.
 const LINES: usize = 4096;
 
-// Writes the lines of some diagnostics of a file, whose text the walk goes along. The lines take the place of what the room
-// held.
-fn send_part<K: ByteSink>(
+// From so many bytes on the room is written.
+const FULL: usize = 65536;
+
+// Writes what the room holds, and empties it. If it holds nothing, the writer isn't called.
+fn flush<K: ByteSink>(writer: &mut K, room: &mut Vec<u8>) -> Result<(), ServeFault>
+    ensures ok { OnOk result (Appends (K.written writer.old) (K.written writer.new) room.old.items) }
+    ensures empty { OnOk result (room.new.items ≡ []) }
+    ensures err { OnErr result (SendsPrefix (K.written writer.old) (K.written writer.new) room.old.items) }
+    ensures fault { IfErr result (ComesWhileChecking (K.counts writer.old) (K.counts writer.new)) }
+    ensures counts { NoneFell (K.counts writer.old) (K.counts writer.new) }
+    ensures calm { OnOk result (NoError (K.counts writer.old) (K.counts writer.new)) }
+    ensures once { (K.counts writer.new).errors ≤ (K.counts writer.old).errors + 1 }
+{
+    match write_bytes(writer, room.as_slice()) {
+        Ok(()) => {
+            room.clear();
+            Ok(())
+        }
+        Err(_) => Err(ServeFault::Write),
+    }
+}
+
+// Adds to the room the lines of some diagnostics of a file, along whose text the walk goes, and writes the room if it is full.
+fn add_part<K: ByteSink>(
     writer: &mut K,
     room: &mut Vec<u8>,
     path: &str,
@@ -37,44 +59,44 @@ fn send_part<K: ByteSink>(
 ) -> Result<(), ServeFault>
     requires { walk.old.encoding ≡ Utf16 }
     ensures same { walk.new ≡ walk.old }
-    ensures ok { OnOk result (Appends (K.written writer.old) (K.written writer.new) (lines_of path.now walk.old.text diags.now)) }
-    ensures err { OnErr result (SendsPrefix (K.written writer.old) (K.written writer.new) (lines_of path.now walk.old.text diags.now)) }
+
+    // Of what the room held and the lines behind it a front went out, and the room holds the others.
+    ensures ok { OnOk result (Sent (K.written writer.old) (K.written writer.new) (room.old.items ++ lines_of path.now walk.old.text diags.now) room.new.items) }
+    ensures err { OnErr result (SendsPrefix (K.written writer.old) (K.written writer.new) (room.old.items ++ lines_of path.now walk.old.text diags.now)) }
     ensures fault { IfErr result (ComesWhileChecking (K.counts writer.old) (K.counts writer.new)) }
     ensures counts { NoneFell (K.counts writer.old) (K.counts writer.new) }
     ensures calm { OnOk result (NoError (K.counts writer.old) (K.counts writer.new)) }
     ensures once { (K.counts writer.new).errors ≤ (K.counts writer.old).errors + 1 }
 {
-    room.clear();
     let Ok(()) = push_lines(room, path, walk, diags) else {
         return Err(ServeFault::Memory);
     };
-    match write_bytes(writer, room.as_slice()) {
-        Ok(()) => Ok(()),
-        Err(_) => Err(ServeFault::Write),
+    if room.len() < FULL {
+        return Ok(());
     }
+    flush(writer, room)
 }
 
-// Writes the lines of a file, so many at a time.
-fn send_lines<K: ByteSink>(
-    alloc: Global,
+// Adds the lines of a file to the room, so many at a time, and writes it whenever it is full.
+fn add_lines<K: ByteSink>(
     writer: &mut K,
+    room: &mut Vec<u8>,
     path: &str,
     text: &str,
     diags: &[Diag],
 ) -> Result<(), ServeFault>
-    ensures ok { OnOk result (Appends (K.written writer.old) (K.written writer.new) (lines_of path.now text.now diags.now)) }
-    ensures err { OnErr result (SendsPrefix (K.written writer.old) (K.written writer.new) (lines_of path.now text.now diags.now)) }
+    ensures ok { OnOk result (Sent (K.written writer.old) (K.written writer.new) (room.old.items ++ lines_of path.now text.now diags.now) room.new.items) }
+    ensures err { OnErr result (SendsPrefix (K.written writer.old) (K.written writer.new) (room.old.items ++ lines_of path.now text.now diags.now)) }
     ensures fault { IfErr result (ComesWhileChecking (K.counts writer.old) (K.counts writer.new)) }
     ensures counts { NoneFell (K.counts writer.old) (K.counts writer.new) }
     ensures calm { OnOk result (NoError (K.counts writer.old) (K.counts writer.new)) }
     ensures once { (K.counts writer.new).errors ≤ (K.counts writer.old).errors + 1 }
 {
     let mut walk = Walk::new(text, Encoding::Utf16);
-    let mut room = Vec::new(alloc);
     let mut left = diags;
     'parts: while !left.is_empty() {
         let (part, more) = left.split_at(left.len().min(LINES));
-        send_part(writer, &mut room, path, &mut walk, part)?;
+        add_part(writer, room, path, &mut walk, part)?;
         left = more;
     }
     Ok(())
@@ -92,16 +114,17 @@ fn send_all<K: ByteSink>(
     ensures calm { OnOk result (NoError (K.counts writer.old) (K.counts writer.new)) }
     ensures once { (K.counts writer.new).errors ≤ (K.counts writer.old).errors + 1 }
 {
+    let mut room = Vec::new(alloc);
     for number in 0..files.file_count() {
-        send_lines(
-            alloc,
+        add_lines(
             writer,
+            &mut room,
             files.path(number),
             files.text(number),
             files.diagnosis().diagnostics(number),
         )?;
     }
-    Ok(())
+    flush(writer, &mut room)
 }
 
 // Writes the lines of the files of a workspace, and answers whether there is an error.
@@ -124,8 +147,8 @@ fn send_and_judge<K: ByteSink>(
 /// Checks the files of a configuration: writes a line for each diagnostic, and answers whether one is an error.
 ///
 /// A line is `path:line:column: number message`, with line and column from 1 and columns in UTF-16 units, and ends with a
-/// line feed. The lines come by path, and those of a file by start, end, number and words. At most 4,096 of them are in memory
-/// at a time.
+/// line feed. The lines come by path, and those of a file by start, end, number and words. They are gathered in memory and
+/// written whenever they come to 64 KiB, and at the end: at most 4,096 lines beyond 64 KiB are in memory at a time.
 ///
 /// As many threads as there are `workers` do the work on the texts, and then as many link the files, but never more than there
 /// are files: 0 counts as 1, and over 64 as 64. Each enters the gate before it works on a text, and before it links a file, and

@@ -14,7 +14,7 @@ use std::alloc::Global;
 use std::marker::Send;
 use std::sync::{Arc, Wait};
 use std::thread::Threads;
-use work_index::{Done, Gate};
+use work_index::{Done, FileWork, Gate};
 use worker_pool::Pool;
 
 // The workspace of the files of a configuration, on which no work is done yet.
@@ -142,7 +142,7 @@ fn work_on_all<R: Threads + Wait + Clone + Send + Drop + 'static, G: Gate + 'sta
     ensures full { OnOk result (IsFull workspace.new.board) }
     ensures fault { IfErr result IsOfWorkers }
 {
-    match Pool::start(rt, alloc, workers, gate) {
+    match Pool::start(rt, FileWork::linking_once(alloc), workers, gate) {
         Ok(pool) => {
             let mut pool = pool;
             let worked = await_work(rt, workspace, &mut pool);

@@ -21,7 +21,7 @@ use std::alloc::Global;
 use std::marker::Send;
 use std::sync::{Arc, Wait};
 use std::thread::Threads;
-use work_index::Gate;
+use work_index::{FileWork, Gate};
 use worker_pool::Pool;
 
 // What a session is started with: the files, how many workers there are, and the gate that they pass.
@@ -40,7 +40,7 @@ fn start_pool<R: Threads + Wait + Clone + Send + Drop + 'static, G: Gate + 'stat
 ) -> Result<Pool, ServeFault>
     ensures { IfErr result IsOfCore }
 {
-    match Pool::start(rt, alloc, workers, gate) {
+    match Pool::start(rt, FileWork::new(alloc), workers, gate) {
         Ok(pool) => Ok(pool),
         Err(fault) => Err(ServeFault::from(fault)),
     }

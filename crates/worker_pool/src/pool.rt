@@ -3,15 +3,14 @@ ghost use Rattle.std.specs.Prelude.{◌≡◌, ◌+◌, ◌<◌, ◌↔◌, IsTr
 ghost use Rattle.worker_pool.specs.Pool.{workers_for};
 
 use crate::fault::PoolFault;
-use crate::worker::worker_loop;
+use crate::worker::do_jobs;
 use crossbeam_channel::{Receiver, Sender};
 use piece_collector::Job;
-use std::alloc::Global;
 use std::marker::{Model, Send};
 use std::sync::{Arc, Wait};
 use std::thread;
 use std::thread::{JoinHandle, Threads};
-use work_index::{Done, Gate};
+use work_index::{Done, FileWork, Gate};
 
 // The places of each channel. At most this many jobs are out, so that each send finds a free place.
 const PLACES: usize = 256;
@@ -39,19 +38,20 @@ impl Model for Pool {
 }
 
 impl Pool {
-    /// Starts so many workers; 0 counts as 1, and over 64 as 64. Each enters the gate before it works on a text. The workers
-    /// and the channels take their memory from this allocator. No job is out yet.
+    /// Starts so many workers that do this work on texts; 0 counts as 1, and over 64 as 64. Each enters the gate before it works on a
+    /// text. All memory comes from the allocator of the work. No job is out yet.
     ///
     /// `Memory` where memory was refused, and `ThreadRefused` where a thread was. The workers that were started before have
     /// ended by then.
     pub fn start<R: Threads + Wait + Clone + Send + Drop + 'static, G: Gate + 'static>(
         rt: &R,
-        alloc: Global,
+        work: FileWork,
         workers: usize,
         gate: &Arc<G>,
     ) -> Result<Pool, PoolFault>
         ensures { IfOk result (λ pool. pool ≡ record { workers = workers_for workers; out = 0 }) }
     {
+        let alloc = work.alloc();
         let (jobs, their_jobs) = crossbeam_channel::bounded(alloc, PLACES)?;
         let (their_results, results) = crossbeam_channel::bounded(alloc, PLACES)?;
         let mut pool = Pool {
@@ -61,7 +61,7 @@ impl Pool {
             out: 0,
         };
         for _worker in 0..workers.clamp(1, 64) {
-            if let Err(fault) = pool.add_worker(rt, alloc, &their_jobs, &their_results, gate) {
+            if let Err(fault) = pool.add_worker(rt, work, &their_jobs, &their_results, gate) {
                 pool.close(rt);
                 return Err(fault);
             }
@@ -73,7 +73,7 @@ impl Pool {
     fn add_worker<R: Threads + Wait + Clone + Send + Drop + 'static, G: Gate + 'static>(
         &mut self,
         rt: &R,
-        alloc: Global,
+        work: FileWork,
         jobs: &Receiver<Job>,
         results: &Sender<Done>,
         gate: &Arc<G>,
@@ -86,7 +86,7 @@ impl Pool {
         let results = results.clone()?;
         let gate = Arc::try_clone(gate)?;
         let Ok(worker) = thread::spawn(rt, move || {
-            worker_loop(&rt_there, alloc, jobs, results, &*gate)
+            do_jobs(&rt_there, work, jobs, results, &*gate)
         }) else {
             return Err(PoolFault::ThreadRefused);
         };

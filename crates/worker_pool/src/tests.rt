@@ -8,7 +8,7 @@ use std::sync::atomic::{AtomicU64, Ordering};
 use std::sync::{Arc, Wait};
 use std::test::Fail;
 use std::thread::Threads;
-use work_index::Done;
+use work_index::{Done, FileWork};
 
 // A gate that counts who enters.
 #[derive(Drop)]
@@ -101,7 +101,7 @@ fn worked_on<R: Threads + Wait + Clone + Send + Drop + 'static>(
             entered: AtomicU64::new(0),
         },
     )?;
-    let mut pool = Pool::start(rt, alloc, workers, &gate)?;
+    let mut pool = Pool::start(rt, FileWork::new(alloc), workers, &gate)?;
     let lines = lines_of(rt, alloc, &mut pool, jobs);
     pool.close(rt);
     Ok((lines?, gate.entered.load(Ordering::SeqCst)))
@@ -131,7 +131,7 @@ fn pools_of_all_sizes_give_the_same(rt: HostRuntime) -> Result<(), Fail> {
 #[test]
 fn has_no_room_while_256_jobs_are_out(rt: HostRuntime) -> Result<(), Fail> {
     let alloc = rt.alloc();
-    let mut pool = Pool::start(&rt, alloc, 4, &Arc::new(alloc, OpenGate)?)?;
+    let mut pool = Pool::start(&rt, FileWork::new(alloc), 4, &Arc::new(alloc, OpenGate)?)?;
     let sent = send_all(&rt, alloc, &mut pool, 256);
     let full = !pool.has_room();
     let received = pool.receive(&rt).is_some();

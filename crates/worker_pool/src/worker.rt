@@ -9,11 +9,11 @@ use work_index::{Done, FileWork, Gate};
 
 // Does a job: enters the gate with its path and stamp, and works on its text. Gives the piece, or where memory is refused
 // the path and the stamp of the job.
-fn do_job<G: Gate>(alloc: Global, gate: &G, job: Job) -> Done
+fn do_job<G: Gate>(work: FileWork, gate: &G, job: Job) -> Done
     ensures { IsOutcomeOf job result }
 {
     gate.enter(job.path(), job.stamp());
-    match Piece::make(&FileWork::new(alloc), job) {
+    match Piece::make(&work, job) {
         Ok(piece) => Done::Made(piece),
         Err(job) => {
             let stamp = job.stamp();
@@ -36,11 +36,22 @@ pub fn worker_loop<R: Wait, G: Gate>(
     done: Sender<Done>,
     gate: &G,
 ) {
+    do_jobs(rt, FileWork::new(alloc), jobs, done, gate);
+}
+
+// The same with this work on each text.
+pub(crate) fn do_jobs<R: Wait, G: Gate>(
+    rt: &R,
+    work: FileWork,
+    jobs: Receiver<Job>,
+    done: Sender<Done>,
+    gate: &G,
+) {
     for _ in rt.forever() {
         let Ok(job) = jobs.recv(rt) else {
             break;
         };
-        if done.send(rt, do_job(alloc, gate, job)).is_err() {
+        if done.send(rt, do_job(work, gate, job)).is_err() {
             break;
         }
     }

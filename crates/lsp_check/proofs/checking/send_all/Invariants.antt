@@ -1,3 +1,4 @@
+use Rattle.std.proofs.Common.{◌++◌}
 use Rattle.lsp_frame.specs.Counts.{NoneFell, NoError}
 use Rattle.work_index.specs.Workspace.{analysis}
 use Rattle.lsp_check.specs.Listing.{listing}
@@ -5,7 +6,7 @@ use Rattle.lsp_check.specs.Steps.{Sent}
 use Rattle.lsp_check.proofs.LinesLemmas.{left_from}
 use Rattle.lsp_check.proofs.checking.send_all.Given as goal
 
--- the lines of the files so far went out
+-- what the room holds, and the lines of the files that are left, didn't go out yet
 abbrev pub invariant-loop-number : goal.invariant-loop-number
 invariant-loop-number g l =
     let written = g.K.ByteSink.written in
@@ -13,5 +14,5 @@ invariant-loop-number g l =
     record {
       none_fell : NoneFell (counts l.initial.writer) (counts l.writer);
       no_error : NoError (counts l.initial.writer) (counts l.writer);
-      sent : Sent (written l.initial.writer) (written l.writer) (listing l.files) (left_from (analysis l.files) l.number l.files);
+      sent : Sent (written l.initial.writer) (written l.writer) (listing l.files) (l.room.items ++ left_from (analysis l.files) l.number l.files);
     }
