@@ -13,6 +13,7 @@ usage: run.py [WORD..]   only the lines that have one of the words"""
 import json
 import os
 import pathlib
+import random
 import subprocess
 import sys
 import tempfile
@@ -85,8 +86,9 @@ EDITS = [
     Edit("a message above n of one name, with another such file", twice_equal, lambda n: "message New {}\n", 20_000, 0.3),
 ]
 
-# How many documents are opened one after the other, and the seconds that they may take.
-OPENS = [(1_000, None), (2_000, None), (4_000, 2)]
+# How many documents are opened one after the other, each count twice the one before, and the seconds that the largest count may take.
+OPENS = [1_000, 2_000, 4_000]
+OPENS_SECONDS = 2
 
 
 def put(folder, files):
@@ -191,21 +193,37 @@ def judged_edit(edit):
     return show(edit.name, 2 * edit.size, large, 0, limits)
 
 
-def opened(count):
-    """The seconds for so many documents that are opened one after the other, each followed by a request for its diagnostics."""
+def opened(names):
+    """The seconds for documents that are opened one after the other, each followed by a request for its diagnostics."""
     with tempfile.TemporaryDirectory() as room, stream.Server(["serve", "--root", room]) as server:
         client = Client(room, server)
         start = time.perf_counter()
-        for n in range(count):
+        for n in names:
             uri = f"file://{room}/f{n:05}.proto"
-            client.open(uri, f"{hostile.HEAD}message M{n} {{}}\n")
+            client.open(uri, f"{hostile.HEAD}package p{n % 7};\nmessage M{n} {{}}\n")
             client.diagnostics(uri)
         return time.perf_counter() - start
 
 
-def judged_opens(count, limit):
-    seconds = opened(count)
-    return show("documents opened one after the other", count, seconds, 0, [(f"over {limit} s", not limit or seconds <= limit)])
+# With which the order of documents in no order of their paths is made, the same in each run.
+SEED = 4
+
+
+def shuffled(names):
+    return random.Random(SEED).sample(names, len(names))
+
+
+def judged_opens(name, ordered, is_linear):
+    """Whether opening documents in this order stays within the limit and, if `is_linear`, takes at most GROWTH times the time of half as many."""
+    well, before = True, None
+    for count in OPENS:
+        seconds = min(opened(ordered(range(count))) for _ in range(2))
+        limits = [(f"over {OPENS_SECONDS} s", count < OPENS[-1] or seconds <= OPENS_SECONDS)]
+        if before and is_linear:
+            limits.append((f"{seconds / before:.1f} times the time of half the number", seconds <= GROWTH * before))
+        well = show(name, count, seconds, 0, limits) and well
+        before = seconds
+    return well
 
 
 def main(words):
@@ -213,7 +231,7 @@ def main(words):
     well = [judged(it) for it in lines]
     well += [judged_edit(it) for it in EDITS if not words or any(word in it.name for word in words)]
     if not words or "documents" in words:
-        well += [judged_opens(count, limit) for count, limit in OPENS]
+        well += [judged_opens("documents opened in path order", list, True), judged_opens("documents opened in no order", shuffled, False)]
     return 0 if all(well) else 1
 
 
