@@ -171,7 +171,7 @@ fn diagnose<R: Threads + Wait, G: Gate>(
 }
 
 /// The files of a configuration with what is wrong in them. So many workers do the work on the texts, and have ended by then; so many
-/// threads link the files, and drop the work on each. Each enters the gate before it works on a text, and before it links a file.
+/// threads link the files. Each enters the gate before it works on a text, and before it links a file.
 ///
 /// `Memory` if memory was refused, or a job couldn't be sent, and `ThreadRefused` if a thread was, or if no worker is left.
 pub fn diagnose_files<R: Threads + Wait + Clone + Send + Drop + 'static, G: Gate + 'static>(

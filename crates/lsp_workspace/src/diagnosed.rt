@@ -6,14 +6,17 @@ ghost use Rattle.lsp_workspace.specs.View.{files_view};
 
 use crate::files::{Files, text_at};
 use import_graph::FileNo;
+use piece_collector::Board;
 use std::marker::Model;
-use work_index::Diagnosis;
+use work_index::{Diagnosis, FileWork};
 
 /// The files of a workspace with what is wrong in each, which never change. A file is a number: its place, from 0, in the order of
 /// their paths. Contracts see them as the workspace: the paths of the files, each with its text.
 #[derive(Drop)]
 pub struct DiagnosedFiles {
     files: Files,
+    // The board from which the work on the texts was lent. It is freed with the files, since that takes time.
+    board: Board<FileWork>,
     diagnosis: Diagnosis,
 }
 
@@ -32,12 +35,16 @@ impl Model for DiagnosedFiles {
 
 impl DiagnosedFiles {
     // These files with what is wrong in each.
-    pub(crate) fn of(files: Files, diagnosis: Diagnosis) -> DiagnosedFiles
+    pub(crate) fn of(files: Files, board: Board<FileWork>, diagnosis: Diagnosis) -> DiagnosedFiles
         requires diagnosis { diagnosis ≡ index.diagnosis (workspace (files_view files.entries)) }
         requires ordered { AreInPathOrder (files_view files.entries) }
         ensures { result ≡ workspace (files_view files.entries) }
     {
-        DiagnosedFiles { files, diagnosis }
+        DiagnosedFiles {
+            files,
+            board,
+            diagnosis,
+        }
     }
 
     /// How many files there are.

@@ -350,8 +350,8 @@ impl Workspace {
         }
     }
 
-    /// Has so many threads find what is wrong in the files, and keeps nothing else of them: each drops the work on a text as soon as
-    /// that is known, and enters the gate before each of its files. The board has to be complete.
+    /// Has so many threads find what is wrong in the files. Each enters the gate before each of its files. What names mean isn't kept.
+    /// The board has to be complete.
     ///
     /// `Memory` if memory was refused, and `ThreadRefused` if a thread was.
     pub fn into_diagnosed<R: Threads + Wait, G: Gate>(
@@ -371,7 +371,7 @@ impl Workspace {
         } = self;
         let lent = board.lend_all()?;
         let diagnosis = diagnose(rt, alloc, lent, workers, gate)?;
-        Ok(DiagnosedFiles::of(files, diagnosis))
+        Ok(DiagnosedFiles::of(files, board, diagnosis))
     }
 
     /// The files with their analysis. Takes no memory.

@@ -57,13 +57,13 @@ made_append f n ts us =
     ∙ map-append f (enumerate_from n (workspace_of ts)) (enumerate_from (n + length (workspace_of ts)) (workspace_of us))
     ∙ ap (λ k. made_from f n ts ++ made_from f (n + k) us) long
 
--- the pieces of all shares are kept
+-- the links of all shares are kept
 abbrev pub AreKept : List Share → Type 0
-AreKept ss = All (λ (s : Share). s.is_kept ≡ true) ss
+AreKept ss = All (λ (s : Share). s.keeps_links ≡ true) ss
 
--- the shares of a workspace, joined, are these pieces and their links, if they are kept, and what is wrong in each
+-- the shares of a workspace, joined, are these pieces, what is wrong in each, and their links, if these are kept
 pub record AreAllLinked (w : Workspace) (n : ℕ) (ss : List Share) (ts : List TextAt) (pieces : List TextAt) (links : List Links) (diagnostics : List (List Diag)) : Type 0 where
-  pub pieces_are : AreKept ss → pieces ≡ ts
+  pub pieces_are : pieces ≡ ts
   pub links_are : AreKept ss → links ≡ made_from (resolution_of w) n ts
   pub diagnostics_are : diagnostics ≡ made_from (diagnostics_of w) n ts
 
@@ -73,7 +73,7 @@ with_share f n first ts us here rest at is are = ap₂ (λ a b. a ++ b) (is ∙ 
 
 joined : (w : Workspace) (files : List NamedFacts) → files ≡ all_facts w → (n : ℕ) (ss : List Share) (parts : List LinkedShare) → AreConsecutive n ss → AreLinkedBy files ss (map Ok parts)
     → AreAllLinked w n ss (pieces_in ss) (flat_map (λ (p : LinkedShare). p.pieces.items) parts) (flat_map (λ (p : LinkedShare). p.resolutions.links.items) parts) (flat_map (λ (p : LinkedShare). p.resolutions.diagnostics.items) parts)
-joined w files is n [] [] c a = record { pieces_are = λ kept. refl; links_are = λ kept. refl; diagnostics_are = refl }
+joined w files is n [] [] c a = record { pieces_are = refl; links_are = λ kept. refl; diagnostics_are = refl }
 joined w files is n [] (p ∷ parts) c a = absurd (omega (arith, a.len))
 joined w files is n (s ∷ ss) [] c a = absurd (omega (arith, a.len))
 joined w files is n (s ∷ ss) (p ∷ parts) c a =
@@ -81,19 +81,19 @@ joined w files is n (s ∷ ss) (p ∷ parts) c a =
     let rest = joined w files is (n + length s.pieces.items) ss parts c.1 (record { len = omega (arith, a.len); each = λ i t r x y. a.each (suc i) t r x y }) in
     let us = pieces_in ss in
     record {
-      pieces_are = λ kept. ap₂ (λ a b. a ++ b) (here.pieces (All-head (λ (x : Share). x.is_kept ≡ true) s ss kept)) (rest.pieces_are (All-tail (λ (x : Share). x.is_kept ≡ true) s ss kept));
-      links_are = λ kept. with_share (resolution_of w) n s.first s.pieces.items us _ _ c.0 (here.links (All-head (λ (x : Share). x.is_kept ≡ true) s ss kept)) (rest.links_are (All-tail (λ (x : Share). x.is_kept ≡ true) s ss kept));
+      pieces_are = ap₂ (λ a b. a ++ b) here.pieces rest.pieces_are;
+      links_are = λ kept. with_share (resolution_of w) n s.first s.pieces.items us _ _ c.0 (here.links (All-head (λ (x : Share). x.keeps_links ≡ true) s ss kept)) (rest.links_are (All-tail (λ (x : Share). x.keeps_links ≡ true) s ss kept));
       diagnostics_are = with_share (diagnostics_of w) n s.first s.pieces.items us _ _ c.0 here.diagnostics rest.diagnostics_are;
     }
 
--- the linked shares of pieces, joined, are those pieces and their links, if they are kept, and what is wrong in each
+-- the linked shares of pieces, joined, are those pieces, what is wrong in each, and their links, if these are kept
 pub all_joined : (w : Workspace) (files : List NamedFacts) → files ≡ all_facts w → (ts : List TextAt) (ss : List Share) (answers : List (Result LinkedShare AllocError)) (r : LinkedShare)
     → pieces_in ss ≡ ts → AreConsecutive 0 ss → AreLinkedBy files ss answers → AreJoined answers r → AreAllLinked w 0 ss ts r.pieces.items r.resolutions.links.items r.resolutions.diagnostics.items
 all_joined w files is ts ss answers r whole c linked j =
     let P : List (Result LinkedShare AllocError) → Type 0 = λ xs. AreLinkedBy files ss xs in
     let all = joined w files is 0 ss j.parts c (subst P j.none_refused linked) in
     record {
-      pieces_are = λ kept. j.pieces ∙ (all.pieces_are kept ∙ whole);
+      pieces_are = j.pieces ∙ (all.pieces_are ∙ whole);
       links_are = λ kept. j.links ∙ (all.links_are kept ∙ ap (made_from (resolution_of w) 0) whole);
       diagnostics_are = j.diagnostics ∙ (all.diagnostics_are ∙ ap (made_from (diagnostics_of w) 0) whole);
     }

@@ -28,12 +28,6 @@ one_more f n k ts t old new all there is added before =
     let next : n + (k + 1) ≡ n + k + 1 = omega arith in
     rw (added, next) (append_assoc old (f (n + k, (t.path, t.text)) ∷ []) (made_from f (n + k + 1) (drop (k + 1) ts)) ∙ after)
 
--- the same where what is left is a list of its own
-pub next_made : {X : Type 0} (f : ℕ × (List ℕ × List ℕ) → X) (n : ℕ) (t : TextAt) (left rest : List TextAt) (old new all : List X) → left ≡ t ∷ rest → new ≡ old ++ f (n, (t.path, t.text)) ∷ []
-    → old ++ made_from f n left ≡ all → new ++ made_from f (n + 1) rest ≡ all
-next_made f n t left rest old new all is added before =
-    rw added (append_assoc old (f (n, (t.path, t.text)) ∷ []) (made_from f (n + 1) rest) ∙ (ap (λ ts. old ++ made_from f n ts) (sym is) ∙ before))
-
 -- the places of files that are all of a table, counted from 0
 pub all_numbered : (ts : List TextAt) (index : List NamedFacts) → index ≡ all_facts (workspace_of ts) → length ts ≤ 18446744073709551615 → AreNumbersIn (length index) 0 (length ts)
 all_numbered ts index all held =

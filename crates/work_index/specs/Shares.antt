@@ -36,10 +36,10 @@ ArePlacedIn files shares = All (λ s. AreNumbersIn files s.first (length s.piece
 
 -- ---- what is made of them
 
--- the pieces of a share, as they were, and their links as files of the workspace, if they are kept; and what is wrong in each of them
+-- the pieces of a share, as they were, what is wrong in each of them as files of the workspace, and their links, if these are kept
 pub record IsLinkedIn (w : Workspace) (share : Share) (linked : LinkedShare) : Type 0 where
-  pub pieces : share.is_kept ≡ true → linked.pieces.items ≡ share.pieces.items
-  pub links : share.is_kept ≡ true → linked.resolutions.links.items ≡ map (resolution_of w) (enumerate_from share.first (workspace_of share.pieces.items))
+  pub pieces : linked.pieces.items ≡ share.pieces.items
+  pub links : share.keeps_links ≡ true → linked.resolutions.links.items ≡ map (resolution_of w) (enumerate_from share.first (workspace_of share.pieces.items))
   pub diagnostics : linked.resolutions.diagnostics.items ≡ map (diagnostics_of w) (enumerate_from share.first (workspace_of share.pieces.items))
 
 -- the same in the workspace of these files

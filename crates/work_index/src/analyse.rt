@@ -141,26 +141,25 @@ fn push_diagnosed(
 }
 
 // What is wrong in the files of some pieces, which are files of the table. The first has this number there, and the others those that
-// follow. Enters the gate before each file, and drops each piece, and what the names of its file mean, as soon as that is known.
+// follow. Enters the gate before each file. What the names of a file mean is dropped as soon as that is known.
 pub fn diagnose_files<G: Gate>(
     alloc: Global,
     table: &Table,
     first: usize,
-    pieces: Vec<Piece<FileWork>>,
+    pieces: &[Piece<FileWork>],
     gate: &G,
-) -> Result<Vec<Items<Diag>>, AllocError>
-    requires { AreNumbersIn (length table.now) first (length pieces.items) }
-    ensures { (w : Workspace) → table.now ≡ all_facts w → IfOk result (λ found. found.items ≡ map (diagnostics_of w) (enumerate_from first (workspace_of pieces.items))) }
+) -> Result<Resolutions, AllocError>
+    requires { AreNumbersIn (length table.now) first (length pieces.now) }
+    ensures { (w : Workspace) → table.now ≡ all_facts w → IfOk result (λ found. found.diagnostics.items ≡ map (diagnostics_of w) (enumerate_from first (workspace_of pieces.now))) }
 {
     let mut diagnostics = Vec::new(alloc);
-    let mut file = first;
-    for piece in pieces {
+    for (place, piece) in pieces.iter().enumerate() {
         gate.enter(piece.path(), piece.stamp());
-        make_room(alloc, diagnostics.len());
-        push_diagnosed(alloc, table, file, &piece, &mut diagnostics)?;
-        file += 1;
+        make_room(alloc, place);
+        push_diagnosed(alloc, table, first + place, piece, &mut diagnostics)?;
     }
-    Ok(diagnostics)
+    let links = Vec::new(alloc);
+    Ok(Resolutions { links, diagnostics })
 }
 
 /// The analysis of the workspace of some pieces, which are in the order of their paths, no path twice: it is that of their

@@ -1,8 +1,10 @@
 // What is wrong in the files of a workspace.
 ghost use Rattle.std.specs.Prelude.{◌≡◌, ◌<◌, length, Some};
 
+use crate::file_work::FileWork;
 use file_facts::{Diag, Name};
 use import_graph::FileNo;
+use piece_collector::Piece;
 use proto_resolve::Table;
 use sqlite_items::Items;
 use std::marker::Model;
@@ -13,7 +15,8 @@ use std::marker::Model;
 pub struct Diagnosis {
     pub(crate) paths: Vec<Name>,
     pub(crate) diagnostics: Vec<Items<Diag>>,
-    // What the files say, which is freed with the diagnosis: that takes a good part of the time in which it is made.
+    // What the texts and the files say, which is freed with the diagnosis: that takes a good part of the time in which it is made.
+    pub(crate) pieces: Vec<Piece<FileWork>>,
     pub(crate) table: Table,
 }
 

@@ -172,12 +172,12 @@ fn link_in_shares<R: Threads + Wait, G: Gate>(
 {
     let Share {
         pieces,
-        is_kept,
+        keeps_links,
         ..
     } = all;
     let files = all_facts(alloc, pieces.as_slice())?;
     let count = workers.clamp(1, 64).min(pieces.len());
-    let shares = cut(alloc, pieces, count, is_kept)?;
+    let shares = cut(alloc, pieces, count, keeps_links)?;
     let (shares, table) = table_in_shares(rt, alloc, shares, files)?;
     let answers = link_all(rt, alloc, shares, &table, gate)?;
     let linked = gather(alloc, answers)?;
@@ -208,7 +208,7 @@ pub fn analyse_in_shares<R: Threads + Wait, G: Gate>(
     let all = Share {
         first: 0,
         pieces,
-        is_kept: true,
+        keeps_links: true,
     };
     let (table, linked) = link_in_shares(rt, alloc, all, workers, gate)?;
     let LinkedShare {
@@ -223,9 +223,8 @@ pub fn analyse_in_shares<R: Threads + Wait, G: Gate>(
     Ok((Lent::of(pieces), analysis))
 }
 
-/// What is wrong in the files of lent pieces, which don't come back. It is what [`analyse_in_shares`] finds, by as many threads, and
-/// is refused as that is. Each piece is dropped, with its tree, as soon as it is known what is wrong in its file, and what names
-/// mean isn't kept, so that less memory is taken.
+/// What is wrong in the files of lent pieces, which are freed with the diagnosis. It is what [`analyse_in_shares`] finds, by as many
+/// threads, and is refused as that is. What names mean isn't kept, so that less memory is taken.
 pub fn diagnose<R: Threads + Wait, G: Gate>(
     rt: &R,
     alloc: Global,
@@ -240,14 +239,18 @@ pub fn diagnose<R: Threads + Wait, G: Gate>(
     let all = Share {
         first: 0,
         pieces,
-        is_kept: false,
+        keeps_links: false,
     };
     let (table, linked) = link_in_shares(rt, alloc, all, workers, gate)?;
-    let LinkedShare { resolutions, .. } = linked;
+    let LinkedShare {
+        pieces,
+        resolutions,
+    } = linked;
     let Resolutions { diagnostics, .. } = resolutions;
     Ok(Diagnosis {
         paths,
         diagnostics,
+        pieces,
         table,
     })
 }

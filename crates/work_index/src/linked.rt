@@ -12,15 +12,15 @@ use proto_resolve::Table;
 use sqlite_items::Items;
 use std::alloc::{AllocError, Global};
 
-// The pieces of a share, as they were, and what their names mean, if they are kept; and what is wrong in them in any case.
+// The pieces of a share, as they were, what is wrong in them, and what their names mean, if that is kept.
 #[derive(Drop)]
 pub struct LinkedShare {
     pub pieces: Vec<Piece<FileWork>>,
     pub resolutions: Resolutions,
 }
 
-// The work of one thread: links the files of a share in order, and enters the gate before each of them. Where pieces aren't kept, each
-// is dropped as soon as it is known what is wrong in its file, and so are the links.
+// The work of one thread: links the files of a share in order, and enters the gate before each of them. Where links aren't kept, those of
+// a file are dropped as soon as it is known what is wrong in it.
 pub fn link_share<G: Gate>(
     alloc: Global,
     share: Share,
@@ -33,24 +33,20 @@ pub fn link_share<G: Gate>(
     let Share {
         first,
         pieces,
-        is_kept,
+        keeps_links,
     } = share;
-    if is_kept {
-        let resolutions = link_files(alloc, table, first, pieces.as_slice(), gate)?;
-        return Ok(LinkedShare {
-            pieces,
-            resolutions,
-        });
-    }
-    let diagnostics = diagnose_files(alloc, table, first, pieces, gate)?;
-    let links = Vec::new(alloc);
+    let resolutions = if keeps_links {
+        link_files(alloc, table, first, pieces.as_slice(), gate)?
+    } else {
+        diagnose_files(alloc, table, first, pieces.as_slice(), gate)?
+    };
     Ok(LinkedShare {
-        pieces: Vec::new(alloc),
-        resolutions: Resolutions { links, diagnostics },
+        pieces,
+        resolutions,
     })
 }
 
-// All that is kept, with what is wrong in each file, in the order of the shares. An `Err` where one of the answers is one.
+// All pieces and links, with what is wrong in each file, in the order of the shares. An `Err` where one of the answers is one.
 pub fn gather(
     alloc: Global,
     answers: Vec<Result<LinkedShare, AllocError>>,

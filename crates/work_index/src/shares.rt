@@ -11,8 +11,8 @@ use std::alloc::{AllocError, Global};
 pub struct Share {
     pub first: usize,
     pub pieces: Vec<Piece<FileWork>>,
-    // Whether the pieces come back once their files are linked, with the links.
-    pub is_kept: bool,
+    // Whether the links of the files are kept once it is known what is wrong in them.
+    pub keeps_links: bool,
 }
 
 // Cuts pieces into so many consecutive shares, the larger ones first. Their sizes differ by at most one.
@@ -20,12 +20,12 @@ pub fn cut(
     alloc: Global,
     pieces: Vec<Piece<FileWork>>,
     count: usize,
-    is_kept: bool,
+    keeps_links: bool,
 ) -> Result<Vec<Share>, AllocError>
     requires { count ≡ 0 → pieces.items ≡ [] }
     ensures whole { IfOk result (λ shares. pieces_in shares.items ≡ pieces.items) }
     ensures places { IfOk result (λ shares. AreConsecutive 0 shares.items) }
-    ensures kept { IfOk result (λ shares. All (λ s. s.is_kept ≡ is_kept) shares.items) }
+    ensures kept { IfOk result (λ shares. All (λ s. s.keeps_links ≡ keeps_links) shares.items) }
     ensures count { IfOk result (λ shares. vec_len shares ≡ count) }
     ensures sizes { IfOk result (λ shares. AreBalanced (map (λ s. vec_len s.pieces) shares.items)) }
 {
@@ -38,7 +38,7 @@ pub fn cut(
         shares.push(Share {
             first,
             pieces,
-            is_kept,
+            keeps_links,
         })?;
         pieces = rest;
         first += here;

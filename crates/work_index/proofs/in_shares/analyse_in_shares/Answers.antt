@@ -8,7 +8,7 @@ use Rattle.work_index.proofs.in_shares.analyse_in_shares.Goals as goal
 
 pub of-requires-2-after_bounds : goal.of-requires-2-after_bounds
 of-requires-2-after_bounds g c κs =
-    subst Ascends (sym (c.in_ok-table.ensures.linked.pieces refl)) c.into_pieces-pieces.ensures.ascends
+    subst Ascends (sym (c.in_ok-table.ensures.linked.pieces)) c.into_pieces-pieces.ensures.ascends
 
 pub invariant_of-analysis : goal.invariant_of-analysis
 invariant_of-analysis g c =
@@ -20,7 +20,7 @@ invariant_of-analysis g c =
     (paths_as_long ts _ _ paths all, as_long (resolution_of w) ts _ _ (linked.links refl) all, as_long (diagnostics_of w) ts _ _ linked.diagnostics all, paths_are ts _ _ paths all)
 
 pub returns-clause-pieces : goal.returns-clause-pieces
-returns-clause-pieces g c = c.of-2.ensures ∙ (c.in_ok-table.ensures.linked.pieces refl ∙ c.into_pieces-pieces.ensures.pieces)
+returns-clause-pieces g c = c.of-2.ensures ∙ (c.in_ok-table.ensures.linked.pieces ∙ c.into_pieces-pieces.ensures.pieces)
 
 pub returns-clause-analysis : goal.returns-clause-analysis
 returns-clause-analysis g c =

@@ -45,10 +45,10 @@ returns-clause-linked g c =
     let places : AreConsecutive 0 c.in_ok-shares-2.shares.items = subst (λ ss. AreConsecutive 0 ss) (sym c.in_ok-shares-2.ensures.shares) c.in_ok-shares.ensures.places in
     let whole = ap pieces_in c.in_ok-shares-2.ensures.shares ∙ c.in_ok-shares.ensures.whole in
     let joined = all_joined w c.in_ok-shares-2.table all ts c.in_ok-shares-2.shares.items _ _ whole places c.in_ok-answers.ensures c.in_ok-linked.ensures in
-    let each : All (λ (s : Share). s.is_kept ≡ c.args.all.is_kept) c.in_ok-shares-2.shares.items = subst (λ ss. All (λ (s : Share). s.is_kept ≡ c.args.all.is_kept) ss) (sym c.in_ok-shares-2.ensures.shares) c.in_ok-shares.ensures.kept in
-    let are_kept : c.args.all.is_kept ≡ true → AreKept c.in_ok-shares-2.shares.items = λ kept. subst (λ (k : Bool). All (λ (s : Share). s.is_kept ≡ k) c.in_ok-shares-2.shares.items) kept each in
+    let each : All (λ (s : Share). s.keeps_links ≡ c.args.all.keeps_links) c.in_ok-shares-2.shares.items = subst (λ ss. All (λ (s : Share). s.keeps_links ≡ c.args.all.keeps_links) ss) (sym c.in_ok-shares-2.ensures.shares) c.in_ok-shares.ensures.kept in
+    let are_kept : c.args.all.keeps_links ≡ true → AreKept c.in_ok-shares-2.shares.items = λ kept. subst (λ (k : Bool). All (λ (s : Share). s.keeps_links ≡ k) c.in_ok-shares-2.shares.items) kept each in
     record {
-      pieces = λ kept. joined.pieces_are (are_kept kept);
+      pieces = joined.pieces_are;
       links = λ kept. joined.links_are (are_kept kept) ∙ ap (λ n. made_from (resolution_of w) n ts) (sym c.requires.first);
       diagnostics = joined.diagnostics_are ∙ ap (λ n. made_from (diagnostics_of w) n ts) (sym c.requires.first);
     }

@@ -18,7 +18,7 @@ loop-i-preserved c =
     let cut = cut_next _ _ here _ _ _ _ left size next sizes c.loop-i.invariant.balanced c.loop-i.invariant.bounded in
     record {
       whole = grind (arith, common_steps);
-      kept = all_kept c.args.is_kept _ _ _ c.in_ok-push.ensures.items c.loop-i.invariant.kept refl;
+      kept = all_kept c.args.keeps_links _ _ _ c.in_ok-push.ensures.items c.loop-i.invariant.kept refl;
       count = grind (arith, common_steps);
       left = grind (arith, common_steps);
       first = grind (arith, common_steps);

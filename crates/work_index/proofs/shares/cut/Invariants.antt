@@ -6,7 +6,7 @@ use Rattle.work_index.proofs.shares.cut.Given as goal
 abbrev pub invariant-loop-i : goal.invariant-loop-i
 invariant-loop-i l = record {
   whole : pieces_in l.shares.items ++ l.pieces.items ≡ l.fn.pieces.items;
-  kept : All (λ s. s.is_kept ≡ l.is_kept) l.shares.items;
+  kept : All (λ s. s.keeps_links ≡ l.keeps_links) l.shares.items;
   count : vec_len l.shares ≡ l.i;
   left : l.i ≡ l.count → vec_len l.pieces ≡ 0;
   first : l.first + vec_len l.pieces ≡ vec_len l.fn.pieces;
