@@ -1,7 +1,5 @@
 // What was met below a folder.
 
-use std::io;
-
 /// A file below a folder.
 #[derive(Debug, Drop)]
 pub struct FoundFile {
@@ -11,24 +9,23 @@ pub struct FoundFile {
     pub text: String,
 }
 
-// A folder that was met and isn't listed yet. Its path is the one below the root, whose own path is empty; its depth
-// is how many folders stand on that path.
+// A folder. Its path is the one below the root, whose own path is empty; its depth is how many folders stand on that path.
 #[derive(Drop)]
 pub(crate) struct Folder {
     pub(crate) path: String,
     pub(crate) depth: u32,
 }
 
-// A file that was met: its path below the folder, and how many bytes it is said to have.
+// A file: its path below the root, and how many bytes it is said to have.
 #[derive(Drop)]
 pub(crate) struct MetFile {
     pub(crate) path: String,
     pub(crate) length: u64,
 }
 
-// A file that was read: its path below the folder, and its text, or why it can't be had.
+// What was met and isn't read yet.
 #[derive(Drop)]
-pub(crate) struct ReadFile {
-    pub(crate) path: String,
-    pub(crate) text: io::Result<String>,
+pub(crate) enum Met {
+    Folder(Folder),
+    File(MetFile),
 }

@@ -4,10 +4,9 @@
 mod fault;
 mod found;
 mod listing;
+mod queue;
 mod reader;
-mod reading;
 mod room;
-mod runs;
 mod skipping;
 mod walk;
 

@@ -1,8 +1,9 @@
-// The entries of folders.
+// What is in folders: their entries, and the texts of files.
 
 use crate::fault::FolderFault;
-use crate::found::{Folder, MetFile};
+use crate::found::{Folder, FoundFile, Met, MetFile};
 use crate::reader::{FolderReader, path_in};
+use crate::room::make_room;
 use crate::skipping::Skipped;
 use std::alloc::{AllocError, Global};
 use std::fs::Metadata;
@@ -20,9 +21,9 @@ pub(crate) const MAX_ENTRIES: u32 = 100_000;
 pub(crate) struct Listing<'d> {
     alloc: Global,
     dir: &'d str,
-    pub(crate) files: Vec<MetFile>,
-    // The folders that were met and aren't listed yet.
-    pub(crate) folders: Vec<Folder>,
+    // The files that were read.
+    pub(crate) files: Vec<FoundFile>,
+    pub(crate) met: Vec<Met>,
     pub(crate) skipped: Vec<Skipped>,
     // How many entries were met.
     pub(crate) entries: u32,
@@ -63,13 +64,13 @@ fn skip_named(listing: &mut Listing<'_>, folder: &Folder, name: &[u8]) -> Result
     Ok(listing.skipped.push(skipped)?)
 }
 
-// Keeps a folder that was met, to be listed later.
+// Keeps a folder, to be listed later.
 fn add_folder(listing: &mut Listing<'_>, holder: &Folder, path: String) -> Result<(), FolderFault> {
     if holder.depth >= MAX_DEPTH {
         return Err(FolderFault::TooDeep);
     }
     let depth = holder.depth + 1;
-    Ok(listing.folders.push(Folder { path, depth })?)
+    Ok(listing.met.push(Met::Folder(Folder { path, depth }))?)
 }
 
 // Keeps what was met at a path, if it is a folder or a `.proto` file. Symbolic links aren't followed. What ends in `.proto` and is neither
@@ -90,7 +91,7 @@ fn add_found(
         return skip(listing, path.as_str(), "neither a file nor a folder");
     }
     let length = found.len();
-    Ok(listing.files.push(MetFile { path, length })?)
+    Ok(listing.met.push(Met::File(MetFile { path, length }))?)
 }
 
 // Looks at the entry of a folder that has this name.
@@ -167,13 +168,31 @@ fn list<F: FolderReader>(
     }
 }
 
-fn list_each<F: FolderReader>(
+// Reads a file. One that can't be read is left out.
+fn read<F: FolderReader>(
     reader: &F,
     listing: &mut Listing<'_>,
-    folders: &[Folder],
+    file: MetFile,
 ) -> Result<(), FolderFault> {
-    for folder in folders {
-        list(reader, listing, folder)?;
+    make_room(listing.alloc, listing.files.len());
+    let MetFile { path, length } = file;
+    let place = path_in(listing.alloc, listing.dir, path.as_str())?;
+    match reader.read_text(place.as_str(), length) {
+        Ok(text) => Ok(listing.files.push(FoundFile { path, text })?),
+        Err(error) => skip_unread(listing, path.as_str(), &error),
+    }
+}
+
+fn read_each<F: FolderReader>(
+    reader: &F,
+    listing: &mut Listing<'_>,
+    met: Vec<Met>,
+) -> Result<(), FolderFault> {
+    for one in met {
+        match one {
+            Met::Folder(folder) => list(reader, listing, &folder)?,
+            Met::File(file) => read(reader, listing, file)?,
+        }
     }
     Ok(())
 }
@@ -185,25 +204,31 @@ impl<'d> Listing<'d> {
             alloc,
             dir,
             files: Vec::new(alloc),
-            folders: Vec::new(alloc),
+            met: Vec::new(alloc),
             skipped: Vec::new(alloc),
             entries: 0,
             fault: None,
         }
     }
 
+    // Lists these folders and reads these files. A fault ends it.
+    pub(crate) fn read<F: FolderReader>(&mut self, reader: &F, met: Vec<Met>) {
+        let ended = read_each(reader, self, met);
+        self.fault = ended.err();
+    }
+
     // Adds what another listing has found. The first fault stays.
     pub(crate) fn add(&mut self, other: Listing<'_>) -> Result<(), AllocError> {
         let Listing {
             mut files,
-            mut folders,
+            mut met,
             mut skipped,
             entries,
             fault,
             ..
         } = other;
         self.files.append(&mut files)?;
-        self.folders.append(&mut folders)?;
+        self.met.append(&mut met)?;
         self.skipped.append(&mut skipped)?;
         self.entries = self.entries.saturating_add(entries);
         if self.fault.is_none() {
@@ -211,17 +236,4 @@ impl<'d> Listing<'d> {
         }
         Ok(())
     }
-}
-
-// Lists folders below the folder `dir`: the work of one thread. A fault ends it.
-pub(crate) fn list_run<'d, F: FolderReader>(
-    reader: &F,
-    alloc: Global,
-    dir: &'d str,
-    folders: &[Folder],
-) -> Listing<'d> {
-    let mut listing = Listing::new(alloc, dir);
-    let ended = list_each(reader, &mut listing, folders);
-    listing.fault = ended.err();
-    listing
 }

@@ -1,76 +1,87 @@
 // The walk over a folder and the folders below it.
 
 use crate::fault::FolderFault;
-use crate::found::{Folder, FoundFile, MetFile};
-use crate::listing::{Listing, MAX_DEPTH, MAX_ENTRIES, list_run};
+use crate::found::FoundFile;
+use crate::listing::Listing;
+use crate::queue::Queue;
 use crate::reader::FolderReader;
-use crate::reading::{read_all, texts_of};
-use crate::runs::runs_of;
 use crate::skipping::tell;
 use std::alloc::{AllocError, Global};
+use std::sync::Wait;
 use std::thread::{self, Threads};
 
-// How many folders a thread lists at least: to start one takes as long as to list some.
-const LEAST_FOLDERS: usize = 8;
+// For how many folders and files a thread is started: that takes as long as to read some.
+const LEAST: usize = 8;
 
-// What is in these folders, all of one depth: each run of them is listed in a thread of its own where one can be started.
-fn list_level<'d, R: FolderReader + Threads>(
+// Reads what waits, beside other threads, until nothing waits and none of them may meet more, or until so much waits: the work of one thread.
+fn read_on<'d, R: FolderReader + Wait>(
     rt: &R,
     alloc: Global,
     dir: &'d str,
-    folders: Vec<Folder>,
-    threads: usize,
-) -> Result<Listing<'d>, AllocError> {
-    let count = threads
-        .clamp(1, 64)
-        .min(folders.len() / LEAST_FOLDERS)
-        .max(1);
-    let runs = runs_of(alloc, folders, count)?;
-    let list = |run: Vec<Folder>| list_run(rt, alloc, dir, run.as_slice());
-    let mut found = Listing::new(alloc, dir);
-    for run in thread::map_vec(rt, runs, &list)? {
-        found.add(run)?;
-    }
-    Ok(found)
-}
-
-// The folder itself, to be listed.
-fn root(alloc: Global) -> Result<Vec<Folder>, AllocError> {
-    let mut folders = Vec::new(alloc);
-    folders.push(Folder {
-        path: String::new(alloc),
-        depth: 0,
-    })?;
-    Ok(folders)
-}
-
-// The files below the folder `dir`, level by level.
-fn walk<R: FolderReader + Eprint + Threads>(
-    rt: &R,
-    alloc: Global,
-    dir: &str,
-    threads: usize,
-) -> Result<Vec<MetFile>, FolderFault> {
-    let mut files = Vec::new(alloc);
-    let mut folders = root(alloc)?;
-    let mut entries = 0u32;
-    for _ in 0..=MAX_DEPTH {
-        if folders.is_empty() {
+    queue: &Queue,
+    enough: usize,
+) -> Listing<'d> {
+    let mut listing = Listing::new(alloc, dir);
+    for _turn in rt.forever() {
+        if queue.count(rt) >= enough {
             break;
         }
-        let mut found = list_level(rt, alloc, dir, folders, threads)?;
-        tell(rt, found.skipped.as_slice());
-        if let Some(fault) = found.fault {
-            return Err(fault);
-        }
-        entries = entries.saturating_add(found.entries);
-        if entries > MAX_ENTRIES {
-            return Err(FolderFault::TooManyEntries);
-        }
-        files.append(&mut found.files)?;
-        folders = found.folders;
+        let Some(some) = queue.take(rt) else {
+            break;
+        };
+        listing.read(rt, some);
+        queue.bring(rt, &mut listing);
     }
-    Ok(files)
+    listing
+}
+
+// Has so many threads, if they can be started, read what waits. This one only waits for them: the system puts the first new thread on the
+// processor of the one that starts it.
+fn read_in_threads<'d, R: FolderReader + Threads + Wait>(
+    rt: &R,
+    alloc: Global,
+    dir: &'d str,
+    queue: &Queue,
+    threads: usize,
+) -> Result<Listing<'d>, AllocError> {
+    thread::scope(
+        thread::scope_env(),
+        rt,
+        move |scope| -> Result<Listing<'_>, AllocError> {
+            let mut readers = Vec::new(alloc);
+            for _thread in 0..threads {
+                match scope.spawn(move || read_on(rt, alloc, dir, queue, usize::MAX)) {
+                    Ok(reader) => readers.push(reader)?,
+                    Err(_) => break,
+                }
+            }
+            let mut found = Listing::new(alloc, dir);
+            for reader in readers {
+                found.add(reader.join(rt))?;
+            }
+            Ok(found)
+        },
+    )
+}
+
+// What is below the folder `dir`. Where little waits this thread reads it alone, and all of it where no thread can be started.
+fn walk<'d, R: FolderReader + Threads + Wait>(
+    rt: &R,
+    alloc: Global,
+    dir: &'d str,
+    threads: usize,
+) -> Result<Listing<'d>, AllocError> {
+    let queue = Queue::of_root(alloc)?;
+    let mut found = Listing::new(alloc, dir);
+    if threads > 1 {
+        found.add(read_on(rt, alloc, dir, &queue, LEAST.saturating_mul(threads)))?;
+    }
+    if threads > 1 && queue.count(rt) > 0 {
+        found.add(read_in_threads(rt, alloc, dir, &queue, threads)?)?;
+    }
+    found.add(read_on(rt, alloc, dir, &queue, usize::MAX))?;
+    found.fault = queue.into_fault();
+    Ok(found)
 }
 
 /// The files below the folder at the path `dir` whose names end in `.proto`, each with its path below the folder, in no
@@ -78,18 +89,20 @@ fn walk<R: FolderReader + Eprint + Threads>(
 ///
 /// Names that begin with `.` and symbolic links are skipped; the folder itself may be a link. An entry that can't be
 /// read, and one whose name or text isn't UTF-8, is skipped with the line `skipped` on standard error, and a line that
-/// says which entry it is, and why. So many threads, at least one, list the folders and read the files; if one can't be started,
-/// another does its work.
+/// says which entry it is, and why. So many threads, at most 64, list the folders and read the files, or this one alone where there are
+/// few or none can be started.
 ///
 /// # Errors
 /// [`FolderFault`] says each.
-pub fn read_folder<R: FolderReader + AllocGlobal + Eprint + Threads>(
+pub fn read_folder<R: FolderReader + AllocGlobal + Eprint + Threads + Wait>(
     rt: &R,
     dir: &str,
     threads: usize,
 ) -> Result<Vec<FoundFile>, FolderFault> {
-    let alloc = rt.alloc();
-    let files = walk(rt, alloc, dir, threads)?;
-    let files = read_all(rt, alloc, dir, files, threads)?;
-    texts_of(rt, files)
+    let found = walk(rt, rt.alloc(), dir, threads.clamp(1, 64))?;
+    tell(rt, found.skipped.as_slice());
+    match found.fault {
+        Some(fault) => Err(fault),
+        None => Ok(found.files),
+    }
 }

@@ -5,6 +5,7 @@ use lsp_session::{Config, DiskFile};
 use program_options::root_url;
 use proto_folder::{FolderReader, FoundFile, read_folder};
 use std::alloc::{AllocError, Global};
+use std::sync::Wait;
 use std::thread::Threads;
 
 // Adds the files that were found below the root with this number.
@@ -20,7 +21,7 @@ fn add_found(
 }
 
 // Adds the files of the folder at a path, which is the root with this number. So many threads read them.
-fn add_files<'d, R: FolderReader + Eprint + AllocGlobal + Threads>(
+fn add_files<'d, R: FolderReader + Eprint + AllocGlobal + Threads + Wait>(
     rt: &R,
     files: &mut Vec<DiskFile>,
     root: usize,
@@ -54,7 +55,7 @@ fn roots_of(alloc: Global, dirs: &[&str]) -> Result<Vec<String>, AllocError> {
 
 // What a session is started with: the folders as its roots, and the files below them, which so many threads read. With no folder
 // no file is read.
-pub(crate) fn configuration<'d, R: FolderReader + Eprint + AllocGlobal + Threads>(
+pub(crate) fn configuration<'d, R: FolderReader + Eprint + AllocGlobal + Threads + Wait>(
     rt: &R,
     dirs: &[&'d str],
     threads: u8,
@@ -68,7 +69,7 @@ pub(crate) fn configuration<'d, R: FolderReader + Eprint + AllocGlobal + Threads
 }
 
 // What a check is started with: the files of the folder at a path, which so many threads read, below the root of all paths.
-pub(crate) fn files_of<'d, R: FolderReader + Eprint + AllocGlobal + Threads>(
+pub(crate) fn files_of<'d, R: FolderReader + Eprint + AllocGlobal + Threads + Wait>(
     rt: &R,
     dir: &'d str,
     threads: u8,
