@@ -77,6 +77,18 @@ pub fn write_files(line: &mut String, found: &Analysis) -> Result<(), AllocError
     Ok(())
 }
 
+// The number of the file with a path; where there is none, whether an import has it.
+fn write_path(line: &mut String, found: &Analysis, path: &str) -> Result<(), AllocError> {
+    match found.number_of(path) {
+        Some(number) => write!(line, " {number}"),
+        None => write_absent(line, found.is_imported(path)),
+    }
+}
+
+fn write_absent(line: &mut String, imported: bool) -> Result<(), AllocError> {
+    write!(line, " none, imported {imported}")
+}
+
 // The answer to a question of an analysis.
 fn write_asked(line: &mut String, found: &Analysis, question: &str) -> Answer<()> {
     write!(line, " {question}:")?;
@@ -86,6 +98,9 @@ fn write_asked(line: &mut String, found: &Analysis, question: &str) -> Answer<()
     if let Some(path) = question.strip_prefix("at ") {
         let count = found.diagnostics_at(path).len();
         return Ok(write!(line, " {count}")?);
+    }
+    if let Some(path) = question.strip_prefix("path ") {
+        return Ok(write_path(line, found, path)?);
     }
     Ok(match question {
         "files" => write_files(line, found)?,
@@ -105,8 +120,8 @@ pub fn files_in<'a>(alloc: Global, fields: &[&'a str]) -> Result<Vec<&'a str>, A
     Ok(files)
 }
 
-// All that is wrong in some files, by path, and by number where that differs.
-fn write_said(
+/// All that is wrong in some files, by path, and by number where that differs.
+pub fn write_said(
     alloc: Global,
     line: &mut String,
     found: &Analysis,
@@ -121,8 +136,8 @@ fn write_said(
     Ok(())
 }
 
-// The answers to the questions.
-fn write_answers(line: &mut String, found: &Analysis, fields: &[&str]) -> Answer<()> {
+/// The answers to the questions.
+pub fn write_answers(line: &mut String, found: &Analysis, fields: &[&str]) -> Answer<()> {
     for field in fields {
         if let Some(question) = field.strip_prefix("? ") {
             write_asked(line, found, question)?;

@@ -213,6 +213,7 @@ fn step(alloc: Global, line: &mut String, board: &mut Board<Length>, call: &str)
         "work" => work(line, board),
         "offer" => offer(line, board, piece(alloc, rest)?),
         "fail" => fail(line, board, rest),
+        "piece" => Ok(find(line, board, rest)?),
         _ => lend(line, board),
     }
 }
@@ -266,6 +267,16 @@ fn next(line: &mut String, board: &mut Board<Length>) -> Result<(), AllocError>
 {
     match board.next_job()? {
         Some(job) => write_job(line, &job),
+        None => put(line, "none"),
+    }
+}
+
+// The piece at a path, by its path.
+fn find(line: &mut String, board: &Board<Length>, path: &str) -> Result<(), AllocError>
+    requires { board.now.is_lent ≡ false }
+{
+    match board.piece(path) {
+        Some(piece) => write_piece(line, piece),
         None => put(line, "none"),
     }
 }

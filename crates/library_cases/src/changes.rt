@@ -7,7 +7,9 @@ ghost use Rattle.work_index.specs.Pieces.{workspace_of};
 ghost use Rattle.work_index.specs.Workspace.{analysis};
 
 use crate::analyses::write_by_number;
-use crate::pieces::{is_alike, number_of, pieces_after, pieces_at, pieces_in};
+use crate::line::put;
+use crate::pieces::{is_alike, number_of, pieces_by, pieces_in};
+use crate::shares::write_everything;
 use case_notation::{Answer, Trouble, first_word};
 use piece_collector::Piece;
 use std::alloc::{AllocError, Global};
@@ -58,18 +60,33 @@ fn analysed_again(
     Ok(Some(analyse_again(alloc, earlier, changed, after)?))
 }
 
-// Writes what is wrong in files after changes.
+// Writes what is wrong in files, or all that is known.
+fn write_found(
+    line: &mut String,
+    found: &Analysis,
+    pieces: &[Piece<FileWork>],
+    whole: bool,
+) -> Result<(), AllocError> {
+    if whole {
+        write_everything(line, found, pieces)
+    } else {
+        write_by_number(line, found, pieces)
+    }
+}
+
+// Writes what is wrong in files after changes, or all that is known then.
 fn write_after(
     alloc: Global,
     line: &mut String,
     before: &[Piece<FileWork>],
     after: &[Piece<FileWork>],
     changed: &[usize],
+    whole: bool,
 ) -> Result<(), AllocError>
     requires { Ascends before.now }
 {
     match analysed_again(alloc, before, after, changed)? {
-        Some(found) => write_by_number(line, &found, after),
+        Some(found) => write_found(line, &found, after, whole),
         None => Ok(()),
     }
 }
@@ -84,9 +101,17 @@ fn numbers_of(alloc: Global, pieces: &[Piece<FileWork>], changes: &[&str]) -> An
     Ok(numbers)
 }
 
-fn write_changed(alloc: Global, line: &mut String, files: &[&str], changes: &[&str]) -> Answer<()> {
-    let before = pieces_at(alloc, files)?;
-    let after = pieces_after(alloc, files, changes)?;
+// Writes what is wrong in files after changes, or all that is known then, with pieces that this work makes.
+fn write_changed(
+    alloc: Global,
+    line: &mut String,
+    work: FileWork,
+    files: &[&str],
+    changes: &[&str],
+    whole: bool,
+) -> Answer<()> {
+    let before = pieces_by(alloc, work, files, &[])?;
+    let after = pieces_by(alloc, work, files, changes)?;
     let changed = numbers_of(alloc, pieces_in(&before), changes)?;
     Ok(write_after(
         alloc,
@@ -94,11 +119,49 @@ fn write_changed(alloc: Global, line: &mut String, files: &[&str], changes: &[&s
         pieces_in(&before),
         pieces_in(&after),
         changed.as_slice(),
+        whole,
     )?)
 }
 
+// All that is known after changes, with pieces that this work makes.
+fn everything_by(
+    alloc: Global,
+    work: FileWork,
+    files: &[&str],
+    changes: &[&str],
+) -> Answer<String> {
+    let mut line = String::new(alloc);
+    write_changed(alloc, &mut line, work, files, changes, true)?;
+    Ok(line)
+}
+
+// Writes what is known with files that are linked once, where it differs from what is known with files that are linked again.
+fn note_once(alloc: Global, line: &mut String, files: &[&str], changes: &[&str]) -> Answer<()> {
+    let once = everything_by(alloc, FileWork::linking_once(alloc), files, changes)?;
+    let again = everything_by(alloc, FileWork::new(alloc), files, changes)?;
+    if once.as_str() != again.as_str() {
+        put(line, "; but once")?;
+        put(line, once.as_str())?;
+    }
+    Ok(())
+}
+
+// What is wrong in files after changes, if they are linked once.
+fn write_once(alloc: Global, line: &mut String, files: &[&str], changes: &[&str]) -> Answer<()> {
+    let work = FileWork::linking_once(alloc);
+    write_changed(alloc, line, work, files, changes, false)?;
+    note_once(alloc, line, files, changes)
+}
+
+fn write_again(alloc: Global, line: &mut String, files: &[&str], changes: &[&str]) -> Answer<()> {
+    if changes.is_empty() {
+        return Err(Trouble::Unknown("no change"));
+    }
+    write_changed(alloc, line, FileWork::new(alloc), files, changes, false)
+}
+
 /// Writes the answer to a call on files, behind which stand changes of some of them, each with `> ` at the front.
-pub fn answer(alloc: Global, line: &mut String, fields: &[&str]) -> Answer<()> {
+pub fn answer(alloc: Global, line: &mut String, call: &str, fields: &[&str]) -> Answer<()> {
     let mut files = Vec::new(alloc);
     let mut changes = Vec::new(alloc);
     for field in fields {
@@ -107,8 +170,8 @@ pub fn answer(alloc: Global, line: &mut String, fields: &[&str]) -> Answer<()> {
             None => files.push(*field)?,
         }
     }
-    if changes.is_empty() {
-        return Err(Trouble::Unknown("no change"));
+    match call {
+        "once" => write_once(alloc, line, files.as_slice(), changes.as_slice()),
+        _ => write_again(alloc, line, files.as_slice(), changes.as_slice()),
     }
-    write_changed(alloc, line, files.as_slice(), changes.as_slice())
 }

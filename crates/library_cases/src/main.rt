@@ -3,6 +3,7 @@
 #![tactic(auto)]
 
 mod analyses;
+mod arrivals;
 mod boards;
 mod changes;
 mod documents;
@@ -13,6 +14,7 @@ mod line;
 mod links;
 mod messages;
 mod parts;
+mod paths;
 mod pieces;
 mod places;
 mod queries;
@@ -52,13 +54,15 @@ fn answer<R: Threads + Wait>(
         | "copied name"
         | "full name" => { fact_lists::answer(alloc, line, call, fields) }
         "graph" | "alike" | "ring" | "seers" => graphs::answer(alloc, line, call, fields),
+        "paths" => paths::answer(alloc, line, fields),
         "links" | "outlines" | "replaced" | "set" => links::answer(alloc, line, call, fields),
         "board" | "piece" | "refused piece" => boards::answer(alloc, line, call, fields),
         "analysis" => analyses::answer(rt, alloc, line, fields),
         "shares" => shares::answer(rt, alloc, line, fields),
         "meet" => shares::meet(rt, alloc, line, fields),
         "parts" => parts::answer(alloc, line, fields),
-        "again" => changes::answer(alloc, line, fields),
+        "again" | "once" => changes::answer(alloc, line, call, fields),
+        "with" => arrivals::answer(alloc, line, fields),
         "queries" => queries::answer(alloc, line, fields),
         "offsets" | "positions" | "edits" => documents::answer(alloc, line, call, fields),
         "path" | "uri" | "root" | "escaped" | "workspace path" => {

@@ -145,22 +145,21 @@ fn made_at<W: Work>(
     lent_of(&mut board)
 }
 
-/// The pieces of files after changes of some of them, in the order of their paths.
-pub fn pieces_after(alloc: Global, files: &[&str], changes: &[&str]) -> Answer<Lent<FileWork>>
+/// The pieces that this work makes of files after changes of some of them, in the order of their paths.
+pub fn pieces_by(
+    alloc: Global,
+    work: FileWork,
+    files: &[&str],
+    changes: &[&str],
+) -> Answer<Lent<FileWork>>
     ensures { IfOk result (λ lent. Ascends lent) }
 {
-    made_at(
-        alloc,
-        FileWork::new(alloc),
-        &FileWork::new(alloc),
-        files,
-        changes,
-    )
+    made_at(alloc, work, &work, files, changes)
 }
 
 /// The pieces of files, in the order of their paths.
 pub fn pieces_at(alloc: Global, files: &[&str]) -> Answer<Lent<FileWork>>
     ensures { IfOk result (λ lent. Ascends lent) }
 {
-    pieces_after(alloc, files, &[])
+    pieces_by(alloc, FileWork::new(alloc), files, &[])
 }

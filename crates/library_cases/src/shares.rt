@@ -64,8 +64,8 @@ fn write_known(
     write_diagnostics(line, text, found.diagnostics(file))
 }
 
-// All that an analysis says, and the pieces.
-fn everything(
+/// All that an analysis says, and the pieces.
+pub fn everything(
     alloc: Global,
     found: &Analysis,
     pieces: &[Piece<FileWork>],
@@ -75,7 +75,8 @@ fn everything(
     Ok(line)
 }
 
-fn write_everything(
+/// Writes all that an analysis says, and the pieces.
+pub fn write_everything(
     line: &mut String,
     found: &Analysis,
     pieces: &[Piece<FileWork>],
