@@ -16,6 +16,8 @@ import time
 ROOT = pathlib.Path(__file__).resolve().parent.parent
 # The most jobs that one check gains from.
 MOST_JOBS = 4
+# How much lower the priority of tasks is that others needn't wait for, as `nice` counts.
+GIVES_WAY = 10
 # The most memory that a check has been seen to take: what the kit foresees is far more for a crate above many others.
 MOST_MEMORY = 4_000_000_000
 
@@ -117,8 +119,11 @@ def proof_task(crate, is_used):
 
 
 class Schedule:
-    """Tasks side by side: each once those that it waits for went well, first the one with the longest chain of others behind it, which also gets the
-    processors that no other task waits for."""
+    """Tasks side by side: each once those that it waits for went well, first the one with the longest chain of others behind it.
+
+    The first task of the longest chain that is left gets as many jobs as there are processors, though it counts as two, and all others give way to
+    it: nothing can end before that chain does. Other tasks get the processors that no other task waits for.
+    """
 
     def __init__(self, tasks, ended, lanes):
         self.left, self.ended = [*tasks], ended
@@ -133,8 +138,11 @@ class Schedule:
         self.left.sort(key=lambda it: -self.behind[it.name])
         self.known = {*weight}
 
-    def one(self, task, jobs):
+    def one(self, task, jobs, is_first):
         began, well = time.time(), False
+        if not is_first:
+            # (on Linux a priority is a thread's own, and what it starts has the same)
+            os.setpriority(os.PRIO_PROCESS, threading.get_native_id(), os.getpriority(os.PRIO_PROCESS, 0) + GIVES_WAY)
         try:
             well = task.call(jobs)
         finally:
@@ -162,11 +170,12 @@ class Schedule:
             room = self.memory - sum(memory for _, memory in self.running.values())
             if idle <= 0 or self.running and task.memory > room:
                 continue
+            is_first = self.behind[task.name] >= max(self.behind[it] for it in [*self.running, *(other.name for other in self.left)])
             spare = idle - (len(ready) - at - 1)
-            jobs = max(1, min(MOST_JOBS, spare), min(2, idle) if at == 0 else 1)
+            jobs = min(MOST_JOBS, self.lanes) if is_first else max(1, min(MOST_JOBS, spare))
             self.left.remove(task)
-            self.running[task.name] = jobs, task.memory
-            threading.Thread(target=self.one, args=(task, jobs), daemon=True).start()
+            self.running[task.name] = min(jobs, max(2, spare)) if is_first else jobs, task.memory
+            threading.Thread(target=self.one, args=(task, jobs, is_first), daemon=True).start()
 
     def run(self):
         with self.turn:
