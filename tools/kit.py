@@ -16,7 +16,7 @@ import time
 ROOT = pathlib.Path(__file__).resolve().parent.parent
 # The most jobs that one check gains from.
 MOST_JOBS = 4
-# How much lower the priority of tasks is that others needn't wait for, as `nice` counts.
+# By how much the priority of a task without the longest chain is lowered, as `nice` counts.
 GIVES_WAY = 10
 # The most memory that a check has been seen to take: what the kit foresees is far more for a crate above many others.
 MOST_MEMORY = 4_000_000_000
@@ -121,8 +121,9 @@ def proof_task(crate, is_used):
 class Schedule:
     """Tasks side by side: each once those that it waits for went well, first the one with the longest chain of others behind it.
 
-    The first task of the longest chain that is left gets as many jobs as there are processors, though it counts as two, and all others give way to
-    it: nothing can end before that chain does. Other tasks get the processors that no other task waits for.
+    A task with the longest chain of all that are left or running when it starts gets as many jobs as a check gains from, and takes up two processors
+    for them, or more where no other task waits for these. All others get the processors that no other task waits for, and run at a lower
+    priority, since the whole ends no sooner than that chain does.
     """
 
     def __init__(self, tasks, ended, lanes):
@@ -140,10 +141,10 @@ class Schedule:
 
     def one(self, task, jobs, is_first):
         began, well = time.time(), False
-        if not is_first:
-            # (on Linux a priority is a thread's own, and what it starts has the same)
-            os.setpriority(os.PRIO_PROCESS, threading.get_native_id(), os.getpriority(os.PRIO_PROCESS, 0) + GIVES_WAY)
         try:
+            if not is_first:
+                # (on Linux a priority is a thread's own, and what it starts has the same)
+                os.setpriority(os.PRIO_PROCESS, threading.get_native_id(), os.getpriority(os.PRIO_PROCESS, 0) + GIVES_WAY)
             well = task.call(jobs)
         finally:
             with self.turn:
