@@ -23,9 +23,10 @@ pub(crate) struct Listing<'d> {
     dir: &'d str,
     // The files that were read.
     pub(crate) files: Vec<FoundFile>,
+    // What was met since the queue took over last, to be read by any thread.
     pub(crate) met: Vec<Met>,
     pub(crate) skipped: Vec<Skipped>,
-    // How many entries were met.
+    // How many entries were met since then.
     pub(crate) entries: u32,
     pub(crate) fault: Option<FolderFault>,
 }
@@ -174,11 +175,13 @@ fn read<F: FolderReader>(
     listing: &mut Listing<'_>,
     file: MetFile,
 ) -> Result<(), FolderFault> {
-    make_room(listing.alloc, listing.files.len());
     let MetFile { path, length } = file;
     let place = path_in(listing.alloc, listing.dir, path.as_str())?;
     match reader.read_text(place.as_str(), length) {
-        Ok(text) => Ok(listing.files.push(FoundFile { path, text })?),
+        Ok(text) => {
+            make_room(listing.alloc, listing.files.len());
+            Ok(listing.files.push(FoundFile { path, text })?)
+        }
         Err(error) => skip_unread(listing, path.as_str(), &error),
     }
 }
@@ -217,23 +220,15 @@ impl<'d> Listing<'d> {
         self.fault = ended.err();
     }
 
-    // Adds what another listing has found. The first fault stays.
+    // Adds the files that another thread has read, and what it left out.
     pub(crate) fn add(&mut self, other: Listing<'_>) -> Result<(), AllocError> {
         let Listing {
             mut files,
-            mut met,
             mut skipped,
-            entries,
-            fault,
             ..
         } = other;
         self.files.append(&mut files)?;
-        self.met.append(&mut met)?;
         self.skipped.append(&mut skipped)?;
-        self.entries = self.entries.saturating_add(entries);
-        if self.fault.is_none() {
-            self.fault = fault;
-        }
         Ok(())
     }
 }

@@ -6,12 +6,15 @@ use crate::listing::{Listing, MAX_ENTRIES};
 use std::alloc::{AllocError, Global};
 use std::sync::{Condvar, Mutex, Wait};
 
-// How many folders and files a thread takes at a time at most.
-const MOST: usize = 8;
+// How many folders and files a thread takes at most at a time.
+const MOST_TAKEN: usize = 8;
 
 #[derive(Drop)]
 struct Waiting {
+    // What was met and nobody has taken yet.
     met: Vec<Met>,
+    // How many threads there will be.
+    threads: usize,
     // How many threads read what they took, and may meet more.
     busy: usize,
     // How many entries were met.
@@ -26,18 +29,20 @@ impl Waiting {
         self.met.is_empty() && self.busy != 0 && self.fault.is_none()
     }
 
-    // Takes what was met last. `None` if nothing waits, or the walk has ended.
-    fn take(&mut self) -> Result<Option<Vec<Met>>, AllocError> {
-        if self.met.is_empty() || self.fault.is_some() {
+    // Takes the part of a thread, what was met last. `None` if nothing waits, if so much does, or if the walk has ended.
+    fn take(&mut self, enough: usize) -> Result<Option<Vec<Met>>, AllocError> {
+        let waiting = self.met.len();
+        if waiting == 0 || waiting >= enough || self.fault.is_some() {
             return Ok(None);
         }
-        let left = self.met.len().saturating_sub(MOST);
+        let part = waiting.div_ceil(self.threads.max(1)).min(MOST_TAKEN);
+        let left = waiting.saturating_sub(part);
         let some = self.met.split_off(left)?;
         self.busy = self.busy.saturating_add(1);
         Ok(Some(some))
     }
 
-    // Takes over what a thread met, and what ended its work, if anything did. It reads nothing then.
+    // Takes over what a thread met, which isn't busy any more. An `Err` is what ends the walk: the thread's fault, or too many entries.
     fn bring(&mut self, listing: &mut Listing<'_>) -> Result<(), FolderFault> {
         self.busy = self.busy.saturating_sub(1);
         self.entries = self.entries.saturating_add(listing.entries);
@@ -66,8 +71,8 @@ pub(crate) struct Queue {
 }
 
 impl Queue {
-    // The folder itself, to be listed.
-    pub(crate) fn of_root(alloc: Global) -> Result<Queue, AllocError> {
+    // The folder itself, to be listed, for so many threads.
+    pub(crate) fn of_root(alloc: Global, threads: usize) -> Result<Queue, AllocError> {
         let mut met = Vec::new(alloc);
         met.push(Met::Folder(Folder {
             path: String::new(alloc),
@@ -76,6 +81,7 @@ impl Queue {
         Ok(Queue {
             waiting: Mutex::new(Waiting {
                 met,
+                threads,
                 busy: 0,
                 entries: 0,
                 fault: None,
@@ -84,23 +90,21 @@ impl Queue {
         })
     }
 
-    // How many folders and files wait; none if the walk has ended.
-    pub(crate) fn count<R: Wait>(&self, rt: &R) -> usize {
+    // Whether something waits, and the walk hasn't ended.
+    pub(crate) fn has_more<R: Wait>(&self, rt: &R) -> bool {
         let waiting = self.waiting.lock(rt);
-        if waiting.fault.is_some() {
-            return 0;
-        }
-        waiting.met.len()
+        !waiting.met.is_empty() && waiting.fault.is_none()
     }
 
-    // Takes some of what waits. If nothing does, but another thread may meet more, it waits for that.
-    pub(crate) fn take<R: Wait>(&self, rt: &R) -> Option<Vec<Met>> {
+    // Takes some of what waits, unless so much does. If nothing does, but another thread may meet more, it waits for that.
+    pub(crate) fn take<R: Wait>(&self, rt: &R, enough: usize) -> Option<Vec<Met>> {
         let mut waiting = self
             .changed
             .wait_while(rt, self.waiting.lock(rt), |it| it.is_awaited());
-        match waiting.take() {
+        match waiting.take(enough) {
             Ok(some) => some,
             Err(_) => {
+                // (something waited, so the call that brought it has woken all)
                 waiting.end(FolderFault::Memory);
                 None
             }

@@ -10,10 +10,8 @@ use std::alloc::{AllocError, Global};
 use std::sync::Wait;
 use std::thread::{self, Threads};
 
-// For how many folders and files a thread is started: that takes as long as to read some.
-const LEAST: usize = 8;
-
-// Reads what waits, beside other threads, until nothing waits and none of them may meet more, or until so much waits: the work of one thread.
+// The work of one thread: reads what waits, beside other threads, until nothing waits and none of them may meet more, until so much waits, or
+// until the walk has ended.
 fn read_on<'d, R: FolderReader + Wait>(
     rt: &R,
     alloc: Global,
@@ -23,10 +21,7 @@ fn read_on<'d, R: FolderReader + Wait>(
 ) -> Listing<'d> {
     let mut listing = Listing::new(alloc, dir);
     for _turn in rt.forever() {
-        if queue.count(rt) >= enough {
-            break;
-        }
-        let Some(some) = queue.take(rt) else {
+        let Some(some) = queue.take(rt, enough) else {
             break;
         };
         listing.read(rt, some);
@@ -64,19 +59,20 @@ fn read_in_threads<'d, R: FolderReader + Threads + Wait>(
     )
 }
 
-// What is below the folder `dir`. Where little waits this thread reads it alone, and all of it where no thread can be started.
+// What is below the folder `dir`. This thread reads it alone until there is something for each of so many threads, and all of it where none
+// of these can be started.
 fn walk<'d, R: FolderReader + Threads + Wait>(
     rt: &R,
     alloc: Global,
     dir: &'d str,
     threads: usize,
 ) -> Result<Listing<'d>, AllocError> {
-    let queue = Queue::of_root(alloc)?;
+    let queue = Queue::of_root(alloc, threads)?;
     let mut found = Listing::new(alloc, dir);
     if threads > 1 {
-        found.add(read_on(rt, alloc, dir, &queue, LEAST.saturating_mul(threads)))?;
+        found.add(read_on(rt, alloc, dir, &queue, threads))?;
     }
-    if threads > 1 && queue.count(rt) > 0 {
+    if threads > 1 && queue.has_more(rt) {
         found.add(read_in_threads(rt, alloc, dir, &queue, threads)?)?;
     }
     found.add(read_on(rt, alloc, dir, &queue, usize::MAX))?;
@@ -89,8 +85,9 @@ fn walk<'d, R: FolderReader + Threads + Wait>(
 ///
 /// Names that begin with `.` and symbolic links are skipped; the folder itself may be a link. An entry that can't be
 /// read, and one whose name or text isn't UTF-8, is skipped with the line `skipped` on standard error, and a line that
-/// says which entry it is, and why. So many threads, at most 64, list the folders and read the files, or this one alone where there are
-/// few or none can be started.
+/// says which entry it is, and why. As many threads as are asked for, 64 at most, or as many of them as can be
+/// started, list the folders and read the files. The calling thread does it alone until there is something for each of them, and where none
+/// can be started.
 ///
 /// # Errors
 /// [`FolderFault`] says each.
