@@ -81,11 +81,11 @@ pub fn write_files(line: &mut String, found: &Analysis) -> Result<(), AllocError
 fn write_path(line: &mut String, found: &Analysis, path: &str) -> Result<(), AllocError> {
     match found.number_of(path) {
         Some(number) => write!(line, " {number}"),
-        None => write_absent(line, found.is_imported(path)),
+        None => write_no_number(line, found.is_imported(path)),
     }
 }
 
-fn write_absent(line: &mut String, imported: bool) -> Result<(), AllocError> {
+fn write_no_number(line: &mut String, imported: bool) -> Result<(), AllocError> {
     write!(line, " none, imported {imported}")
 }
 

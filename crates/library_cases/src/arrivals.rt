@@ -61,7 +61,8 @@ fn note_anew(
     Ok(())
 }
 
-fn write_found(
+// Writes what an analysis says and what it answers, and what a new one says where that differs.
+fn write_compared(
     alloc: Global,
     line: &mut String,
     found: &Analysis,
@@ -83,22 +84,14 @@ fn piece_at<'p>(pieces: &'p [Piece<FileWork>], path: &str) -> Answer<&'p Piece<F
     }
 }
 
-// What is said of files, given those before one came, all of them, and the path of the one that came.
-fn write_with(
+// The analysis of files with one that comes, given its piece, from the one without it. None where it is not new to them.
+fn analysed_arrival(
     alloc: Global,
-    line: &mut String,
-    before: &[Piece<FileWork>],
-    after: &[Piece<FileWork>],
-    path: &str,
-    fields: &[&str],
-) -> Answer<()>
-    requires before { Ascends before.now }
-    requires after { Ascends after.now }
-{
-    match analysed_with(alloc, before, piece_at(after, path)?)? {
-        Some(found) => write_found(alloc, line, &found, after, fields),
-        None => Ok(put(line, "not new")?),
-    }
+    files: &[&str],
+    piece: &Piece<FileWork>,
+) -> Answer<Option<Analysis>> {
+    let before = pieces_at(alloc, files)?;
+    Ok(analysed_with(alloc, pieces_in(&before), piece)?)
 }
 
 fn write_arrival(
@@ -109,16 +102,12 @@ fn write_arrival(
     fields: &[&str],
 ) -> Answer<()> {
     let (path, _) = first_word(came);
-    let before = pieces_at(alloc, files)?;
     let after = pieces_by(alloc, FileWork::new(alloc), files, &[came])?;
-    write_with(
-        alloc,
-        line,
-        pieces_in(&before),
-        pieces_in(&after),
-        path,
-        fields,
-    )
+    let piece = piece_at(pieces_in(&after), path)?;
+    match analysed_arrival(alloc, files, piece)? {
+        Some(found) => write_compared(alloc, line, &found, pieces_in(&after), fields),
+        None => Ok(put(line, "not new")?),
+    }
 }
 
 /// Files, of which the last one, with `> ` at the front, comes to the others, and questions: what `analysis` answers to all of them. Where

@@ -271,7 +271,7 @@ fn next(line: &mut String, board: &mut Board<Length>) -> Result<(), AllocError>
     }
 }
 
-// The piece at a path, by its path.
+// The piece at a path.
 fn find(line: &mut String, board: &Board<Length>, path: &str) -> Result<(), AllocError>
     requires { board.now.is_lent ≡ false }
 {

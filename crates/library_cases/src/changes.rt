@@ -15,6 +15,20 @@ use piece_collector::Piece;
 use std::alloc::{AllocError, Global};
 use work_index::{Analysis, FileWork, analyse_again, analyse_here};
 
+// Files, and the changes of some of them.
+#[derive(Clone, Copy)]
+struct Changed<'a> {
+    files: &'a [&'a str],
+    changes: &'a [&'a str],
+}
+
+// What is written of an analysis: what is wrong in the files, or all that is known.
+#[derive(Clone, Copy)]
+enum Content {
+    Diagnostics,
+    Everything,
+}
+
 // Whether all numbers are below this one.
 fn are_below(numbers: &[usize], count: usize) -> bool
     ensures { IsTrue result → All (λ f. f < count) numbers.now }
@@ -60,34 +74,15 @@ fn analysed_again(
     Ok(Some(analyse_again(alloc, earlier, changed, after)?))
 }
 
-// Writes what is wrong in files, or all that is known.
-fn write_found(
+fn write_content(
     line: &mut String,
     found: &Analysis,
     pieces: &[Piece<FileWork>],
-    whole: bool,
+    content: Content,
 ) -> Result<(), AllocError> {
-    if whole {
-        write_everything(line, found, pieces)
-    } else {
-        write_by_number(line, found, pieces)
-    }
-}
-
-// Writes what is wrong in files after changes, or all that is known then.
-fn write_after(
-    alloc: Global,
-    line: &mut String,
-    before: &[Piece<FileWork>],
-    after: &[Piece<FileWork>],
-    changed: &[usize],
-    whole: bool,
-) -> Result<(), AllocError>
-    requires { Ascends before.now }
-{
-    match analysed_again(alloc, before, after, changed)? {
-        Some(found) => write_found(line, &found, after, whole),
-        None => Ok(()),
+    match content {
+        Content::Diagnostics => write_by_number(line, found, pieces),
+        Content::Everything => write_everything(line, found, pieces),
     }
 }
 
@@ -101,44 +96,44 @@ fn numbers_of(alloc: Global, pieces: &[Piece<FileWork>], changes: &[&str]) -> An
     Ok(numbers)
 }
 
+// The analysis after changes, from the one of the pieces that this work makes of the files before, given the pieces after.
+fn analysed_after(
+    alloc: Global,
+    work: FileWork,
+    changed: Changed<'_>,
+    after: &[Piece<FileWork>],
+) -> Answer<Option<Analysis>> {
+    let before = pieces_by(alloc, work, changed.files, &[])?;
+    let numbers = numbers_of(alloc, pieces_in(&before), changed.changes)?;
+    Ok(analysed_again(alloc, pieces_in(&before), after, numbers.as_slice())?)
+}
+
 // Writes what is wrong in files after changes, or all that is known then, with pieces that this work makes.
 fn write_changed(
     alloc: Global,
     line: &mut String,
     work: FileWork,
-    files: &[&str],
-    changes: &[&str],
-    whole: bool,
+    changed: Changed<'_>,
+    content: Content,
 ) -> Answer<()> {
-    let before = pieces_by(alloc, work, files, &[])?;
-    let after = pieces_by(alloc, work, files, changes)?;
-    let changed = numbers_of(alloc, pieces_in(&before), changes)?;
-    Ok(write_after(
-        alloc,
-        line,
-        pieces_in(&before),
-        pieces_in(&after),
-        changed.as_slice(),
-        whole,
-    )?)
+    let after = pieces_by(alloc, work, changed.files, changed.changes)?;
+    match analysed_after(alloc, work, changed, pieces_in(&after))? {
+        Some(found) => Ok(write_content(line, &found, pieces_in(&after), content)?),
+        None => Ok(()),
+    }
 }
 
 // All that is known after changes, with pieces that this work makes.
-fn everything_by(
-    alloc: Global,
-    work: FileWork,
-    files: &[&str],
-    changes: &[&str],
-) -> Answer<String> {
+fn everything_by(alloc: Global, work: FileWork, changed: Changed<'_>) -> Answer<String> {
     let mut line = String::new(alloc);
-    write_changed(alloc, &mut line, work, files, changes, true)?;
+    write_changed(alloc, &mut line, work, changed, Content::Everything)?;
     Ok(line)
 }
 
 // Writes what is known with files that are linked once, where it differs from what is known with files that are linked again.
-fn note_once(alloc: Global, line: &mut String, files: &[&str], changes: &[&str]) -> Answer<()> {
-    let once = everything_by(alloc, FileWork::linking_once(alloc), files, changes)?;
-    let again = everything_by(alloc, FileWork::new(alloc), files, changes)?;
+fn note_once(alloc: Global, line: &mut String, changed: Changed<'_>) -> Answer<()> {
+    let once = everything_by(alloc, FileWork::linking_once(alloc), changed)?;
+    let again = everything_by(alloc, FileWork::new(alloc), changed)?;
     if once.as_str() != again.as_str() {
         put(line, "; but once")?;
         put(line, once.as_str())?;
@@ -147,17 +142,18 @@ fn note_once(alloc: Global, line: &mut String, files: &[&str], changes: &[&str])
 }
 
 // What is wrong in files after changes, if they are linked once.
-fn write_once(alloc: Global, line: &mut String, files: &[&str], changes: &[&str]) -> Answer<()> {
+fn write_once(alloc: Global, line: &mut String, changed: Changed<'_>) -> Answer<()> {
     let work = FileWork::linking_once(alloc);
-    write_changed(alloc, line, work, files, changes, false)?;
-    note_once(alloc, line, files, changes)
+    write_changed(alloc, line, work, changed, Content::Diagnostics)?;
+    note_once(alloc, line, changed)
 }
 
-fn write_again(alloc: Global, line: &mut String, files: &[&str], changes: &[&str]) -> Answer<()> {
-    if changes.is_empty() {
+fn write_again(alloc: Global, line: &mut String, changed: Changed<'_>) -> Answer<()> {
+    if changed.changes.is_empty() {
         return Err(Trouble::Unknown("no change"));
     }
-    write_changed(alloc, line, FileWork::new(alloc), files, changes, false)
+    let work = FileWork::new(alloc);
+    write_changed(alloc, line, work, changed, Content::Diagnostics)
 }
 
 /// Writes the answer to a call on files, behind which stand changes of some of them, each with `> ` at the front.
@@ -170,8 +166,12 @@ pub fn answer(alloc: Global, line: &mut String, call: &str, fields: &[&str]) -> 
             None => files.push(*field)?,
         }
     }
+    let changed = Changed {
+        files: files.as_slice(),
+        changes: changes.as_slice(),
+    };
     match call {
-        "once" => write_once(alloc, line, files.as_slice(), changes.as_slice()),
-        _ => write_again(alloc, line, files.as_slice(), changes.as_slice()),
+        "once" => write_once(alloc, line, changed),
+        _ => write_again(alloc, line, changed),
     }
 }

@@ -15,8 +15,8 @@ fn write_there(line: &mut String, path: &str, number: FileNo) -> Result<(), Allo
     write!(line, "{path} is {number}; ")
 }
 
-// A path that no file has: the number that a file with it gets, and whether an import has it.
-fn write_absent(
+// A path that no file has: the number that a file with it would get, and whether an import has it.
+fn write_free_path(
     line: &mut String,
     path: &str,
     place: FileNo,
@@ -37,7 +37,7 @@ fn write_path(
 {
     match number_of(files, path) {
         Some(number) => write_there(line, path, number),
-        None => write_absent(
+        None => write_free_path(
             line,
             path,
             place_for(files, path),
@@ -46,11 +46,11 @@ fn write_path(
     }
 }
 
-// What is said of it by a table.
+// What a table of the files says of a path.
 fn write_path_of(line: &mut String, table: &Table, path: &str) -> Result<(), AllocError> {
     match table.number_of(path) {
         Some(number) => write_there(line, path, number),
-        None => write_absent(line, path, table.place_for(path), table.is_imported(path)),
+        None => write_free_path(line, path, table.place_for(path), table.is_imported(path)),
     }
 }
 
@@ -110,8 +110,8 @@ fn write_all(
     note_table(alloc, line, &Table::of(alloc, files)?, fields)
 }
 
-/// Files, and paths with `? ` at the front: for each path the number of the file that has it, or the number that a file with it gets, and
-/// whether an import has it. Where a table of the files says another thing, that is shown too.
+/// Files, and paths with `? ` at the front: for each path the number of the file that has it, or the number that a file with it
+/// would get, and whether an import has it. Where a table of the files says another thing, that is shown too.
 pub fn answer(alloc: Global, line: &mut String, fields: &[&str]) -> Answer<()> {
     let own = files_in(alloc, fields)?;
     let files = files_of(alloc, own.as_slice())?;
