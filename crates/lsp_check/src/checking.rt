@@ -154,8 +154,8 @@ fn send_and_judge<K: ByteSink>(
 /// are files: 0 counts as 1, and over 64 as 64. Each enters the gate before it works on a text, and before it links a file, and
 /// all have ended when the first line is written. How many there are takes no part in what is written.
 ///
-/// What names mean is dropped once a file is linked. The rest of what is known of the files, their trees too, is never freed, since
-/// freeing it takes a good part of a check's time: call it where the process ends soon after.
+/// What the names of a file mean is dropped once it is linked. If no fault comes before the first line, the rest of what is known of the
+/// files, trees too, is never freed, since freeing it takes a good part of a check's time: call it where the process ends soon after.
 ///
 /// The only faults are `Write` where the sink failed, `Memory` where memory was refused, also to a worker, or where a job
 /// couldn't be sent, and `ThreadRefused` where a thread was or where no worker is left. Whatever it ends with, what was written

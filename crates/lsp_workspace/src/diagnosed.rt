@@ -15,7 +15,7 @@ use work_index::{Diagnosis, FileWork};
 #[derive(Drop)]
 pub struct DiagnosedFiles {
     files: Files,
-    // The board from which the work on the texts was lent. It is freed with the files, since that takes time.
+    // The board that lent the work on the texts. No call reads it: it is freed with the files and not before, since that takes time.
     board: Board<FileWork>,
     diagnosis: Diagnosis,
 }

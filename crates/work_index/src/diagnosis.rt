@@ -15,7 +15,8 @@ use std::marker::Model;
 pub struct Diagnosis {
     pub(crate) paths: Vec<Name>,
     pub(crate) diagnostics: Vec<Items<Diag>>,
-    // What the texts and the files say, which is freed with the diagnosis: that takes a good part of the time in which it is made.
+    // The work on the texts, and the table of their names. No call reads them: they are freed with the diagnosis and not before, since that
+    // takes a good part of the time in which it is made.
     pub(crate) pieces: Vec<Piece<FileWork>>,
     pub(crate) table: Table,
 }
