@@ -7,11 +7,14 @@ ghost use Rattle.workspace_uri.specs.Path as spec;
 pub fn is_workspace_path(path: &str) -> bool
     ensures { result ≡ spec.is_workspace_path path.now }
 {
-    path.split('/').all(is_segment)
+    path.as_bytes().split(|byte| *byte == b'/').all(is_segment)
 }
 
-fn is_segment(segment: &str) -> bool
+fn is_segment(segment: &[u8]) -> bool
     ensures { result ≡ spec.is_segment segment.now }
 {
-    !segment.is_empty() && segment != "." && segment != ".." && !segment.as_bytes().contains(&0)
+    !segment.is_empty()
+        && segment != b".".as_slice()
+        && segment != b"..".as_slice()
+        && !segment.contains(&0)
 }
