@@ -56,6 +56,5 @@ pub use outline::{same_exports, same_imports};
 pub use packages::PackagedFile;
 pub use resolve::{Links, resolve_file};
 pub use table::Table;
-pub use table_base::TableBase;
 pub use target::{DeclRef, Target};
 pub use uses::NameUse;

@@ -3,6 +3,8 @@ ghost use Rattle.std.specs.Prelude.{◌≡◌, ◌<◌, ◌≤◌, length, map, 
 ghost use Rattle.std.specs.List.{flat_map, insert, remove};
 ghost use Rattle.std.specs.List.Sorted.{IsNonDecreasing};
 ghost use Rattle.file_facts.specs.Text.{joined};
+ghost use Rattle.import_graph.specs.Paths.{IsInPathOrder};
+ghost use Rattle.proto_resolve.specs.Bases.{IsBaseOf};
 ghost use Rattle.proto_resolve.specs.Buckets.{AreInBuckets};
 ghost use Rattle.proto_resolve.specs.Entries.{all_entries};
 ghost use Rattle.proto_resolve.specs.Files.{all_named, facts_at};
@@ -23,6 +25,7 @@ use crate::name_entries::{NameEntries, OwnEntries, entries_beside};
 use crate::naming::{FullNames, LastComponents};
 use crate::packages::unsplit;
 use crate::replacing::{change_holders, change_names};
+use crate::table_base::TableBase;
 use crate::target::DeclRef;
 use file_facts::{FullName, NameParts, split_name};
 use import_graph::{NamedFacts, SharedFacts};
@@ -82,6 +85,21 @@ fn holders_in_buckets(
     ensures { IfOk result (λ b. AreInBuckets (by_scope (name_at files.now)) (flat_map (λ run. run.items) runs.items) b.list.items) }
 {
     Buckets::of::<ByScope>(alloc, files, runs)
+}
+
+// The same, and what is known of the files beside their declarations by name.
+fn holders_and_base(
+    alloc: Global,
+    files: &[NamedFacts],
+    runs: Vec<Vec<HashedDecl>>,
+) -> Result<(Buckets, TableBase), AllocError>
+    requires { IsInPathOrder files.now }
+    ensures holders { IfOk result (λ r. AreInBuckets (by_scope (name_at files.now)) (flat_map (λ run. run.items) runs.items) (let b = r.0 in b.list.items)) }
+    ensures base { IfOk result (λ r. IsBaseOf files.now r.1) }
+{
+    let holders = holders_in_buckets(alloc, files, runs)?;
+    let base = TableBase::of(alloc, files)?;
+    Ok((holders, base))
 }
 
 // Counts the entries to their buckets, of which these are the lengths, and gives how many are in the bucket of each one then, added up.
@@ -217,14 +235,16 @@ impl NameTable {
         })
     }
 
-    /// The same, made by this thread and another one, if that can be started. An `Err` comes only where memory was refused; the entries are gone
-    /// then.
-    pub fn of_by_two<R: Threads>(
+    // The table of these files, and what is known of them beside their declarations by name, made by this thread and two others. They are
+    // in the order of their paths.
+    pub(crate) fn of_by_three<R: Threads>(
         rt: &R,
         alloc: Global,
         entries: NameEntries,
-    ) -> Result<NameTable, AllocError>
-        ensures { IfOk result (λ t. t ≡ entries) }
+    ) -> Result<(NameTable, TableBase), AllocError>
+        requires { IsInPathOrder entries }
+        ensures names { IfOk result (λ r. r.0 ≡ entries) }
+        ensures base { IfOk result (λ r. IsBaseOf entries r.1) }
     {
         let NameEntries {
             files,
@@ -232,20 +252,27 @@ impl NameTable {
             holders,
         } = entries;
         let seen = files.as_slice();
-        let (made_names, made_holders) = thread::join(
+        let (made_others, made_names) = thread::join(
             rt,
+            || -> Result<(Buckets, TableBase), AllocError>
+                requires { IsInPathOrder seen.now }
+                ensures holders { IfOk result (λ r. AreInBuckets (by_scope (name_at seen.entry.now)) (flat_map (λ run. run.items) holders.items) (let b = r.0 in b.list.items)) }
+                ensures base { IfOk result (λ r. IsBaseOf seen.entry.now r.1) }
+            { holders_and_base(alloc, seen, holders) },
             || -> Result<Buckets, AllocError>
                 ensures { IfOk result (λ b. AreInBuckets (by_name (name_at seen.entry.now)) (all_entries (map (λ own. own.items) hashes.items)) b.list.items) }
-            { names_in_buckets(alloc, seen, hashes) },
-            || -> Result<Buckets, AllocError>
-                ensures { IfOk result (λ b. AreInBuckets (by_scope (name_at seen.entry.now)) (flat_map (λ run. run.items) holders.items) b.list.items) }
-            { holders_in_buckets(alloc, seen, holders) },
+            { Buckets::of_names_by_two(rt, alloc, seen, hashes) },
         );
-        Ok(NameTable {
-            names: made_names?,
-            holders: made_holders?,
-            files,
-        })
+        let (holders, base) = made_others?;
+        let names = made_names?;
+        Ok((
+            NameTable {
+                files,
+                names,
+                holders,
+            },
+            base,
+        ))
     }
 
     /// The files.

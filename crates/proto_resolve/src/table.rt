@@ -21,6 +21,7 @@ use file_facts::{FileFacts, FullName, NameParts};
 use import_graph::{FileNo, Graph, NamedFacts, SharedFacts, number_of, place_for};
 use std::alloc::{AllocError, Global};
 use std::marker::Model;
+use std::thread::Threads;
 
 /// Files with their graph, the declarations of each name, and the files of each package. Contracts see it as the list of the files.
 #[derive(Drop)]
@@ -71,8 +72,22 @@ impl Table {
         Ok(Table { names, base })
     }
 
-    /// The table of the files whose declarations by name and whose base these are.
-    pub fn of_parts(names: NameTable, base: TableBase) -> Table
+    /// The table of the files of these entries, which are in the order of their paths, made by this thread and two others, if these can be
+    /// started. An `Err` comes only where memory was refused; the entries are gone then.
+    pub fn of_entries<R: Threads>(
+        rt: &R,
+        alloc: Global,
+        entries: NameEntries,
+    ) -> Result<Table, AllocError>
+        requires { IsInPathOrder entries }
+        ensures { IfOk result (λ t. t ≡ entries) }
+    {
+        let (names, base) = NameTable::of_by_three(rt, alloc, entries)?;
+        Ok(Table { names, base })
+    }
+
+    // The table of the files whose declarations by name and whose base these are.
+    fn of_parts(names: NameTable, base: TableBase) -> Table
         requires { IsBaseOf names base }
         ensures { result ≡ names }
     {

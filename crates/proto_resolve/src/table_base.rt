@@ -7,7 +7,7 @@ use crate::packages::{PackagedFile, add_packaged, longest_of, longest_with, pack
 use import_graph::{Graph, NamedFacts};
 use std::alloc::{AllocError, Global};
 
-/// What a [`Table`](crate::Table) knows of its files beside their declarations by name: their graph, and the files of each package.
+/// What a table knows of its files beside their declarations by name: their graph, and the files of each package.
 #[derive(Drop)]
 pub struct TableBase {
     pub(crate) graph: Graph,

@@ -1,9 +1,6 @@
 -- Tables of stretches of a workspace, and the table of all its files.
 use Rattle.std.specs.Prelude.{◌≡◌, ℕ, List, map, length, Result, Ok, Some, slice_get}
 use Rattle.std.specs.declared.alloc.AllocError.{AllocError}
-use Rattle.import_graph.specs.declared.paths.NamedFacts.{NamedFacts}
-use Rattle.proto_resolve.specs.Bases.{IsBaseOf}
-use Rattle.work_index.specs.declared.in_shares.Indexed.{Indexed}
 use Rattle.work_index.specs.declared.indexed.IndexedShare.{IndexedShare}
 use Rattle.work_index.specs.declared.indexed.IndexedShares.{IndexedShares}
 use Rattle.work_index.specs.declared.shares.Share.{Share}
@@ -24,11 +21,6 @@ pub record IsIndexed (share : Share) (named : IndexedShare) : Type 0 where
 pub record AreIndexed (shares : List Share) (answers : List (Result IndexedShare AllocError)) : Type 0 where
   pub len : length answers ≡ length shares
   pub each : (i : ℕ) (s : Share) (named : IndexedShare) → slice_get shares i ≡ Some s → slice_get answers i ≡ Some (Ok named) → IsIndexed s named
-
--- the tables of the shares, and what is known of all files beside their names
-pub record AreIndexedWith (shares : List Share) (files : List NamedFacts) (indexed : Indexed) : Type 0 where
-  pub answers : AreIndexed shares indexed.answers.items
-  pub base : IsBaseOf files indexed.base
 
 -- no answer is a refusal, and these are the shares and the tables of all, in their order
 pub record AreTaken (answers : List (Result IndexedShare AllocError)) (taken : IndexedShares) : Type 0 where

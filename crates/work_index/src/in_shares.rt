@@ -1,12 +1,10 @@
 // The analysis of a workspace by several threads.
-ghost use Rattle.std.specs.Prelude.{◌≡◌, length, map, IfOk};
+ghost use Rattle.std.specs.Prelude.{◌≡◌, length, IfOk};
 ghost use Rattle.std.specs.Thread.{IsSync};
-ghost use Rattle.import_graph.specs.Paths.{IsInPathOrder};
 ghost use Rattle.piece_collector.specs.Board.{Ascends};
-ghost use Rattle.work_index.specs.Parts.{part_of, IsIndexed, AreIndexedWith};
+ghost use Rattle.work_index.specs.Parts.{IsIndexed, AreIndexed};
 ghost use Rattle.work_index.specs.Pieces.{workspace_of};
-ghost use Rattle.work_index.specs.Shares.{AreNumbersIn, ArePlacedIn, IsLinkedBy, IsLinkedIn, AreLinkedBy};
-ghost use Rattle.work_index.specs.Stretches.{Cover};
+ghost use Rattle.work_index.specs.Shares.{pieces_in, AreConsecutive, AreNumbersIn, ArePlacedIn, IsLinkedBy, IsLinkedIn, AreLinkedBy};
 ghost use Rattle.work_index.specs.Workspace.{all_facts, analysis, diagnosis};
 
 use crate::analyse::paths_of;
@@ -17,12 +15,10 @@ use crate::file_work::FileWork;
 use crate::gate::Gate;
 use crate::indexed::{IndexedShare, IndexedShares, index_share, take_apart};
 use crate::linked::{LinkedShare, gather, link_share};
-use crate::part_table::merge_by_two;
+use crate::part_table::merged_entries;
 use crate::shares::{Share, cut};
-use crate::table_of::all_facts;
-use import_graph::NamedFacts;
 use piece_collector::Lent;
-use proto_resolve::{ListedTable, Table, TableBase};
+use proto_resolve::{ListedTable, Table};
 use std::alloc::{AllocError, Global};
 use std::snapshot::Snapshot;
 use std::sync::Wait;
@@ -50,30 +46,19 @@ impl Promise<Result<IndexedShare, AllocError>> for ShareIndexed {
     ghost kept_by = { λ p answer. IfOk answer (IsIndexed p.share.value) };
 }
 
-// The tables of the shares, or refusals, and what is known of their files beside the names.
-#[derive(Drop)]
-struct Indexed {
-    answers: Vec<Result<IndexedShare, AllocError>>,
-    base: TableBase,
-}
-
-// Makes the table of each share in a thread of its own and meanwhile, in this one, what is known of all files beside their names; and
-// waits for all of them.
+// Makes the table of each share in a thread of its own, and waits for all of them.
 fn index_all<R: Threads + Wait>(
     rt: &R,
     alloc: Global,
     shares: Vec<Share>,
-    files: &[NamedFacts],
-) -> Result<Indexed, AnalyseFault>
-    requires { IsInPathOrder files.now }
-    ensures { IfOk result (AreIndexedWith shares.items files.now) }
+) -> Result<Vec<Result<IndexedShare, AllocError>>, AnalyseFault>
+    ensures { IfOk result (λ answers. AreIndexed shares.items answers.items) }
 {
     thread::scope(
         thread::scope_env(),
         rt,
-        |scope| -> Result<Indexed, AnalyseFault>
-            requires { IsInPathOrder files.now }
-            ensures { IfOk result (AreIndexedWith shares.items files.entry.now) }
+        |scope| -> Result<Vec<Result<IndexedShare, AllocError>>, AnalyseFault>
+            ensures { IfOk result (λ answers. AreIndexed shares.items answers.items) }
         {
             let mut handles = Vec::new(alloc);
             for share in shares {
@@ -90,9 +75,8 @@ fn index_all<R: Threads + Wait>(
                 };
                 handles.push(handle)?;
             }
-            let base = TableBase::of(alloc, files)?;
             let answers = thread::join_promised(rt, handles)?;
-            Ok(Indexed { answers, base })
+            Ok(answers)
         },
     )
 }
@@ -102,17 +86,17 @@ fn table_in_shares<R: Threads + Wait>(
     rt: &R,
     alloc: Global,
     shares: Vec<Share>,
-    files: Vec<NamedFacts>,
 ) -> Result<(Vec<Share>, Table), AnalyseFault>
-    requires cover { Cover files.items (map part_of shares.items) }
-    requires ordered { IsInPathOrder files.items }
+    requires places { AreConsecutive 0 shares.items }
+    requires ordered { Ascends (pieces_in shares.items) }
     ensures shares { IfOk result (λ r. r.0.items ≡ shares.items) }
-    ensures table { IfOk result (λ r. r.1 ≡ files.items) }
+    ensures table { IfOk result (λ r. r.1 ≡ all_facts (workspace_of (pieces_in shares.items))) }
 {
-    let Indexed { answers, base } = index_all(rt, alloc, shares, files.as_slice())?;
+    let answers = index_all(rt, alloc, shares)?;
     let IndexedShares { shares, parts } = take_apart(alloc, answers)?;
-    let names = merge_by_two(rt, alloc, parts)?;
-    Ok((shares, Table::of_parts(names, base)))
+    let entries = merged_entries(alloc, parts)?;
+    let table = Table::of_entries(rt, alloc, entries)?;
+    Ok((shares, table))
 }
 
 // Links each share in a thread of its own, and waits for all of them.
@@ -175,19 +159,18 @@ fn link_in_shares<R: Threads + Wait, G: Gate>(
         keeps_links,
         ..
     } = all;
-    let files = all_facts(alloc, pieces.as_slice())?;
     let count = workers.clamp(1, 64).min(pieces.len());
     let shares = cut(alloc, pieces, count, keeps_links)?;
-    let (shares, table) = table_in_shares(rt, alloc, shares, files)?;
+    let (shares, table) = table_in_shares(rt, alloc, shares)?;
     let answers = link_all(rt, alloc, shares, &table, gate)?;
     let linked = gather(alloc, answers)?;
     Ok((table, linked))
 }
 
 /// The analysis of the workspace of lent pieces, which come back as they were. It is the one that [`analyse_here`](crate::analyse_here)
-/// makes of them. As many threads as there are `workers` gather the declarations of the files by name, while this one makes the
-/// graph of imports, and after that as many link the files: 0 counts as 1, and over 64 as 64, and there are never
-/// more than there are files. Each takes a run of consecutive files; the runs differ in length by at most one, the longer ones
+/// makes of them. As many threads as there are `workers` gather the declarations of the files by name, and later as many link the
+/// files: 0 counts as 1, and over 64 as 64, and there are never more than there are files. In between this thread and two others, however
+/// many workers there are, put all names in order and make the graph of imports. Each takes a run of consecutive files; the runs differ in length by at most one, the longer ones
 /// first. A thread enters the gate with the path and the stamp of each of its files before it links it. The number of threads
 /// takes no part in what is made. It waits until each of them has ended.
 ///

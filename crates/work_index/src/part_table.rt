@@ -12,7 +12,6 @@ use piece_collector::Piece;
 use proto_resolve::{NameEntries, NameTable};
 use std::alloc::{AllocError, Global};
 use std::marker::Model;
-use std::thread::Threads;
 
 /// The declarations of consecutive files of a workspace by name: what one thread makes of its share. Contracts see the number of
 /// its first file among all, counted from 0, and the files with their facts.
@@ -54,7 +53,7 @@ fn sort_by_first(parts: &mut Vec<PartTable>) -> Result<(), AllocError>
 }
 
 // The entries of the files of parts that cover a workspace from 0 without overlap or gap, in any order.
-fn merged_entries(alloc: Global, parts: Vec<PartTable>) -> Result<NameEntries, AllocError>
+pub fn merged_entries(alloc: Global, parts: Vec<PartTable>) -> Result<NameEntries, AllocError>
     ensures { (files : List NamedFacts) → Cover files parts.items → IfOk result (λ e. e ≡ files) }
 {
     let mut parts = parts;
@@ -73,16 +72,4 @@ pub fn merge_tables(alloc: Global, parts: Vec<PartTable>) -> Result<NameTable, A
 {
     let entries = merged_entries(alloc, parts)?;
     NameTable::of(alloc, entries)
-}
-
-// The same, by this thread and another one.
-pub fn merge_by_two<R: Threads>(
-    rt: &R,
-    alloc: Global,
-    parts: Vec<PartTable>,
-) -> Result<NameTable, AllocError>
-    ensures { (files : List NamedFacts) → Cover files parts.items → IfOk result (λ t. t ≡ files) }
-{
-    let entries = merged_entries(alloc, parts)?;
-    NameTable::of_by_two(rt, alloc, entries)
 }

@@ -1,47 +1,32 @@
-use Rattle.std.proofs.Common.{◌≡◌, ◌∙◌, All, Bool, true, List, map, sym, ap, subst, rules}
-use Rattle.import_graph.specs.declared.paths.NamedFacts.{NamedFacts}
-use Rattle.import_graph.specs.Paths.{IsInPathOrder}
+use Rattle.std.proofs.Common.{◌≡◌, ◌∙◌, All, Bool, true, List, sym, ap, subst, rules}
+use Rattle.piece_collector.specs.Board.{Ascends}
 use Rattle.piece_collector.specs.Views.{TextAt}
 use Rattle.work_index.specs.declared.shares.Share.{Share}
-use Rattle.work_index.specs.Parts.{part_of}
 use Rattle.work_index.specs.Pieces.{workspace_of}
 use Rattle.work_index.specs.Shares.{pieces_in, AreConsecutive}
-use Rattle.work_index.specs.Stretches.{Cover}
 use Rattle.work_index.specs.Workspace.{all_facts, diagnostics_of, resolution_of}
-use Rattle.work_index.proofs.Ascending.{in_path_order}
 use Rattle.work_index.proofs.Joined.{all_joined, all_placed, AreKept}
 use Rattle.work_index.proofs.Steps.{made_from}
-use Rattle.work_index.proofs.Taken.{shares_cover}
 use Rattle.work_index.proofs.in_shares.link_in_shares.Goals as goal
 
-pub table_in_shares-requires-clause-cover : goal.table_in_shares-requires-clause-cover
-table_in_shares-requires-clause-cover g c =
-    let ts : List TextAt = c.args.all.pieces.items in
-    let files : c.in_ok-files.files.items ≡ all_facts (workspace_of ts) = c.in_ok-files.ensures ∙ ap (λ us. all_facts (workspace_of us)) c.as_slice.ensures.value in
-    let same : all_facts (workspace_of (pieces_in c.in_ok-shares.shares.items)) ≡ c.in_ok-files.files.items = ap (λ us. all_facts (workspace_of us)) c.in_ok-shares.ensures.whole ∙ sym files in
-    subst (λ fs. Cover fs (map part_of c.in_ok-shares.shares.items)) same (shares_cover c.in_ok-shares.shares.items c.in_ok-shares.ensures.places)
-
 pub table_in_shares-requires-clause-ordered : goal.table_in_shares-requires-clause-ordered
-table_in_shares-requires-clause-ordered g c =
-    let ts : List TextAt = c.args.all.pieces.items in
-    let files : c.in_ok-files.files.items ≡ all_facts (workspace_of ts) = c.in_ok-files.ensures ∙ ap (λ us. all_facts (workspace_of us)) c.as_slice.ensures.value in
-    subst (λ (fs : List NamedFacts). IsInPathOrder fs) (sym files) (in_path_order ts c.requires.ordered)
+table_in_shares-requires-clause-ordered g c = subst (λ (ts : List TextAt). Ascends ts) (sym c.in_ok-shares.ensures.whole) c.requires.ordered
 
 pub link_all-requires-after_bounds : goal.link_all-requires-after_bounds
 link_all-requires-after_bounds g c κs within =
     let ts : List TextAt = c.args.all.pieces.items in
-    let all = c.in_ok-shares-2.ensures.table ∙ c.in_ok-files.ensures ∙ ap (λ us. all_facts (workspace_of us)) c.as_slice.ensures.value in
+    let all = c.in_ok-shares-2.ensures.table ∙ ap (λ us. all_facts (workspace_of us)) c.in_ok-shares.ensures.whole in
     let places : AreConsecutive 0 c.in_ok-shares-2.shares.items = subst (λ ss. AreConsecutive 0 ss) (sym c.in_ok-shares-2.ensures.shares) c.in_ok-shares.ensures.places in
     all_placed ts c.in_ok-shares-2.shares.items c.in_ok-shares-2.table all (ap pieces_in c.in_ok-shares-2.ensures.shares ∙ c.in_ok-shares.ensures.whole) places (search rules)
 
 pub returns-clause-table : goal.returns-clause-table
-returns-clause-table g c = c.in_ok-shares-2.ensures.table ∙ c.in_ok-files.ensures ∙ ap (λ us. all_facts (workspace_of us)) c.as_slice.ensures.value
+returns-clause-table g c = c.in_ok-shares-2.ensures.table ∙ ap (λ us. all_facts (workspace_of us)) c.in_ok-shares.ensures.whole
 
 pub returns-clause-linked : goal.returns-clause-linked
 returns-clause-linked g c =
     let ts : List TextAt = c.args.all.pieces.items in
     let w = workspace_of ts in
-    let all = c.in_ok-shares-2.ensures.table ∙ c.in_ok-files.ensures ∙ ap (λ us. all_facts (workspace_of us)) c.as_slice.ensures.value in
+    let all = c.in_ok-shares-2.ensures.table ∙ ap (λ us. all_facts (workspace_of us)) c.in_ok-shares.ensures.whole in
     let places : AreConsecutive 0 c.in_ok-shares-2.shares.items = subst (λ ss. AreConsecutive 0 ss) (sym c.in_ok-shares-2.ensures.shares) c.in_ok-shares.ensures.places in
     let whole = ap pieces_in c.in_ok-shares-2.ensures.shares ∙ c.in_ok-shares.ensures.whole in
     let joined = all_joined w c.in_ok-shares-2.table all ts c.in_ok-shares-2.shares.items _ _ whole places c.in_ok-answers.ensures c.in_ok-linked.ensures in
