@@ -136,6 +136,17 @@ class Check(FolderTest):
                     ended = subprocess.run(words, stdin=subprocess.DEVNULL, stdout=closed, stderr=subprocess.PIPE, timeout=stream.CHECK_LIMIT)
                     self.assertEqual((ended.stderr, ended.returncode), (b"protols: fault 802\n", 3))
 
+    def test_many_lines(self):
+        # (threads make those of 1,024 to 65,536 diagnostics)
+        rows = ([0, 0, 1_023], [0, 1_024, 0], [512, 512, 0], [n % 7 for n in range(700)], [1_000, 0, 0, 1, 30, 0], [1] * 1_500, [65_536], [32_768, 0, 32_769])
+        for numbers in rows:
+            with self.subTest(files=len(numbers), diagnostics=sum(numbers)):
+                self.setUp()
+                files = {f"d{n % 3}/f{n}.proto": number for n, number in enumerate(numbers)}
+                self.put_all({path: "S|" + "#|" * number for path, number in files.items()})
+                lines = "".join(f"{path}:{line}:1: 201 illegal character\n" for path in sorted(files) for line in range(2, files[path] + 2))
+                self.assertEqual(self.run_check("--root", self.root), (lines.encode(), b"", 1))
+
     def test_many_files(self):
         self.put_all({f"d{n % 100}/f{n}.proto": f"S|package p{n % 7};|message M{n} {{ M{n} m = 1; }}|" for n in range(10_000)})
         self.assertEqual(self.run_check("--root", self.root), (b"", b"", 0))

@@ -228,6 +228,11 @@ class TheEnd(WorkersTest):
         lines = "".join(f"{path}:2:1: 201 illegal character\n" for path in paths)
         self.check_with_little_memory(checking(3, folder), b"", lines.encode(), 1)
 
+    def test_refused_memory_is_803_or_804_where_threads_make_the_lines(self):
+        folder, paths = self.large_files(PROTO3 + "#\n" * 100)
+        lines = "".join(f"{path}:{line}:1: 201 illegal character\n" for path in paths for line in range(2, 102))
+        self.check_with_little_memory(checking(3, folder), b"", lines.encode(), 1)
+
 
 class TheWords(unittest.TestCase):
     def test_numbers_of_workers_that_are_refused(self):

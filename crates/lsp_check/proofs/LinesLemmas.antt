@@ -1,9 +1,9 @@
 -- The lines of diagnostics and their positions, and the lines of the files of a workspace.
-use Rattle.std.proofs.Common.{◌≡◌, ℕ, ◌+◌, ◌<◌, ◌≤◌, List, [], ◌∷◌, ◌++◌, length, take, drop, get_or, refl, ap, sym, ◌∙◌, append_assoc, append-nil, flat_map, add-one, drop-cons, Option, Some, Result, Ok, Err}
+use Rattle.std.proofs.Common.{◌≡◌, ℕ, ◌+◌, ◌<◌, ◌≤◌, List, [], ◌∷◌, ◌++◌, length, take, drop, get_or, map, refl, ap, sym, ◌∙◌, append_assoc, append-nil, flat_map, add-one, drop-cons, Option, Some, Result, Ok, Err}
 use Rattle.std.specs.Prelude.{OnErr}
 use Rattle.std.specs.List.{enumerate_from, slice_get}
 use Rattle.std.proofs.KnownBytes.{Appends-trans, Appends-nil}
-use Rattle.std.proofs.lemmas.List.{take_more, drop_all}
+use Rattle.std.proofs.lemmas.List.{take_more, drop_all, map-id, take-append-drop}
 use Rattle.std.proofs.lemmas.Grind.{flat_map-append}
 use Rattle.std.proofs.lemmas.Option.{get_or_from_slice_get}
 use Rattle.doc_text.specs.Positions.{position_of}
@@ -16,7 +16,7 @@ use Rattle.work_index.specs.Workspace.{Workspace, AnalysisData, analysis}
 use Rattle.lsp_config.specs.Sending.{SendsPrefix}
 use Rattle.lsp_config.proofs.SendingLemmas.{front-behind}
 use Rattle.lsp_check.specs.Listing.{line_at, line_of, lines_of, numbered_lines}
-use Rattle.lsp_check.specs.Steps.{Sent}
+use Rattle.lsp_check.specs.Steps.{Sent, left_from, AreLinesBetween}
 
 -- the line of one more diagnostic, where the walk finds its position
 pub listed-more : (path : List ℕ) (ds : List Diag) (walk now : Walked) (place : Position) (old before after : List ℕ) (i : ℕ) (d : Diag) → i < length ds
@@ -74,34 +74,34 @@ lines-cut path text ds part more cut = ap (lines_of path text) cut ∙ flat_map-
 
 -- ---- the lines of the files, one file after the other
 
--- the lines of the files from a number on
-abbrev pub left_from : AnalysisData → ℕ → Workspace → List ℕ
-left_from a n w = flat_map (numbered_lines a) (enumerate_from n (drop n w))
-
 split : (w : Workspace) (n : ℕ) (d : List ℕ × List ℕ) → n < length w → drop n w ≡ get_or w n d ∷ drop (n + 1) w
 split w n d there = rw (add-one n) (drop-cons w n d there)
 
 -- those of the next file come first
-left-more : (a : AnalysisData) (w : Workspace) (n : ℕ) (d : List ℕ × List ℕ) → n < length w → left_from a n w ≡ numbered_lines a (n, get_or w n d) ++ left_from a (n + 1) w
-left-more a w n d there = ap (λ rest. flat_map (numbered_lines a) (enumerate_from n rest)) (split w n d there)
+left-more : (w : Workspace) (n : ℕ) (d : List ℕ × List ℕ) → n < length w → left_from n w ≡ numbered_lines (analysis w) (n, get_or w n d) ++ left_from (n + 1) w
+left-more w n d there = ap (λ rest. flat_map (numbered_lines (analysis w)) (enumerate_from n rest)) (split w n d there)
 
 -- the lines of the next file, and those of the files behind it
-file-cut : (a : AnalysisData) (w : Workspace) (n : ℕ) (d : List ℕ × List ℕ) (lines : List ℕ) → n < length w → lines ≡ numbered_lines a (n, get_or w n d) → left_from a n w ≡ lines ++ left_from a (n + 1) w
-file-cut a w n d lines there of = left-more a w n d there ∙ ap (λ l. l ++ left_from a (n + 1) w) (sym of)
+pub file-cut : (w : Workspace) (n : ℕ) (d : List ℕ × List ℕ) (lines : List ℕ) → n < length w → lines ≡ numbered_lines (analysis w) (n, get_or w n d) → left_from n w ≡ lines ++ left_from (n + 1) w
+file-cut w n d lines there of = left-more w n d there ∙ ap (λ l. l ++ left_from (n + 1) w) (sym of)
 
 -- the lines of one more file were added to the room
-pub sent-more : (a : AnalysisData) (w : Workspace) (n : ℕ) (d : List ℕ × List ℕ) (old now new : Option (List ℕ)) (all room rest lines : List ℕ) → n < length w → lines ≡ numbered_lines a (n, get_or w n d)
-    → Sent old now all (room ++ left_from a n w) → Sent now new (room ++ lines) rest → Sent old new all (rest ++ left_from a (n + 1) w)
-sent-more a w n d old now new all room rest lines there of = sent-next old now new all room rest lines (left_from a n w) (left_from a (n + 1) w) (file-cut a w n d lines there of)
+pub sent-more : (w : Workspace) (n : ℕ) (d : List ℕ × List ℕ) (old now new : Option (List ℕ)) (all room rest lines : List ℕ) → n < length w → lines ≡ numbered_lines (analysis w) (n, get_or w n d)
+    → Sent old now all (room ++ left_from n w) → Sent now new (room ++ lines) rest → Sent old new all (rest ++ left_from (n + 1) w)
+sent-more w n d old now new all room rest lines there of = sent-next old now new all room rest lines (left_from n w) (left_from (n + 1) w) (file-cut w n d lines there of)
 
 -- of the room and the lines of the next file a part went out
-pub sent-part : (a : AnalysisData) (w : Workspace) (n : ℕ) (d : List ℕ × List ℕ) (old now new : Option (List ℕ)) (all room lines : List ℕ) → n < length w → lines ≡ numbered_lines a (n, get_or w n d)
-    → Sent old now all (room ++ left_from a n w) → SendsPrefix now new (room ++ lines) → SendsPrefix old new all
-sent-part a w n d old now new all room lines there of = part-next old now new all room lines (left_from a n w) (left_from a (n + 1) w) (file-cut a w n d lines there of)
+pub sent-part : (w : Workspace) (n : ℕ) (d : List ℕ × List ℕ) (old now new : Option (List ℕ)) (all room lines : List ℕ) → n < length w → lines ≡ numbered_lines (analysis w) (n, get_or w n d)
+    → Sent old now all (room ++ left_from n w) → SendsPrefix now new (room ++ lines) → SendsPrefix old new all
+sent-part w n d old now new all room lines there of = part-next old now new all room lines (left_from n w) (left_from (n + 1) w) (file-cut w n d lines there of)
+
+-- behind the last file there are none
+pub none-left : (w : Workspace) (n : ℕ) → length w ≤ n → left_from n w ≡ []
+none-left w n none = ap (λ rest. flat_map (numbered_lines (analysis w)) (enumerate_from n rest)) (drop_all n w none)
 
 -- the lines of all files were added
-pub sent-all : (a : AnalysisData) (w : Workspace) (n : ℕ) (old new : Option (List ℕ)) (all room : List ℕ) → length w ≤ n → Sent old new all (room ++ left_from a n w) → Sent old new all room
-sent-all a w n old new all room none = sent-last old new all room (left_from a n w) (ap (λ rest. flat_map (numbered_lines a) (enumerate_from n rest)) (drop_all n w none))
+pub sent-all : (w : Workspace) (n : ℕ) (old new : Option (List ℕ)) (all room : List ℕ) → length w ≤ n → Sent old new all (room ++ left_from n w) → Sent old new all room
+sent-all w n old new all room none = sent-last old new all room (left_from n w) (none-left w n none)
 
 -- the lines of the file with a number
 pub lines-at : (w : Workspace) (n : ℕ) (a : AnalysisData) (path text : List ℕ) (diags : List Diag) → a ≡ analysis w → path ≡ (get_or w n ([], [])).0 → text ≡ (get_or w n ([], [])).1 → slice_get a.diagnostics n ≡ Some diags
@@ -115,3 +115,24 @@ lines-at w n a path text diags is p t found =
 pub on_err : {A E P : Type 0} (r : Result A E) → P → OnErr r P
 on_err (Ok x) p = tt
 on_err (Err e) p = p
+
+-- ---- the lines of consecutive files, which threads make
+
+-- the lines of one more file
+pub lines-more : (w : Workspace) (first n : ℕ) (d : List ℕ × List ℕ) (before after : List ℕ) → n < length w → AreLinesBetween first n w before → after ≡ before ++ numbered_lines (analysis w) (n, get_or w n d) → AreLinesBetween first (n + 1) w after
+lines-more w first n d before after there b a = record {
+  joined = b.joined ∙ ap (λ l. before ++ l) (left-more w n d there) ∙ sym (append_assoc before (numbered_lines (analysis w) (n, get_or w n d)) (left_from (n + 1) w)) ∙ ap (λ l. l ++ left_from (n + 1) w) (sym a);
+}
+
+-- a list that was walked up to one of its items
+pub walked-to : {A : Type 0} (xs done : List A) (x : A) → map (λ y. y) done ≡ take (length done) xs → (length done < length xs) × (x ≡ get_or xs (length done) x)
+    → xs ≡ done ++ (x ∷ drop (length done + 1) xs)
+walked-to xs done x so_far turn =
+    let n = length done in
+    let front : take n xs ≡ done = sym so_far ∙ map-id done in
+    let back : drop n xs ≡ x ∷ drop (n + 1) xs = rw (add-one n) (drop-cons xs n x turn.0) ∙ ap (λ y. y ∷ drop (n + 1) xs) (sym turn.1) in
+    sym (take-append-drop n xs) ∙ ap (λ l. l ++ drop n xs) front ∙ ap (λ l. done ++ l) back
+
+-- their lines
+pub shares-cut : {A : Type 0} (f : A → List ℕ) (xs done more : List A) (x : A) → xs ≡ done ++ (x ∷ more) → flat_map f xs ≡ flat_map f done ++ (f x ++ flat_map f more)
+shares-cut f xs done more x cut = ap (flat_map f) cut ∙ flat_map-append f done (x ∷ more)

@@ -1,5 +1,5 @@
 // The check of a workspace, without an editor.
-ghost use Rattle.std.specs.Prelude.{◌≡◌, ◌+◌, ◌≤◌, [], ◌++◌, IfOk, IfErr, OnOk, OnErr};
+ghost use Rattle.std.specs.Prelude.{◌≡◌, ◌+◌, ◌≤◌, [], ◌++◌, flat_map, IfOk, IfErr, OnOk, OnErr};
 ghost use Rattle.std.specs.Io.KnownBytes.{Appends};
 ghost use Rattle.doc_text.specs.declared.encoding.Encoding.TheVariants.{Utf16};
 ghost use Rattle.lsp_frame.specs.Counts.{NoneFell, NoError};
@@ -11,10 +11,11 @@ ghost use Rattle.lsp_config.specs.Fault.{ComesWhileChecking};
 ghost use Rattle.lsp_config.specs.Sending.{SendsPrefix};
 
 use crate::diagnosing::diagnose_files;
-use crate::lines::{has_errors, push_lines};
+use crate::lines::{diagnostic_count, has_errors, push_lines};
+use crate::listing::{ShareLines, lines_in_shares};
 use doc_text::{Encoding, Walk};
 use file_facts::Diag;
-use lsp_config::{Config, ServeFault};
+use lsp_config::{Config, CoreFault, ServeFault};
 use lsp_frame::{ByteSink, write_bytes};
 use lsp_workspace::DiagnosedFiles;
 use std::alloc::Global;
@@ -29,6 +30,12 @@ const LINES: usize = 4096;
 
 // From so many bytes on the room is written.
 const FULL: usize = 65536;
+
+// The lines of fewer diagnostics are made by one thread.
+const FEW: usize = 1024;
+
+// The lines of more diagnostics than so many are never all in memory.
+const MANY: usize = 65536;
 
 // Writes what the room holds, and empties it. If it holds nothing, the writer isn't called.
 fn flush<K: ByteSink>(writer: &mut K, room: &mut Vec<u8>) -> Result<(), ServeFault>
@@ -102,8 +109,8 @@ fn add_lines<K: ByteSink>(
     Ok(())
 }
 
-// Writes the lines of the files of a workspace, one file after the other.
-fn send_all<K: ByteSink>(
+// Makes and writes the lines of the files of a workspace, one file after the other.
+fn send_in_turn<K: ByteSink>(
     alloc: Global,
     writer: &mut K,
     files: &DiagnosedFiles,
@@ -127,11 +134,69 @@ fn send_all<K: ByteSink>(
     flush(writer, &mut room)
 }
 
-// Writes the lines of the files of a workspace, and answers whether there is an error.
-fn send_and_judge<K: ByteSink>(
+// Writes the lines of shares, one share after the other.
+fn send_shares<K: ByteSink>(writer: &mut K, shares: Vec<ShareLines>) -> Result<(), ServeFault>
+    ensures ok { OnOk result (Appends (K.written writer.old) (K.written writer.new) (flat_map (λ share. share.lines.items) shares.items)) }
+    ensures err { OnErr result (SendsPrefix (K.written writer.old) (K.written writer.new) (flat_map (λ share. share.lines.items) shares.items)) }
+    ensures fault { IfErr result (ComesWhileChecking (K.counts writer.old) (K.counts writer.new)) }
+    ensures calm { OnOk result (NoError (K.counts writer.old) (K.counts writer.new)) }
+    ensures once { (K.counts writer.new).errors ≤ (K.counts writer.old).errors + 1 }
+{
+    'shares: for share in shares {
+        let ShareLines { mut lines } = share;
+        flush(writer, &mut lines)?;
+    }
+    Ok(())
+}
+
+// Has threads make the lines of the files of a workspace, in shares of at least so many diagnostics, and writes them.
+fn send_by_threads<R: Threads + Wait, K: ByteSink>(
+    rt: &R,
     alloc: Global,
     writer: &mut K,
     files: &DiagnosedFiles,
+    least: usize,
+) -> Result<(), ServeFault>
+    ensures ok { OnOk result (Appends (K.written writer.old) (K.written writer.new) (listing files.now)) }
+    ensures err { OnErr result (SendsPrefix (K.written writer.old) (K.written writer.new) (listing files.now)) }
+    ensures fault { IfErr result (ComesWhileChecking (K.counts writer.old) (K.counts writer.new)) }
+    ensures calm { OnOk result (NoError (K.counts writer.old) (K.counts writer.new)) }
+    ensures once { (K.counts writer.new).errors ≤ (K.counts writer.old).errors + 1 }
+{
+    match lines_in_shares(rt, alloc, files, least) {
+        Ok(shares) => send_shares(writer, shares),
+        Err(fault) => Err(ServeFault::from(CoreFault::from(fault))),
+    }
+}
+
+// Writes the lines of the files of a workspace. If they are neither few nor very many, and there are several workers, threads make them.
+fn send_all<R: Threads + Wait, K: ByteSink>(
+    rt: &R,
+    alloc: Global,
+    writer: &mut K,
+    files: &DiagnosedFiles,
+    workers: usize,
+) -> Result<(), ServeFault>
+    ensures ok { OnOk result (Appends (K.written writer.old) (K.written writer.new) (listing files.now)) }
+    ensures err { OnErr result (SendsPrefix (K.written writer.old) (K.written writer.new) (listing files.now)) }
+    ensures fault { IfErr result (ComesWhileChecking (K.counts writer.old) (K.counts writer.new)) }
+    ensures calm { OnOk result (NoError (K.counts writer.old) (K.counts writer.new)) }
+    ensures once { (K.counts writer.new).errors ≤ (K.counts writer.old).errors + 1 }
+{
+    let count = diagnostic_count(files);
+    if workers < 2 || count < FEW || count > MANY {
+        return send_in_turn(alloc, writer, files);
+    }
+    send_by_threads(rt, alloc, writer, files, count.div_ceil(workers.min(64)))
+}
+
+// Writes the lines of the files of a workspace, and answers whether there is an error.
+fn send_and_judge<R: Threads + Wait, K: ByteSink>(
+    rt: &R,
+    alloc: Global,
+    writer: &mut K,
+    files: &DiagnosedFiles,
+    workers: usize,
 ) -> Result<bool, ServeFault>
     ensures prefix { SendsPrefix (K.written writer.old) (K.written writer.new) (listing files.now) }
     ensures whole { OnOk result (Appends (K.written writer.old) (K.written writer.new) (listing files.now)) }
@@ -140,7 +205,7 @@ fn send_and_judge<K: ByteSink>(
     ensures calm { OnOk result (NoError (K.counts writer.old) (K.counts writer.new)) }
     ensures once { (K.counts writer.new).errors ≤ (K.counts writer.old).errors + 1 }
 {
-    send_all(alloc, writer, files)?;
+    send_all(rt, alloc, writer, files, workers)?;
     Ok(has_errors(files))
 }
 
@@ -148,11 +213,13 @@ fn send_and_judge<K: ByteSink>(
 ///
 /// A line is `path:line:column: number message`, with line and column from 1 and columns in UTF-16 units, and ends with a
 /// line feed. The lines come by path, and those of a file by start, end, number and words. They are gathered in memory and
-/// written whenever they come to 64 KiB, and at the end: at most 4,096 lines beyond 64 KiB are in memory at a time.
+/// written whenever they come to 64 KiB, and at the end: at most 4,096 lines beyond 64 KiB are in memory at a time. But if there are
+/// several workers and 1,024 to 65,536 diagnostics, threads make all lines, each those of consecutive files, and these are written then.
 ///
-/// As many threads as there are `workers` do the work on the texts, and then as many link the files, but never more than there
-/// are files: 0 counts as 1, and over 64 as 64. Each enters the gate before it works on a text, and before it links a file, and
-/// all have ended when the first line is written. How many there are takes no part in what is written.
+/// As many threads as there are `workers` do the work on the texts, and then as many, but never more than there are files, link them: 0
+/// counts as 1, and over 64 as 64. If threads make the lines, there are at most as many, and one more if files without diagnostics are left
+/// at the end. Each enters the gate before it works on a text, and before it links a file, and all have ended when the first line is
+/// written. How many there are takes no part in what is written.
 ///
 /// What the names of a file mean is dropped once it is linked. If no fault comes before the first line, the rest of what is known of the
 /// files, trees too, is never freed, since freeing it takes a good part of a check's time: call it where the process ends soon after.
@@ -184,7 +251,7 @@ pub fn check<R: Threads + Wait + Clone + Send + Drop + 'static, K: ByteSink, G: 
 {
     match diagnose_files(rt, alloc, gate, config, workers) {
         Ok(files) => {
-            let found = send_and_judge(alloc, writer, &files);
+            let found = send_and_judge(rt, alloc, writer, &files, workers);
             mem::forget(files);
             found
         }

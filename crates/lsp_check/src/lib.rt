@@ -4,5 +4,6 @@
 mod checking;
 mod diagnosing;
 mod lines;
+mod listing;
 
 pub use checking::check;

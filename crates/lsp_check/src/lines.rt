@@ -92,3 +92,12 @@ pub fn has_errors(files: &DiagnosedFiles) -> bool
 {
     files.diagnosis().all_diagnostics().iter().any(any_error)
 }
+
+// How many diagnostics there are; the highest number if there are more.
+pub fn diagnostic_count(files: &DiagnosedFiles) -> usize {
+    let mut count = 0usize;
+    for diags in files.diagnosis().all_diagnostics() {
+        count = count.saturating_add(diags.as_slice().len());
+    }
+    count
+}

@@ -8,4 +8,5 @@ pub mod Held
 pub mod FirstEvents
 pub mod OneMore
 pub mod Earlier
+pub mod Crossing
 mod Keeps

@@ -1,5 +1,6 @@
--- What goes from one thread to another: a share to the thread that links it, and what is made of it back; and the table that all threads read.
-use denote.Param.Send.{IsSend, IsSync, sendable, struct_send, recorded_send}
+-- What goes from one thread to another: a share to the thread that links it, and what is made of it back; and what threads read side by side: the table of all
+-- files, the work on their texts, and what is wrong in them.
+use denote.Param.Send.{IsSend, IsSync, sendable, struct_send, struct_sync, recorded_send, recorded_sync, view_sync}
 use denote.RattleType.{RattleType}
 use denote.Struct.Declared.{shape}
 use denote.Struct.Tuple.{TupleAt, type_at}
@@ -32,6 +33,9 @@ use Rattle.work_index.specs.contracts.linked.LinkedShare as LinkedShare
 use Rattle.work_index.specs.contracts.indexed.IndexedShare as IndexedShare
 use Rattle.work_index.proofs.part_table.PartTable.TheSendSync as PartTable
 use Rattle.work_index.specs.contracts.analysis.Resolutions as Resolutions
+use Rattle.work_index.specs.contracts.diagnosis.Diagnosis as Diagnosis
+use Rattle.work_index.specs.contracts.diagnosis.Diagnosis.TheInside as inside
+use Rattle.file_facts.proofs.name.Name.TheSendSync as Name
 
 node_send : IsSend Node.the_row
 node_send = search (knot.send-Node, sendable, Boxed.the_send, Items.the_send, Span.the_field_send, Span.the_send, TypeName.the_send, Field.the_send, MapField.the_send, Number.the_send, ReservedList.the_send, Literal.the_send) depth 20
@@ -44,6 +48,18 @@ out_field_send = struct_send (shape FileOut.the_type) (tree_field_send, (search 
 
 pub out_send : IsSend FileOut.the_row
 out_send = search (sendable, out_field_send) depth 20
+
+node_sync : IsSync Node.the_row
+node_sync = search (knot.sync-Node, sendable, Boxed.the_sync, Items.the_sync, Span.the_field_sync, Span.the_sync, TypeName.the_sync, Field.the_sync, MapField.the_sync, Number.the_sync, ReservedList.the_sync, Literal.the_sync) depth 20
+
+tree_field_sync : IsSync (FileTree.the_field).row
+tree_field_sync = search (sendable, node_sync, Items.the_sync, Fault.the_sync) depth 20
+
+out_field_sync : IsSync (FileOut.the_field).row
+out_field_sync = struct_sync (shape FileOut.the_type) (tree_field_sync, (search (sendable, SharedFacts.the_sync) depth 20, (Asked.the_field_sync, tt)))
+
+pub out_sync : IsSync FileOut.the_row
+out_sync = search (sendable, out_field_sync) depth 20
 
 pub heap_send : IsSend Global.the_row
 heap_send = search (sendable, crosses) depth 20
@@ -71,6 +87,12 @@ linked_field_send = struct_send (shape LinkedShare.the_type) (search (sendable, 
 
 pub linked_send : IsSend LinkedShare.the_row
 linked_send = search (sendable, linked_field_send) depth 20
+
+pub diagnosis_sync : IsSync Diagnosis.the_row
+diagnosis_sync = view_sync inside.the_row _ _ _ _
+    (recorded_sync (inside.the_field).row _ _ (inside.the_type).to_one
+    (struct_sync (shape inside.the_type)
+    (search (sendable, crosses, Name.the_sync) depth 40, (search (sendable, crosses, Items.the_sync, Diag.the_sync) depth 40, (search (sendable, crosses, out_sync) depth 40, (Table.the_sync, tt))))))
 
 -- what a closure takes with it crosses where each of two does, and where each of four does
 pub two_send : (name : Sym) (A B : RattleType) → IsSend A → IsSend B → IsSend (TupleAt name (A ∷ B ∷ []))

@@ -1,10 +1,8 @@
 use Rattle.std.proofs.Common.{◌++◌}
 use Rattle.lsp_frame.specs.Counts.{NoneFell, NoError}
-use Rattle.work_index.specs.Workspace.{analysis}
 use Rattle.lsp_check.specs.Listing.{listing}
-use Rattle.lsp_check.specs.Steps.{Sent}
-use Rattle.lsp_check.proofs.LinesLemmas.{left_from}
-use Rattle.lsp_check.proofs.checking.send_all.Given as goal
+use Rattle.lsp_check.specs.Steps.{Sent, left_from}
+use Rattle.lsp_check.proofs.checking.send_in_turn.Given as goal
 
 -- what the room holds, and the lines of the files that are left, didn't go out yet
 abbrev pub invariant-loop-number : goal.invariant-loop-number
@@ -14,5 +12,5 @@ invariant-loop-number g l =
     record {
       none_fell : NoneFell (counts l.initial.writer) (counts l.writer);
       no_error : NoError (counts l.initial.writer) (counts l.writer);
-      sent : Sent (written l.initial.writer) (written l.writer) (listing l.files) (l.room.items ++ left_from (analysis l.files) l.number l.files);
+      sent : Sent (written l.initial.writer) (written l.writer) (listing l.files) (l.room.items ++ left_from l.number l.files);
     }

@@ -1,0 +1,15 @@
+use Rattle.std.proofs.Common.{flat_map}
+use Rattle.std.specs.Io.KnownBytes.{Appends}
+use Rattle.lsp_frame.specs.Counts.{NoneFell, NoError}
+use Rattle.lsp_check.proofs.checking.send_shares.Given as goal
+
+-- the lines of the shares that came went out
+abbrev pub invariant-shares : goal.invariant-shares
+invariant-shares g l =
+    let written = g.K.ByteSink.written in
+    let counts = g.K.ByteSink.counts in
+    record {
+      none_fell : NoneFell (counts l.initial.writer) (counts l.writer);
+      no_error : NoError (counts l.initial.writer) (counts l.writer);
+      sent : Appends (written l.initial.writer) (written l.writer) (flat_map (λ share. share.lines.items) l.yielded);
+    }
