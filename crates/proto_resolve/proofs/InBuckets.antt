@@ -1,5 +1,5 @@
 -- What the buckets of files have.
-use Rattle.std.proofs.Common.{◌≡◌, ◌∙◌, sym, ap, subst, refl, inl, inr, ◌&&◌, ◌==◌, ◌<◌, ◌%◌, ◌++◌, ◌∷◌, [], suc, zero, ℕ, List, Bool, true, false, map, filter, get_or, length, bytes_eq, arith}
+use Rattle.std.proofs.Common.{◌≡◌, ◌∙◌, sym, ap, subst, refl, inl, inr, ◌&&◌, ◌==◌, ◌<◌, ◌%◌, ℕ, List, Bool, true, false, map, filter, get_or, length, bytes_eq, arith}
 use Rattle.std.specs.Prelude.{AllPairs}
 use Rattle.std.specs.List.{list_any}
 use Rattle.std.specs.declared.cmp.Ordering.{Ordering}
@@ -12,7 +12,7 @@ use Rattle.import_graph.specs.declared.paths.NamedFacts.{NamedFacts}
 use Rattle.proto_resolve.specs.declared.hashed.HashedDecl.{HashedDecl}
 use Rattle.proto_resolve.specs.declared.hashed.HashedDecls.{HashedDecls}
 use Rattle.proto_resolve.specs.declared.target.DeclRef.{DeclRef}
-use Rattle.proto_resolve.specs.Buckets.{is_in, AreAllInOrder, AreInBuckets}
+use Rattle.proto_resolve.specs.Buckets.{is_in, AreInBuckets}
 use Rattle.proto_resolve.specs.Files.{all_decls, all_named, decl_at}
 use Rattle.proto_resolve.specs.Hashed.{hashed, AreByHash}
 use Rattle.file_facts.specs.FullNames.{hash_of, has_dot, last_of}
@@ -128,16 +128,3 @@ module _ (files : List NamedFacts) (buckets : List HashedDecls) (are : AreInBuck
       by_last.all scope last plain
       ∙ ap (λ (test : DeclRef → Bool). list_any test (all_decls files)) (fun_ext (there_too scope))
       ∙ sym (any_kept (λ r. bytes_eq (name_at files r) (joined scope last)) holds (all_decls files))
-
--- buckets of the lists in front, and behind them those of the others
-pub in_order_joined : (order : HashedDecl → HashedDecl → Ordering) (xs ys : List (List HashedDecl)) (bs cs : List HashedDecls) → AreAllInOrder order xs bs → AreAllInOrder order ys cs → AreAllInOrder order (xs ++ ys) (bs ++ cs)
-in_order_joined order [] ys [] cs front back = back
-in_order_joined order [] ys (b ∷ bs) cs front back = absurd (omega (arith, front.as_many))
-in_order_joined order (x ∷ xs) ys [] cs front back = absurd (omega (arith, front.as_many))
-in_order_joined order (x ∷ xs) ys (b ∷ bs) cs front back =
-    let rest = in_order_joined order xs ys bs cs (record { as_many = omega (arith, front.as_many); each = λ n d lt. front.each (suc n) d (omega (arith, lt)) }) back in
-    record { as_many = omega (arith, rest.as_many); each = by rest }
-  where
-    by : AreAllInOrder order (xs ++ ys) (bs ++ cs) → (n : ℕ) (d : HashedDecls) → n < length (x ∷ (xs ++ ys)) → AreInOrder order (get_or (x ∷ (xs ++ ys)) n []) (get_or (b ∷ (bs ++ cs)) n d)
-    by rest zero d lt = front.each 0 d (omega arith)
-    by rest (suc n) d lt = rest.each n d (omega (arith, lt))

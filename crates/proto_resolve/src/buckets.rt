@@ -6,14 +6,13 @@ ghost use Rattle.std.specs.List.{flat_map};
 ghost use Rattle.proto_resolve.specs.declared.hashed.HashedDecls.{HashedDecls};
 ghost use Rattle.proto_resolve.specs.Buckets.{is_in, AreAllInOrder, AreDealt, AreInBuckets};
 ghost use Rattle.proto_resolve.specs.Entries.{all_entries, entries_of};
-ghost use Rattle.proto_resolve.specs.Tables.{by_name, name_at, AreInOrder};
+ghost use Rattle.proto_resolve.specs.Tables.{AreInOrder};
 
-use crate::entry_order::{ByName, EntryOrder, sort_entries};
+use crate::entry_order::{EntryOrder, sort_entries};
 use crate::hashed::{HashedDecl, HashedDecls, apart};
 use crate::target::DeclRef;
 use import_graph::NamedFacts;
 use std::alloc::{AllocError, Global};
-use std::thread::{self, Threads};
 
 /// Declarations in buckets. A hash belongs to the bucket whose number is its remainder by the number of buckets.
 #[derive(Drop)]
@@ -219,44 +218,6 @@ impl Buckets {
         Ok(Buckets { list })
     }
 
-    // The same by full names.
-    fn in_name_order(
-        alloc: Global,
-        files: &[NamedFacts],
-        lists: Vec<Vec<HashedDecl>>,
-    ) -> Result<Buckets, AllocError>
-        ensures { IfOk result (λ b. AreAllInOrder (by_name (name_at files.now)) (map (λ list. list.items) lists.items) b.list.items) }
-    {
-        Buckets::in_order::<ByName>(alloc, files, lists)
-    }
-
-    // The same, made by this thread and another one, if that can be started.
-    fn in_name_order_by_two<R: Threads>(
-        rt: &R,
-        alloc: Global,
-        files: &[NamedFacts],
-        lists: Vec<Vec<HashedDecl>>,
-    ) -> Result<Buckets, AllocError>
-        ensures { IfOk result (λ b. AreAllInOrder (by_name (name_at files.now)) (map (λ list. list.items) lists.items) b.list.items) }
-    {
-        let mut front = lists;
-        let back = front.split_off(front.len() / 2)?;
-        let (made_front, made_back) = thread::join(
-            rt,
-            || -> Result<Buckets, AllocError>
-                ensures { IfOk result (λ b. AreAllInOrder (by_name (name_at files.entry.now)) (map (λ list. list.items) front.items) b.list.items) }
-            { Buckets::in_name_order(alloc, files, front) },
-            || -> Result<Buckets, AllocError>
-                ensures { IfOk result (λ b. AreAllInOrder (by_name (name_at files.entry.now)) (map (λ list. list.items) back.items) b.list.items) }
-            { Buckets::in_name_order(alloc, files, back) },
-        );
-        let Buckets { list } = made_front?;
-        let Buckets { list: mut more } = made_back?;
-        let mut list = list;
-        list.append(&mut more)?;
-        Ok(Buckets { list })
-    }
-
     // The entries of runs in buckets, each put in order. The runs are dropped as soon as their entries are dealt. An `Err` comes only
     // where memory was refused.
     pub fn of<O: EntryOrder>(
@@ -286,20 +247,6 @@ impl Buckets {
         let count = bucket_count(count_all(hashes.as_slice()));
         let lists = dealt_names(alloc, hashes, count)?;
         Buckets::in_order::<O>(alloc, files, lists)
-    }
-
-    // The same by full names. This thread deals them, and it and another one, if that can be started, put them in order.
-    pub fn of_names_by_two<R: Threads>(
-        rt: &R,
-        alloc: Global,
-        files: &[NamedFacts],
-        hashes: Vec<Vec<u64>>,
-    ) -> Result<Buckets, AllocError>
-        ensures { IfOk result (λ b. AreInBuckets (by_name (name_at files.now)) (all_entries (map (λ own. own.items) hashes.items)) b.list.items) }
-    {
-        let count = bucket_count(count_all(hashes.as_slice()));
-        let lists = dealt_names(alloc, hashes, count)?;
-        Buckets::in_name_order_by_two(rt, alloc, files, lists)
     }
 
     // The bucket in which the declarations of a hash are.

@@ -87,27 +87,28 @@ fn holders_in_buckets(
     Buckets::of::<ByScope>(alloc, files, runs)
 }
 
-// Both, the names first, made by this thread and two others.
-fn names_and_holders<R: Threads>(
+// The same, and what is known of the files beside their declarations by name, made by this thread and another one, if that can be started.
+fn holders_and_base<R: Threads>(
     rt: &R,
     alloc: Global,
     files: &[NamedFacts],
-    hashes: Vec<Vec<u64>>,
     runs: Vec<Vec<HashedDecl>>,
-) -> Result<(Buckets, Buckets), AllocError>
-    ensures names { IfOk result (λ r. AreInBuckets (by_name (name_at files.now)) (all_entries (map (λ own. own.items) hashes.items)) (let b = r.0 in b.list.items)) }
-    ensures holders { IfOk result (λ r. AreInBuckets (by_scope (name_at files.now)) (flat_map (λ run. run.items) runs.items) (let b = r.1 in b.list.items)) }
+) -> Result<(Buckets, TableBase), AllocError>
+    requires { IsInPathOrder files.now }
+    ensures holders { IfOk result (λ r. AreInBuckets (by_scope (name_at files.now)) (flat_map (λ run. run.items) runs.items) (let b = r.0 in b.list.items)) }
+    ensures base { IfOk result (λ r. IsBaseOf files.now r.1) }
 {
-    let (holders, names) = thread::join(
+    let (holders, base) = thread::join(
         rt,
         || -> Result<Buckets, AllocError>
             ensures { IfOk result (λ b. AreInBuckets (by_scope (name_at files.entry.now)) (flat_map (λ run. run.items) runs.items) b.list.items) }
         { holders_in_buckets(alloc, files, runs) },
-        || -> Result<Buckets, AllocError>
-            ensures { IfOk result (λ b. AreInBuckets (by_name (name_at files.entry.now)) (all_entries (map (λ own. own.items) hashes.items)) b.list.items) }
-        { Buckets::of_names_by_two(rt, alloc, files, hashes) },
+        || -> Result<TableBase, AllocError>
+            requires { IsInPathOrder files.now }
+            ensures { IfOk result (IsBaseOf files.entry.now) }
+        { TableBase::of(alloc, files) },
     );
-    Ok((names?, holders?))
+    Ok((holders?, base?))
 }
 
 // Counts the entries to their buckets, of which these are the lengths, and gives how many are in the bucket of each one then, added up.
@@ -243,8 +244,8 @@ impl NameTable {
         })
     }
 
-    // The table of these files, and what is known of them beside their declarations by name, made by this thread and three others. They are
-    // in the order of their paths.
+    // The table of these files, and what is known of them beside their declarations by name, made by this thread and two others, if
+    // these can be started. They are in the order of their paths.
     pub(crate) fn with_base<R: Threads>(
         rt: &R,
         alloc: Global,
@@ -260,19 +261,19 @@ impl NameTable {
             holders,
         } = entries;
         let seen = files.as_slice();
-        let (made_base, made_names) = thread::join(
+        let (made_names, made_others) = thread::join(
             rt,
-            || -> Result<TableBase, AllocError>
+            || -> Result<Buckets, AllocError>
+                ensures { IfOk result (λ b. AreInBuckets (by_name (name_at seen.entry.now)) (all_entries (map (λ own. own.items) hashes.items)) b.list.items) }
+            { names_in_buckets(alloc, seen, hashes) },
+            || -> Result<(Buckets, TableBase), AllocError>
                 requires { IsInPathOrder seen.now }
-                ensures { IfOk result (IsBaseOf seen.entry.now) }
-            { TableBase::of(alloc, seen) },
-            || -> Result<(Buckets, Buckets), AllocError>
-                ensures names { IfOk result (λ r. AreInBuckets (by_name (name_at seen.entry.now)) (all_entries (map (λ own. own.items) hashes.items)) (let b = r.0 in b.list.items)) }
-                ensures holders { IfOk result (λ r. AreInBuckets (by_scope (name_at seen.entry.now)) (flat_map (λ run. run.items) holders.items) (let b = r.1 in b.list.items)) }
-            { names_and_holders(rt, alloc, seen, hashes, holders) },
+                ensures holders { IfOk result (λ r. AreInBuckets (by_scope (name_at seen.entry.now)) (flat_map (λ run. run.items) holders.items) (let b = r.0 in b.list.items)) }
+                ensures base { IfOk result (λ r. IsBaseOf seen.entry.now r.1) }
+            { holders_and_base(rt, alloc, seen, holders) },
         );
-        let (names, holders) = made_names?;
-        let base = made_base?;
+        let (holders, base) = made_others?;
+        let names = made_names?;
         Ok((
             NameTable {
                 files,

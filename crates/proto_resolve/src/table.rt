@@ -72,7 +72,7 @@ impl Table {
         Ok(Table { names, base })
     }
 
-    /// The table of the files of these entries, which are in the order of their paths, made by this thread and three others, if these can be
+    /// The table of the files of these entries, which are in the order of their paths, made by this thread and two others, if these can be
     /// started. An `Err` comes only where memory was refused; the entries are gone then.
     pub fn of_entries<R: Threads>(
         rt: &R,

@@ -11,8 +11,8 @@ pub invariant_of-result : goal.invariant_of-result
 invariant_of-result g c = record {
   names_are = subst (λ es. AreInBuckets (by_name (name_at c.entries.inside.files.items)) es c.in_ok-names.names.list.items)
       (ap all_entries c.entries.invariant.hashes_are ∙ named_entries c.entries.inside.files.items)
-      (rw (c.in_ok-names.was, c.as_slice-seen.ensures.value) at c.join-made_base.ensures.second.0);
-  holders_are = buckets_moved (by_scope (name_at c.entries.inside.files.items)) (flat_map (λ run. run.items) c.entries.inside.holders.items) (holder_entries c.entries.inside.files.items) c.in_ok-names.holders.list.items
+      (rw (c.in_ok-names.was, c.as_slice-seen.ensures.value) at c.join-made_names.ensures.first);
+  holders_are = buckets_moved (by_scope (name_at c.entries.inside.files.items)) (flat_map (λ run. run.items) c.entries.inside.holders.items) (holder_entries c.entries.inside.files.items) c.in_ok-holders.holders.list.items
       (λ p. c.entries.invariant.holders_are p ∙ ap (λ es. length (filter p es)) (sym (flat_items (λ run. run.items) c.entries.inside.holders.items)))
-      (rw (c.in_ok-names.was, c.as_slice-seen.ensures.value) at c.join-made_base.ensures.second.1);
+      (rw (c.in_ok-holders.was, c.as_slice-seen.ensures.value) at c.join-made_names.ensures.second.0);
 }
