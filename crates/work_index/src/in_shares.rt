@@ -169,10 +169,10 @@ fn link_in_shares<R: Threads + Wait, G: Gate>(
 
 /// The analysis of the workspace of lent pieces, which come back as they were. It is the one that [`analyse_here`](crate::analyse_here)
 /// makes of them. As many threads as there are `workers` gather the declarations of the files by name, and later as many link the
-/// files: 0 counts as 1, and over 64 as 64, and there are never more than there are files. In between this thread and two others, however
-/// many workers there are, put all names in order and make the graph of imports. Each takes a run of consecutive files; the runs differ in length by at most one, the longer ones
-/// first. A thread enters the gate with the path and the stamp of each of its files before it links it. The number of threads
-/// takes no part in what is made. It waits until each of them has ended.
+/// files: 0 counts as 1, and over 64 as 64, and there are never more than there are files. Each takes a run of consecutive files; the
+/// runs differ in length by at most one, the longer ones first. A thread enters the gate with the path and the stamp of each of its files
+/// before it links it. In between this thread and two others, however many workers there are, put all names in order and make the graph of
+/// imports. The number of threads takes no part in what is made. It waits until each of them has ended.
 ///
 /// `Memory` if memory was refused, here or in a thread, and `ThreadRefused` if a thread couldn't be started. The pieces are gone
 /// then.
