@@ -39,7 +39,7 @@ quick: need-rt
 wrong-bodies: need-rt
 	@python3 tools/wrong_bodies.py $(CRATE)
 
-# How long each crate's proof takes from nothing, and the slowest functions.
+# How long each crate takes from nothing, what waits for what, the budget, and the slowest functions.
 times: need-rt
 	@python3 tools/times.py $(CRATE)
 

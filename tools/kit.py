@@ -1,11 +1,17 @@
 """What the tools of this folder share: the kit's command `rt` as a module, the crates of this repository, and tasks side by side.
 
 Relied on of the kit: `rt` on the PATH is a Python file with `rtlib.py` beside it. Of `rt`: KIT, processors(), free(), checked(), read_edit(),
-must_fail(), with REFUSED and AT_LIMIT in some kits, linked(), unread(), read_files(). Of `rtlib`: RATTLE, STALE, crates_below(), guarded(), lock(), text_of() and the class Crate with name, folder,
-is_program, of_kit, deps, rlib, out, makes_rlib(), below(), stamp(), need(), words(), prove(), build_rlib(), check(), has_tests() and test_whole().
+must_fail(), with REFUSED and AT_LIMIT in some kits, linked(), unread(), read_files(). Of `rtlib`: RATTLE, STALE, LIMIT, crates_below(), guarded(), lock(),
+text_of(), sum_of(), files_of() and the class Crate with name, folder, said, is_program, of_kit, deps, rlib, out, makes_rlib(), below(), stamp(), stream(),
+need(), words(), is_built(), has_kept(), build_rlib(), check(), run(), has_tests() and test_whole(). Of `rt ci`: RT_JOBS, that it looks for edits before
+its first proof, the lines `rt: NAME proved` and `rt: NAME is kept: ..`, and the last one.
 """
+import collections
+import contextlib
+import copy
 import importlib.machinery
 import importlib.util
+import json
 import os
 import pathlib
 import shutil
@@ -14,8 +20,19 @@ import threading
 import time
 
 ROOT = pathlib.Path(__file__).resolve().parent.parent
-# The most jobs that one check gains from.
-MOST_JOBS = 4
+PROGRAM = "protols"
+# The processor seconds that each crate's proof takes from nothing at one job, that of its tests, and the compiling of a program. tools/times.py writes it.
+TIMES = ROOT / "tools" / "times.json"
+SECONDS = json.loads(TIMES.read_text())
+# These try the tools themselves, without the program, and take minutes.
+TESTS_OF_TOOLS = ("test_gate.py", "test_schedule.py", "test_wrong_bodies.py")
+# The most jobs that one check gains from, how many processors it keeps busy then, and which part of its time at one job it takes (a chain of 3,650 s at one
+# job took 2,770 s by the clock).
+MOST_JOBS, BUSY, GAIN = 4, 2, 0.76
+# Which part of its time from nothing a check takes over kept work, as seen of the program's.
+OVER_KEPT = 0.3
+# What a crate without a row takes: so many seconds for any check, and one for so many bytes.
+LEAST, BYTES = 10, 500
 # By how much the priority of a task without the longest chain is lowered, as `nice` counts.
 GIVES_WAY = 10
 # The most memory that a check has been seen to take: what the kit foresees is far more for a crate above many others.
@@ -68,8 +85,9 @@ def hold(some):
     return rtlib.lock(some)
 
 
-def is_current(program):
-    """Whether the built program is that of the present sources. Each crate's sum is worked out once: rt does so again for each that stands on it."""
+@contextlib.contextmanager
+def summed_once():
+    """Has each crate's sum worked out once: rt does so again for each that stands on it."""
     known, stamp = {}, rtlib.Crate.stamp
 
     def once(crate):
@@ -79,23 +97,36 @@ def is_current(program):
 
     rtlib.Crate.stamp = once
     try:
-        made = f"{program.folder}/out/{program.name}"
-        return os.path.isfile(made) and rtlib.text_of(f"{made}.stamp") == program.stamp() + rtlib.sum_of(made)
+        yield
     finally:
         rtlib.Crate.stamp = stamp
 
 
-def size_of(crate):
-    """About how long a proof of the crate takes, as a number of bytes."""
-    return sum(os.path.getsize(it) for it in rtlib.files_of(crate.folder))
+def is_current(program):
+    """Whether the built program is that of the present sources."""
+    made = f"{program.folder}/out/{program.name}"
+    with summed_once():
+        return os.path.isfile(made) and rtlib.text_of(f"{made}.stamp") == program.stamp() + rtlib.sum_of(made)
+
+
+def seconds_of(name, crate, share=1):
+    """About how many seconds the task of this name takes, if its proof takes this share of that from nothing: by the table, or by the size of the crate's files."""
+    proof = SECONDS.get(name) or LEAST + sum(os.path.getsize(it) for it in rtlib.files_of(crate.folder)) / BYTES
+    return share * proof + SECONDS.get(f"{name} (built)", 0)
+
+
+def tests_in(root):
+    """The files of tests of a repository: those of its tools, and the others."""
+    names = sorted(it.name for it in pathlib.Path(root, "tests").glob("test_*.py"))
+    return [it for it in names if it in TESTS_OF_TOOLS], [it for it in names if it not in TESTS_OF_TOOLS]
 
 
 class Task:
-    """Work on a crate: its name, the names of the tasks that it waits for, its weight (the larger, the longer it takes), its memory in bytes, and a
-    call that is given how many jobs it may use and returns whether all went well."""
+    """Work on a crate: its name, the names of the tasks that it waits for, about how many seconds it takes at one job, its memory in bytes, and a call
+    that is given how many jobs it may use and returns whether all went well."""
 
-    def __init__(self, name, waits, weight, memory, call):
-        self.name, self.waits, self.weight, self.memory, self.call = name, waits, weight, memory, call
+    def __init__(self, name, waits, seconds, memory, call):
+        self.name, self.waits, self.seconds, self.memory, self.call = name, waits, seconds, memory, call
 
 
 def log_of(crate, what):
@@ -108,6 +139,12 @@ def logged(crate, what, call):
         return call() == 0
 
 
+def task_of(crate, name, waits, call):
+    """The task of a crate that proves over kept work, if there is any."""
+    seconds = seconds_of(name, crate, OVER_KEPT if crate.has_kept() else 1)
+    return Task(name, waits, seconds, min(crate.need() // 2, MOST_MEMORY), call)
+
+
 def proof_task(crate, is_used):
     """The task that proves a crate over kept work, and builds it where others stand on it."""
 
@@ -115,29 +152,67 @@ def proof_task(crate, is_used):
         flags = ["--jobs", str(jobs)]
         return logged(crate, "proof", lambda: crate.build_rlib(flags, anew=False) if is_used else crate.check(flags))
 
-    return Task(crate.name, [it.name for it in crate.below()], size_of(crate), min(crate.need() // 2, MOST_MEMORY), call)
+    return task_of(crate, crate.name, [it.name for it in crate.below()], call)
+
+
+Running = collections.namedtuple("Running", "processors memory ends")
 
 
 class Schedule:
     """Tasks side by side: each once those that it waits for went well, first the one with the longest chain of others behind it.
 
-    A task with the longest chain of all that are left or running when it starts gets as many jobs as a check gains from, and takes up two processors
-    for them, or more where no other task waits for these. All others get the processors that no other task waits for, and run at a lower
-    priority, since the whole ends no sooner than that chain does.
+    A check has one job. One with the longest chain of all that are left or running has as many as a check gains from if it starts where the processors
+    that these keep busy would idle. All others run at a lower priority, since the whole ends no sooner than that chain does.
     """
 
     def __init__(self, tasks, ended, lanes):
         self.left, self.ended = [*tasks], ended
         self.lanes, self.memory = lanes or rt.processors(), 0.85 * rt.free()
         self.running, self.given, self.turn = {}, {}, threading.Condition()
-        self.behind = {it.name: it.weight for it in tasks}
-        weight = {**self.behind}
+        self.known = {it.name: it.seconds for it in tasks}
+        self.behind, self.took, self.expected = {**self.known}, 0.0, 0.0
         for task in reversed(tasks):
-            for below in task.waits:
-                if below in weight:
-                    self.behind[below] = max(self.behind[below], self.behind[task.name] + weight[below])
+            for below in self.waits_for(task):
+                self.behind[below] = max(self.behind[below], self.behind[task.name] + self.known[below])
         self.left.sort(key=lambda it: -self.behind[it.name])
-        self.known = {*weight}
+
+    def waits_for(self, task):
+        return [it for it in task.waits if it in self.known]
+
+    def skip_lost(self):
+        """Leaves out what waits for a task that failed, and what waits for that."""
+        lost = True
+        while lost:
+            lost = [it for it in self.left if any(self.given.get(below, True) is not True for below in self.waits_for(it))]
+            self.left = [it for it in self.left if it not in lost]
+            self.given.update({it.name: None for it in lost})
+
+    def starting(self, now):
+        """The tasks that start now, each with its jobs and whether it has the longest chain. They count as running from then on."""
+        ready = [it for it in self.left if all(self.given.get(below) is True for below in self.waits_for(it))]
+        found = []
+        for at, task in enumerate(ready):
+            idle = self.lanes - sum(it.processors for it in self.running.values())
+            room = self.memory - sum(it.memory for it in self.running.values())
+            if idle <= 0 or self.running and task.memory > room:
+                continue
+            is_first = self.behind[task.name] >= max(self.behind[it] for it in [*self.running, *(other.name for other in self.left)])
+            is_wide = is_first and idle - (len(ready) - at - 1) >= BUSY
+            self.left.remove(task)
+            self.running[task.name] = Running(BUSY if is_wide else 1, task.memory, now + task.seconds * (GAIN if is_wide else 1))
+            found.append((task, min(MOST_JOBS, self.lanes) if is_wide else 1, is_first))
+        return found
+
+    def foreseen(self):
+        """About how many seconds pass until all has ended, by what the tasks that ended took so far."""
+        it, began = copy.copy(self), time.time()
+        it.left, it.running, it.given, now = [*self.left], {**self.running}, {**self.given}, began
+        it.starting(now)
+        while it.running:
+            name = min(it.running, key=lambda name: it.running[name].ends)
+            now, it.given[name] = max(now, it.running.pop(name).ends), True
+            it.starting(now)
+        return (now - began) * (self.took / self.expected if self.expected else 1)
 
     def one(self, task, jobs, is_first):
         began, well = time.time(), False
@@ -148,59 +223,46 @@ class Schedule:
             well = task.call(jobs)
         finally:
             with self.turn:
+                seconds = time.time() - began
+                self.took, self.expected = self.took + seconds, self.expected + self.running.pop(task.name).ends - began
                 self.given[task.name] = well
-                del self.running[task.name]
-                self.ended(task, well, time.time() - began)
+                self.skip_lost()
                 self.turn.notify_all()
-
-    def waits_for(self, task):
-        return [it for it in task.waits if it in self.known]
-
-    def skip_lost(self):
-        """Leaves out what waits for a task that failed."""
-        lost = [it for it in self.left if any(self.given.get(below, True) is not True for below in self.waits_for(it))]
-        for task in lost:
-            self.left.remove(task)
-            self.given[task.name] = None
-        return bool(lost)
-
-    def start(self):
-        ready = [it for it in self.left if all(self.given.get(below) is True for below in self.waits_for(it))]
-        for at, task in enumerate(ready):
-            idle = self.lanes - sum(jobs for jobs, _ in self.running.values())
-            room = self.memory - sum(memory for _, memory in self.running.values())
-            if idle <= 0 or self.running and task.memory > room:
-                continue
-            is_first = self.behind[task.name] >= max(self.behind[it] for it in [*self.running, *(other.name for other in self.left)])
-            spare = idle - (len(ready) - at - 1)
-            jobs = min(MOST_JOBS, self.lanes) if is_first else max(1, min(MOST_JOBS, spare))
-            self.left.remove(task)
-            self.running[task.name] = min(jobs, max(2, spare)) if is_first else jobs, task.memory
-            threading.Thread(target=self.one, args=(task, jobs, is_first), daemon=True).start()
+                self.ended(task, well, seconds, self.foreseen())
 
     def run(self):
         with self.turn:
             while self.left or self.running:
-                while self.skip_lost():
-                    pass
-                self.start()
+                for it in self.starting(time.time()):
+                    threading.Thread(target=self.one, args=it, daemon=True).start()
                 if self.running:
                     self.turn.wait()
         return self.given
 
 
-def run_tasks(tasks, ended=lambda task, well, seconds: None, lanes=None):
+def run_tasks(tasks, ended=lambda task, well, seconds, left: None, lanes=None):
     """What each task gave, by its name: true, false, or None where it wasn't run since one that it waits for failed. Tasks come lowest first."""
     return Schedule(tasks, ended, lanes).run()
 
 
+def foreseen(tasks):
+    """About how many seconds these tasks take side by side."""
+    return Schedule(tasks, None, None).foreseen()
+
+
+def about(seconds):
+    """A number of seconds that isn't known well, in words."""
+    return f"about {seconds / 60:.0f} minutes" if seconds > 90 else "about a minute" if seconds > 20 else "some seconds"
+
+
 class Progress:
-    """Prints a line for each task that ended, with how many there are."""
+    """Prints a line for each task that ended, with how many there are and about how long the rest takes."""
 
     def __init__(self, what, count):
         self.what, self.count, self.number, self.began = what, count, 0, time.time()
 
-    def __call__(self, task, well, seconds):
+    def __call__(self, task, well, seconds, left):
         self.number += 1
         word = "" if well else ": FAILED"
-        print(f"{time.time() - self.began:6.0f} s  {self.what} {self.number} of {self.count}: {task.name}, {seconds:.0f} s{word}", flush=True)
+        rest = f"; {about(left)} left" if self.number < self.count else ""
+        print(f"{time.time() - self.began:6.0f} s  {self.what} {self.number} of {self.count}: {task.name}, {seconds:.0f} s{word}{rest}", flush=True)

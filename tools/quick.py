@@ -1,8 +1,9 @@
 #!/usr/bin/env python3
 """What to run before each commit: `make quick`.
 
-Over what earlier runs kept it proves every crate, runs the tests of the crates that changed or that stand on a changed one, tries the edits of
-must-fail/ and wrong-bodies/ whose verdict is not current, builds the program, and runs the tests in tests/. Only `make test` is the verdict.
+It says what it is going to do and about how long that takes. Over what earlier runs kept it proves the crates that changed since they last passed and those
+that stand on them, runs their tests and programs, tries the edits of must-fail/ and wrong-bodies/ whose verdict is not current, and runs the tests in
+tests/, those of the tools only if something of them changed. Only `make test` is the verdict.
 
 The last line is `N passed, M failed`, and the status is 0 only if M is 0.
 """
@@ -15,72 +16,97 @@ import time
 import kit
 
 TESTS = kit.ROOT / "tests"
-# These try the tools themselves, and take minutes: only after a change in tools/ or in them.
-TESTS_OF_TOOLS = "test_wrong_bodies.py"
+# About how many seconds a file of tests of the program takes beside others, one of the tools, and the edits where all verdicts are current.
+OF_PROGRAM, OF_TOOLS, OF_EDITS = 40, 150, 20
+# The memory that these take, in bytes.
+MEMORY = 1_000_000_000
 
 
-def checked_task(crate):
-    """The task that runs a crate's tests or program and looks at its layout, if anything that they are made of changed since they last passed."""
-    passed = f"{crate.folder}/out/passed"
+def unless_passed(crate, task, what):
+    """The task, which notes in the crate's out/ what it has passed, or nothing if that is what stands there now."""
+    passed = pathlib.Path(crate.folder, "out", f"{what}.passed")
+    # (of what stands there before the task runs)
+    stamp = crate.stamp() + "".join(kit.rtlib.sum_of(f"{crate.folder}/{it}") for it in ("stdin", "stdout", "args", "status"))
+    if kit.rtlib.text_of(str(passed)) == stamp and (not crate.is_program or kit.is_current(crate)):
+        return []
+    call = task.call
 
-    def call(jobs):
-        stamp = crate.stamp() + kit.rtlib.sum_of(f"{crate.folder}/stdin") + kit.rtlib.sum_of(f"{crate.folder}/stdout")
-        if kit.rtlib.text_of(passed) == stamp:
-            return True
-        well = kit.logged(crate, "tests", lambda: crate.test_whole(["--jobs", str(jobs)]))
+    def noting(jobs):
+        well = call(jobs)
         if well:
-            pathlib.Path(passed).write_text(stamp)
+            passed.write_text(stamp)
         return well
 
-    weight = kit.size_of(crate) if crate.is_program or crate.has_tests() else 1
-    return kit.Task(f"{crate.name} (tests)", [crate.name], weight, min(crate.need() // 2, kit.MOST_MEMORY), call)
+    task.call = noting
+    return [task]
 
 
-def run(words, **how):
-    return subprocess.run(words, cwd=kit.ROOT, stdin=subprocess.DEVNULL, **how).returncode == 0
+def tasks_of(crate, is_used):
+    """What is to be done for a crate. A program is proved as it is built, and then run. The layout of sources is one of the tests in tests/."""
+    below = [it.name for it in crate.below()]
+    name, waits = (crate.name, below) if crate.is_program else (f"{crate.name} (tests)", [*below, crate.name])
+    tests = kit.task_of(crate, name, waits, lambda jobs: kit.logged(crate, "tests", lambda: crate.test_whole(["--jobs", str(jobs)])))
+    found = []
+    if is_used:
+        found = [] if crate.is_built() else [kit.proof_task(crate, True)]
+    elif not crate.is_program:
+        found = unless_passed(crate, kit.proof_task(crate, False), "proof")
+    return found + (unless_passed(crate, tests, "tests") if crate.is_program or crate.has_tests() else [])
 
 
-def run_end_to_end():
-    """Runs the tests in tests/ on the built program, those of the tools only if something of them changed."""
-    names = sorted(it.name for it in TESTS.glob("test_*.py"))
-    files = [*sorted((kit.ROOT / "tools").glob("*.py")), TESTS / TESTS_OF_TOOLS]
+def command_task(name, seconds, words):
+    """The task that runs a command, and shows what it said if it failed."""
+
+    def call(jobs):
+        ran = subprocess.run([sys.executable, *words], cwd=kit.ROOT, stdin=subprocess.DEVNULL, stdout=subprocess.PIPE, stderr=subprocess.STDOUT, text=True)
+        print(ran.stdout if ran.returncode else "", end="", flush=True)
+        return ran.returncode == 0
+
+    return kit.Task(name, [], seconds, MEMORY, call)
+
+
+def commands():
+    """What is done with the built program and the edits, and what notes that the tests of the tools passed on what stands there now."""
+    of_tools, others = kit.tests_in(kit.ROOT)
+    files = [*sorted((kit.ROOT / "tools").glob("*.py")), *(TESTS / it for it in ("gate.py", "run_file.py", *of_tools))]
     kept, stamp = kit.ROOT / "out" / "tools-passed", "".join(kit.rtlib.sum_of(str(it)) for it in files)
-    tools_changed = kit.rtlib.text_of(str(kept)) != stamp
-    passed = failed = 0
-    for name in names:
-        if name == TESTS_OF_TOOLS and not tools_changed:
-            continue
-        well = run([sys.executable, "-m", "unittest", "discover", "-q", "-s", "tests", "-p", name])
-        passed, failed = passed + well, failed + (not well)
-        print(f"tests/{name}: {'passed' if well else 'FAILED'}", flush=True)
-    if tools_changed and not failed:
-        kept.parent.mkdir(exist_ok=True)
-        kept.write_text(stamp)
-    return passed, failed
+    of_tools = [] if kit.rtlib.text_of(str(kept)) == stamp else of_tools
+    edits = ["tools/wrong_bodies.py", "--jobs", str(max(1, kit.rt.processors() // 2))]
+    tasks = [command_task("wrong bodies", OF_EDITS, edits), command_task("must-fail edits", OF_EDITS, [*edits, "--must-fail"])]
+    tasks += [command_task(f"tests/{it}", OF_TOOLS if it in of_tools else OF_PROGRAM, ["tests/run_file.py", f"tests/{it}"]) for it in [*of_tools, *others]]
+
+    def note(given):
+        if all(given[f"tests/{it}"] for it in of_tools):
+            kept.parent.mkdir(exist_ok=True)
+            kept.write_text(stamp)
+
+    return tasks, note
 
 
 def main():
-    began = time.time()
-    crates = kit.crates()
+    began, crates = time.time(), kit.crates()
     held = kit.hold(crates)
     used = {below.name for it in crates for below in it.deps}
-    tasks = [kit.proof_task(it, it.name in used) for it in crates] + [checked_task(it) for it in crates]
+    with kit.summed_once():
+        tasks = [task for it in crates for task in tasks_of(it, it.name in used)]
+    more, note = commands()
+    proves = f"proves and runs {', '.join(it.name for it in tasks)}: {kit.about(kit.foreseen(tasks))}" if tasks else "has nothing to prove: no crate changed"
+    print(f"this run {proves}\nthen edits without a current verdict, and {len(more) - 2} files of tests: {kit.about(kit.foreseen(more))}", flush=True)
     given = kit.run_tasks(tasks, kit.Progress("step", len(tasks)))
     for it in held:
         os.close(it)
     for it in crates:
-        for what, name in (("proof", it.name), ("tests", f"{it.name} (tests)")):
-            if given[name] is False:
+        for what, name in (("proof", it.name), ("tests", it.name if it.is_program else f"{it.name} (tests)")):
+            if given.get(name) is False and os.path.isfile(kit.log_of(it, what)):
                 print(f"== {name}\n{kit.rtlib.text_of(kit.log_of(it, what))[-4000:]}")
-    passed, failed = sum(it is True for it in given.values()), sum(it is not True for it in given.values())
-    if not failed:
-        steps = [[sys.executable, "tools/build.py"], [sys.executable, "tools/wrong_bodies.py"], [sys.executable, "tools/wrong_bodies.py", "--must-fail"]]
-        well = [run(it) for it in steps]
-        more_passed, more_failed = run_end_to_end()
-        passed, failed = passed + sum(well) + more_passed, failed + len(well) - sum(well) + more_failed
+    if all(given.values()):
+        also = kit.run_tasks(more, kit.Progress("step", len(more)))
+        note(also)
+        given.update(also)
+    passed = sum(it is True for it in given.values())
     print(f"{time.time() - began:.0f} s")
-    print(f"{passed} passed, {failed} failed", flush=True)
-    return 1 if failed else 0
+    print(f"{passed} passed, {len(given) - passed} failed", flush=True)
+    return 0 if passed == len(given) else 1
 
 
 sys.exit(main())

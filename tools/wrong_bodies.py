@@ -17,8 +17,8 @@ and lemmas and all else of its sources but for functions, the same of the crates
 Bodies of other functions don't count, but for those that a caller sees; nor do imports of names that nothing of this has. An edit of anything but
 one body rests on the whole crate. Comments, layout and an edit's description don't count. What is current isn't tried again; --anew tries all.
 --must-fail takes the edits of must-fail/ in the same way, and keeps their verdicts in the crate's out/. --alone tries each edit in a check of its
-own. --gate, right after an `rt ci` that passed, takes the libraries as that has built them, whose statements alone are read, and also fails where
-verdicts.json names an edit that isn't there.
+own. --gate, beside an `rt ci` that has proved these crates or after it, takes the libraries as that has built them, whose statements alone are read. It
+tries the edits of must-fail/ too, each time, and also fails where verdicts.json names an edit that isn't there.
 
 The status is 0 if each edit is refused, else 1. The last line is `N refused, M not; ..`.
 
@@ -183,11 +183,15 @@ class Surfaces:
 # -- edits
 
 class Edit:
-    """An edit file, and which function it changes if it is one alone: its place in its file, and its new text, with clauses and body."""
+    """An edit file, and which function it changes if it is one alone: its place in its file, and its new text, with clauses and body. It has no record if
+    it is tried each time."""
 
-    def __init__(self, file):
-        self.file, self.name = file, os.path.basename(file)
+    def __init__(self, file, has_record=True):
+        self.file, self.name, self.has_record = file, os.path.basename(file), has_record
         self.path, self.number, self.function, self.new = None, None, None, None
+
+    def shown(self):
+        return self.name if self.has_record else f"{OF_THE_KIT}/{self.name}"
 
     def place(self, texts, sources):
         """Finds the one function that the edit changes, and says whether it may share a check: it may if nothing but the body differs."""
@@ -212,15 +216,14 @@ class Edit:
         return is_body
 
 
-def edits_in(folder):
-    """The edits of a folder, and what else is in it that should be one."""
-    good, bad = [], []
+def edits_in(folder, has_record=True):
+    """The edits of a folder and what else is in it that should be one, each with whether it is one."""
     for at, folders, files in os.walk(folder):
         folders.sort()
-        for name in sorted(files):
+        links = [it for it in [*folders, *files] if os.path.islink(f"{at}/{it}")]
+        for name in sorted({*files, *links}):
             if name != RECORD and not name.endswith(".md"):
-                (good if at == folder and EDIT_NAME.fullmatch(name) else bad).append(Edit(f"{at}/{name}"))
-    return good, bad
+                yield Edit(f"{at}/{name}", has_record), bool(at == folder and EDIT_NAME.fullmatch(name) and name not in links)
 
 
 class Neighbours:
@@ -389,7 +392,8 @@ class Trial:
     def write_record(self):
         """Keeps what is refused so far, so that a run that is cut off isn't lost."""
         with self.writing:
-            rows = {it.name: {"sum": self.keys[it], "said": said} for it, (verdict, said) in [*self.verdicts.items()] if verdict == REFUSED}
+            refused = [(it, said) for it, (verdict, said) in [*self.verdicts.items()] if verdict == REFUSED and it.has_record]
+            rows = {it.name: {"sum": self.keys[it], "said": said} for it, said in refused}
             text = json.dumps(rows, indent=1, sort_keys=True, ensure_ascii=False) + "\n"
             if rows or self.recorded.exists():
                 self.recorded.write_text(text)
@@ -506,13 +510,14 @@ class Trial:
 
     def sort_out(self):
         """Settles the edits that need no check, and gives those that are left with their texts, and the recorded ones that aren't there."""
-        good, bad = edits_in(self.folder)
-        self.verdicts = {it: (BAD, "an edit stands right in its folder, with a plain name that ends in .edit") for it in bad}
+        found = [it for folder, has_record in self.given.folders for it in edits_in(f"{self.crate.folder}/{folder}", has_record)]
+        good = [it for it, is_edit in found if is_edit]
+        self.verdicts = {it: (BAD, "an edit is a file right in its folder, with a plain name that ends in .edit") for it, is_edit in found if not is_edit}
         record, key = self.record(), self.key()
         self.keys = keys = {it: sum_of(key, self.own_key(it)) for it in good}
         texts = {}
         for edit in good:
-            row = record.get(edit.name)
+            row = record.get(edit.name) if edit.has_record else None
             if row and row["sum"] == keys[edit] and not self.given.anew:
                 self.verdicts[edit] = REFUSED, row["said"]
                 continue
@@ -520,7 +525,7 @@ class Trial:
             if why:
                 self.verdicts[edit] = BAD, why
                 del texts[edit]
-        missing = sorted({*record} - {it.name for it in good}) if self.given.gate else []
+        missing = sorted({*record} - {it.name for it in good if it.has_record}) if self.given.gate else []
         return texts, missing
 
     def run(self):
@@ -546,6 +551,8 @@ def arguments(words):
         asks.add_argument(flag, action="store_true")
     given = asks.parse_args(words)
     given.folder = OF_THE_KIT if given.must_fail else FOLDER
+    # (with whether what is refused there is recorded)
+    given.folders = [(given.folder, True), *([(OF_THE_KIT, False)] if given.gate and not given.must_fail else [])]
     given.jobs = given.jobs or kit.rt.processors()
     return given
 
@@ -568,8 +575,9 @@ def main(words):
     lacking = {*given.crates} - {it.name for it in crates}
     if lacking:
         sys.exit(f"wrong_bodies: crates.txt names no crate {', '.join(sorted(lacking))}")
-    crates = [it for it in crates if os.path.isdir(f"{it.folder}/{given.folder}") and (not given.crates or it.name in given.crates)]
-    held = kit.hold(kit.in_order({*crates, *(below for crate in crates for below in crate.below())}))
+    crates = [it for it in crates if (not given.crates or it.name in given.crates) and any(os.path.isdir(f"{it.folder}/{folder}") for folder, _ in given.folders)]
+    # (an `rt ci` beside it holds the crates, and proves none of these again)
+    held = [] if given.gate else kit.hold(kit.in_order({*crates, *(below for crate in crates for below in crate.below())}))
     slots, surfaces, printing = threading.Semaphore(given.jobs), Surfaces(), threading.Lock()
     trials = {it: Trial(it, given, slots, surfaces) for it in crates}
     stale = [it for it in crates if trials[it].sort_out()[0]]
@@ -594,7 +602,7 @@ def main(words):
             for it, (verdict, said) in sorted(trial.verdicts.items(), key=lambda row: row[0].name):
                 counts[verdict] = counts.get(verdict, 0) + 1
                 if verdict != REFUSED or given.show:
-                    print(f"{crate.name}/{it.name}: {verdict}: {said[:260]}", flush=True)
+                    print(f"{crate.name}/{it.shown()}: {verdict}: {said[:260]}", flush=True)
             for name in missing:
                 counts["MISSING"] = counts.get("MISSING", 0) + 1
                 print(f"{crate.name}/{name}: MISSING: {RECORD} names it, and there is no such edit", flush=True)
