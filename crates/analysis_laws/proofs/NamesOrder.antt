@@ -16,7 +16,7 @@ use Rattle.syntax_tree.specs.Read.{read, value_tree}
 use Rattle.syntax_laws.proofs.Rise.{Rise, rise-behind, rise-from_increasing, increasing-from_rise}
 use Rattle.file_facts.specs.Text.{joined as scoped}
 use Rattle.file_facts.specs.declared.fact.FileFacts.{FileFacts}
-use Rattle.import_graph.specs.declared.paths.NamedFacts.{NamedFacts}
+use Rattle.file_facts.specs.declared.named_facts.NamedFacts.{NamedFacts}
 use Rattle.import_graph.specs.Imports.{is_opaque}
 use Rattle.proto_resolve.specs.declared.site.Component.{Component}
 use Rattle.proto_resolve.specs.declared.site.NameSite.{NameSite}

@@ -13,13 +13,13 @@ use Rattle.file_facts.specs.Nesting.{NamesNest}
 use Rattle.file_facts.specs.Text.{text_at}
 use Rattle.import_graph.specs.Closures.{sees, view_of}
 use Rattle.import_graph.specs.Imports.{graph_of, imports_of}
-use Rattle.import_graph.specs.declared.paths.NamedFacts.{NamedFacts}
+use Rattle.file_facts.specs.declared.named_facts.NamedFacts.{NamedFacts}
 use Rattle.proto_resolve.specs.declared.site.NameSite.{NameSite}
 use Rattle.proto_resolve.specs.declared.target.Target.{Target}
-use Rattle.proto_resolve.specs.Files.{facts_at}
+use Rattle.proto_names.specs.Files.{facts_at, is_seen}
 use Rattle.proto_resolve.specs.declared.uses.NameUse.{NameUse}
 use Rattle.proto_resolve.specs.Laws.{AreUsesOf, UsesLaw}
-use Rattle.proto_resolve.specs.Names.{found, is_seen, joined_all, scope_of, texts_of}
+use Rattle.proto_resolve.specs.Names.{found, joined_all, scope_of, texts_of}
 use Rattle.proto_resolve.specs.Uses.{uses_of}
 use Rattle.analysis_laws.proofs.Components.{of_names}
 use Rattle.proto_resolve.proofs.Firsts.{agrees}

@@ -5,7 +5,7 @@ use Rattle.file_facts.specs.declared.fact.FileFacts.{FileFacts}
 use Rattle.file_facts.specs.declared.fact.ImportFact.{ImportFact}
 use Rattle.file_facts.specs.declared.fact.SyntaxFact.{SyntaxFact}
 use Rattle.file_facts.specs.declared.fact.SyntaxFact.TheVariants.{Proto3, Opaque}
-use Rattle.import_graph.specs.declared.paths.NamedFacts.{NamedFacts}
+use Rattle.file_facts.specs.declared.named_facts.NamedFacts.{NamedFacts}
 use Rattle.import_graph.specs.declared.imports.ImportEdge.{ImportEdge}
 use Rattle.import_graph.specs.declared.imports.FileImports.{FileImports}
 use Rattle.import_graph.specs.Paths.{file_named}

@@ -11,7 +11,8 @@ ghost use Rattle.import_graph.specs.Walks.{AllWithin};
 
 use crate::components::Components;
 use crate::imports::{FileImports, ImportEdge, imports_of, is_complete};
-use crate::paths::{FileNo, NamedFacts};
+use crate::paths::FileNo;
+use file_facts::NamedFacts;
 use sqlite_items::Items;
 use std::alloc::{AllocError, Global};
 

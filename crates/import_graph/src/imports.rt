@@ -4,8 +4,8 @@ ghost use Rattle.std.specs.Prelude.{◌≡◌, ℕ, List, IfOk, map};
 ghost use Rattle.import_graph.specs.Paths.{IsInPathOrder};
 ghost use Rattle.import_graph.specs.Imports.{targets, public_targets, imports_of, edge_of, is_analysed, is_complete_in};
 
-use crate::paths::{FileNo, NamedFacts, file_named};
-use file_facts::{FileFacts, ImportFact, SyntaxFact};
+use crate::paths::{FileNo, file_named};
+use file_facts::{FileFacts, ImportFact, NamedFacts, SyntaxFact};
 use sqlite_items::Items;
 use std::alloc::{AllocError, Global};
 

@@ -6,29 +6,16 @@ ghost use Rattle.std.specs.Cmp.Lexicographic.{slice_cmp};
 ghost use Rattle.std.specs.Ordering.{nat_cmp};
 ghost use Rattle.import_graph.specs.Paths.{IsInPathOrder, slash, file_named};
 
-use crate::shared_facts::SharedFacts;
-use file_facts::Name;
+use file_facts::NamedFacts;
 use std::cmp::Ordering;
 
 /// The number of a file: its place, counted from 0, in the list of files in the order of their paths.
 pub type FileNo = usize;
 
-/// A file of the workspace: its path, and what its text says by itself.
-#[derive(Drop)]
-pub struct NamedFacts {
-    /// The path in UTF-8 from the workspace's root, its parts joined by `/`; one that begins with `/` is of a file outside,
-    /// which no import names.
-    pub path: Name,
-    /// The facts of the file's text.
-    pub facts: SharedFacts,
-}
-
-impl NamedFacts {
-    fn path_cmp(&self, path: &str) -> Ordering
-        ensures { result ≡ slice_cmp nat_cmp self.now.path path.now }
-    {
-        self.path.as_str().cmp(path)
-    }
+fn path_cmp(file: &NamedFacts, path: &str) -> Ordering
+    ensures { result ≡ slice_cmp nat_cmp file.now.path path.now }
+{
+    file.path.as_str().cmp(path)
 }
 
 /// Whether the paths are in the order of their bytes, no path twice. Takes no memory.
@@ -36,7 +23,7 @@ pub fn are_in_path_order(files: &[NamedFacts]) -> bool
     ensures { IsTrue result ↔ IsInPathOrder files.now }
 {
     for next in 1..files.len() {
-        if files[next - 1].path_cmp(files[next].path.as_str()) != Ordering::Less {
+        if path_cmp(&files[next - 1], files[next].path.as_str()) != Ordering::Less {
             return false;
         }
     }
@@ -54,7 +41,7 @@ pub fn number_of(files: &[NamedFacts], path: &str) -> Option<FileNo>
     requires { IsInPathOrder files.now }
     ensures { result ≡ position (λ file. bytes_eq file.path path.now) files.now }
 {
-    files.binary_search_by(|file| file.path_cmp(path)).ok()
+    files.binary_search_by(|file| path_cmp(file, path)).ok()
 }
 
 /// The number that a file with this path gets if it joins these files, which are in the order of their paths and none of which has the path.
@@ -62,7 +49,7 @@ pub fn number_of(files: &[NamedFacts], path: &str) -> Option<FileNo>
 pub fn place_for(files: &[NamedFacts], path: &str) -> FileNo
     ensures { (at : ℕ) (file : NamedFacts) → file.path ≡ path.now → at ≤ length files.now → IsInPathOrder (insert files.now at file) → result ≡ at }
 {
-    files.partition_point(|file| file.path_cmp(path).is_lt())
+    files.partition_point(|file| path_cmp(file, path).is_lt())
 }
 
 // The number of the file that an import with the text names, if any; none begins with a slash.

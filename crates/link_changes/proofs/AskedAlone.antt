@@ -21,7 +21,7 @@ use Rattle.file_facts.specs.declared.problem.Problem.TheVariants as m
 use Rattle.file_facts.specs.Diags.{diag}
 use Rattle.file_facts.specs.Order.{in_order}
 use Rattle.file_facts.specs.Text.{joined}
-use Rattle.import_graph.specs.declared.paths.NamedFacts.{NamedFacts}
+use Rattle.file_facts.specs.declared.named_facts.NamedFacts.{NamedFacts}
 use Rattle.import_graph.specs.Imports.{graph_of, target_at}
 use Rattle.import_graph.specs.Closures.{is_closed, view_of}
 use Rattle.import_graph.specs.Outlooks.{import_outlook, imports_outlook}
@@ -29,17 +29,18 @@ use Rattle.import_graph.proofs.Outlooks.{said_at}
 use Rattle.proto_resolve.specs.declared.resolve.Links.{Links}
 use Rattle.proto_resolve.specs.declared.site.NameSite.{NameSite}
 use Rattle.proto_resolve.specs.declared.site.Needs.TheVariants as needs
-use Rattle.proto_resolve.specs.declared.target.DeclRef.{DeclRef}
+use Rattle.proto_names.specs.declared.decl_ref.DeclRef.{DeclRef}
 use Rattle.proto_resolve.specs.declared.target.Target.{Target}
 use Rattle.proto_resolve.specs.declared.target.Target.TheVariants.{Declared, Package}
 use Rattle.proto_resolve.specs.declared.uses.NameUse.{NameUse}
-use Rattle.proto_resolve.specs.Files.{all_named, begins, decl_at, decls_at, facts_at, has_package, is_within}
-use Rattle.proto_resolve.specs.Names.{first_declared, first_text, found, has_kind, is_holder, is_seen, is_type, joined_all, scope_of, settles, settles_at, texts_of}
+use Rattle.proto_names.specs.Files.{all_named, begins, decl_at, decls_at, facts_at, has_package, is_within, is_seen}
+use Rattle.proto_resolve.specs.Names.{first_declared, first_text, found, has_kind, is_type, joined_all, scope_of, settles, settles_at, texts_of}
+use Rattle.proto_names.specs.Holders.{is_holder}
 use Rattle.proto_resolve.specs.Resolved.{resolved, sites_at}
 use Rattle.proto_resolve.specs.Sites.{names_of_file}
 use Rattle.proto_resolve.specs.Uses.{prefixes, use_at, uses, uses_at, uses_in, uses_of}
 use Rattle.proto_resolve.specs.ViewDiagnostics.{decl_diagnostics, diagnostics_of_meaning, diagnostics_of_target, import_diagnostics, is_declared_elsewhere, name_diagnostics, view_diagnostics}
-use Rattle.proto_resolve.proofs.Alike.{any_agree}
+use Rattle.proto_names.proofs.Alike.{any_agree}
 use Rattle.proto_resolve.proofs.Firsts.{found_has, is_another, is_own, is_visible}
 use Rattle.link_changes.specs.Asked.{asked_by, names_asked_in, names_asked, scopes_asked}
 use Rattle.link_changes.specs.Laws.{AskedLaw, AsksTheSame, seen_named}

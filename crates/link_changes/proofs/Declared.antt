@@ -8,8 +8,8 @@ use Rattle.std.proofs.lemmas.List.Folds.{list_any-append}
 use Rattle.std.proofs.lemmas.Slice.Eq.{bytes_eq-Decides}
 use Rattle.file_facts.specs.declared.fact.Decl.{Decl}
 use Rattle.file_facts.specs.declared.fact.DeclKind.{DeclKind}
-use Rattle.proto_resolve.specs.Outlines.{declared}
-use Rattle.proto_resolve.proofs.PackageFronts.{to_end}
+use Rattle.proto_names.specs.Outlines.{declared}
+use Rattle.proto_names.proofs.PackageFronts.{to_end}
 use Rattle.link_changes.specs.declared.keys.NameKeys.{NameKeys}
 use Rattle.link_changes.specs.declared.renumbering.Renumbering.{Renumbering}
 use Rattle.link_changes.specs.Keys.{key, last_key}

@@ -10,16 +10,15 @@ use Rattle.std.proofs.lemmas.List.Elements.{All-head, All-tail}
 use Rattle.std.proofs.lemmas.List.Kept.{AllPairs-filter, AllPairs-from_increasing}
 use Rattle.file_facts.specs.declared.fact.DeclKind.{DeclKind}
 use Rattle.file_facts.specs.declared.fact.FileFacts.{FileFacts}
-use Rattle.import_graph.specs.declared.paths.NamedFacts.{NamedFacts}
+use Rattle.file_facts.specs.declared.named_facts.NamedFacts.{NamedFacts}
 use Rattle.import_graph.specs.declared.imports.FileImports.{FileImports}
 use Rattle.import_graph.specs.Closures.{closure, imports, imports_publicly, sees, view_of}
 use Rattle.import_graph.specs.Imports.{graph_of, imports_of}
 use Rattle.import_graph.specs.Moves.{moved_import, new_import, place}
 use Rattle.import_graph.specs.Outlooks.{imports_outlook}
 use Rattle.import_graph.proofs.OneView.{rising}
-use Rattle.proto_resolve.specs.declared.target.DeclRef.{DeclRef}
-use Rattle.proto_resolve.specs.Files.{decls_at, facts_at}
-use Rattle.proto_resolve.specs.Names.{is_seen}
+use Rattle.proto_names.specs.declared.decl_ref.DeclRef.{DeclRef}
+use Rattle.proto_names.specs.Files.{decls_at, facts_at, is_seen}
 use Rattle.proto_resolve.specs.Resolved.{sites_at}
 use Rattle.proto_resolve.proofs.Firsts.{agrees, differs}
 use Rattle.link_changes.specs.Asked.{names_asked}

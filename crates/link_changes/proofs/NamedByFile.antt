@@ -10,10 +10,10 @@ use Rattle.std.proofs.lemmas.List.FromFn.{get_or-enumerate_from, length-enumerat
 use Rattle.file_facts.specs.declared.fact.Decl.{Decl}
 use Rattle.file_facts.specs.declared.fact.DeclKind.{DeclKind}
 use Rattle.file_facts.specs.declared.fact.FileFacts.{FileFacts}
-use Rattle.import_graph.specs.declared.paths.NamedFacts.{NamedFacts}
-use Rattle.proto_resolve.specs.declared.target.DeclRef.{DeclRef}
-use Rattle.proto_resolve.specs.Files.{all_decls, decl_at, facts_at, no_decl, no_facts, refs_of}
-use Rattle.proto_resolve.proofs.Order.{numbered, refs}
+use Rattle.file_facts.specs.declared.named_facts.NamedFacts.{NamedFacts}
+use Rattle.proto_names.specs.declared.decl_ref.DeclRef.{DeclRef}
+use Rattle.proto_names.specs.Files.{all_decls, decl_at, facts_at, no_decl, no_facts, refs_of}
+use Rattle.proto_names.proofs.Order.{numbered, refs}
 use Rattle.link_changes.specs.Touched.{declared_as}
 
 -- ---- lists

@@ -7,11 +7,10 @@ use Rattle.std.proofs.lemmas.List.{map-append}
 use Rattle.std.proofs.lemmas.List.Elements.{All-nil, All-cons, All-weaker}
 use Rattle.file_facts.specs.declared.fact.DeclKind.{DeclKind}
 use Rattle.file_facts.specs.declared.fact.FileFacts.{FileFacts}
-use Rattle.import_graph.specs.declared.paths.NamedFacts.{NamedFacts}
+use Rattle.file_facts.specs.declared.named_facts.NamedFacts.{NamedFacts}
 use Rattle.import_graph.specs.Closures.{view_of}
 use Rattle.import_graph.specs.Imports.{graph_of}
-use Rattle.proto_resolve.specs.Files.{decls_at, facts_at}
-use Rattle.proto_resolve.specs.Names.{is_seen}
+use Rattle.proto_names.specs.Files.{decls_at, facts_at, is_seen}
 use Rattle.proto_resolve.specs.Resolved.{sites_at}
 use Rattle.proto_resolve.proofs.Firsts.{agrees, differs}
 use Rattle.link_changes.specs.declared.renumbering.Renumbering.{Renumbering}

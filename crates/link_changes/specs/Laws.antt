@@ -3,14 +3,13 @@ use Rattle.std.specs.Prelude.{◌≡◌, ◌≢◌, ℕ, ◌<◌, ◌==◌, ◌|
 use Rattle.std.specs.Option.{unwrap_or}
 use Rattle.syntax_tree.specs.declared.node.FileTree.{FileTree}
 use Rattle.file_facts.specs.declared.fact.DeclKind.{DeclKind}
-use Rattle.import_graph.specs.declared.paths.NamedFacts.{NamedFacts}
+use Rattle.file_facts.specs.declared.named_facts.NamedFacts.{NamedFacts}
 use Rattle.import_graph.specs.Closures.{view_of}
 use Rattle.import_graph.specs.Imports.{graph_of}
 use Rattle.import_graph.specs.Moves.{IsMovedOutlook, place}
 use Rattle.import_graph.specs.Outlooks.{outlook}
-use Rattle.proto_resolve.specs.declared.target.DeclRef.{DeclRef}
-use Rattle.proto_resolve.specs.Files.{all_named, decl_at, decls_at, facts_at}
-use Rattle.proto_resolve.specs.Names.{is_seen}
+use Rattle.proto_names.specs.declared.decl_ref.DeclRef.{DeclRef}
+use Rattle.proto_names.specs.Files.{all_named, decl_at, decls_at, facts_at, is_seen}
 use Rattle.proto_resolve.specs.Resolved.{resolved, sites_at}
 use Rattle.link_changes.specs.declared.asked.Asked.{Asked}
 use Rattle.link_changes.specs.declared.touched.Touched.{Touched}

@@ -4,8 +4,8 @@ use Rattle.std.specs.List.{enumerate_from, list_all, list_any}
 use Rattle.std.specs.Option.{option_map_or}
 use Rattle.proto_lex.specs.Bytes.{is_letter, is_name_byte}
 use Rattle.file_facts.specs.Text.{joined}
-use Rattle.proto_resolve.specs.declared.target.DeclRef.{DeclRef}
-use Rattle.proto_resolve.specs.Files.{is_within}
+use Rattle.proto_names.specs.declared.decl_ref.DeclRef.{DeclRef}
+use Rattle.proto_names.specs.Files.{is_within}
 use Rattle.file_facts.specs.FullNames.{scope_of}
 use Rattle.work_index.specs.Workspace.{AnalysisData, decls_named}
 use Rattle.lsp_queries.specs.Answers.{sites_of}

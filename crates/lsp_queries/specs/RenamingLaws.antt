@@ -4,7 +4,7 @@ use Rattle.proto_lex.specs.declared.token.Kind.TheVariants.{Ident}
 use Rattle.proto_lex.specs.Forms.{IsForm}
 use Rattle.file_facts.specs.Nesting.{IsWithin}
 use Rattle.file_facts.specs.Text.{joined}
-use Rattle.proto_resolve.specs.declared.target.DeclRef.{DeclRef}
+use Rattle.proto_names.specs.declared.decl_ref.DeclRef.{DeclRef}
 use Rattle.file_facts.specs.FullNames.{dot, scope_of}
 use Rattle.work_index.specs.Workspace.{AnalysisData, decl_in}
 use Rattle.lsp_queries.specs.Files.{package_in}

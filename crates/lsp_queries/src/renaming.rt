@@ -1,6 +1,6 @@
 // Another name for a declaration.
 ghost use Rattle.std.specs.Prelude.{◌≡◌, ◌≢◌, Ok, Err, IsTrue, IfOk, IfErr, string_bytes};
-ghost use Rattle.proto_resolve.specs.Files as files;
+ghost use Rattle.proto_names.specs.Files as files;
 ghost use Rattle.lsp_queries.specs.Files.{package_in};
 ghost use Rattle.lsp_queries.specs.Renaming.{is_identifier, is_other, new_full_name, is_declared, is_package, is_taken, renamed_decl, renamed, TakesMemory};
 

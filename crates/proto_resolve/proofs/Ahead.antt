@@ -9,14 +9,14 @@ use Rattle.std.proofs.lemmas.List.Elements.{All-cons, All-nil}
 use Rattle.file_facts.specs.declared.fact.DeclKind.{DeclKind}
 use Rattle.file_facts.specs.declared.fact.DeclKind.TheVariants.{Message, EnumDef, Service, Rpc, Oneof, Field, Extension, Value}
 use Rattle.file_facts.specs.Text.{joined}
-use Rattle.import_graph.specs.declared.paths.NamedFacts.{NamedFacts}
+use Rattle.file_facts.specs.declared.named_facts.NamedFacts.{NamedFacts}
 use Rattle.proto_resolve.specs.declared.site.NameSite.{NameSite}
 use Rattle.proto_resolve.specs.declared.site.Needs.TheVariants as needs
-use Rattle.proto_resolve.specs.declared.target.DeclRef.{DeclRef}
+use Rattle.proto_names.specs.declared.decl_ref.DeclRef.{DeclRef}
 use Rattle.proto_resolve.specs.declared.target.Target.TheVariants.{Declared, Package}
-use Rattle.proto_resolve.specs.Files.{all_named, decl_at, has_package}
-use Rattle.proto_resolve.specs.Holders.{is_held}
-use Rattle.proto_resolve.specs.Names.{first_declared, first_text, has_kind, is_holder, is_type, settles, settles_at, texts_of}
+use Rattle.proto_names.specs.Files.{all_named, decl_at, has_package}
+use Rattle.proto_names.specs.Holders.{is_held, is_holder}
+use Rattle.proto_resolve.specs.Names.{first_declared, first_text, has_kind, is_type, settles, settles_at, texts_of}
 use Rattle.proto_resolve.proofs.Firsts.{found_has, is_own, is_visible}
 
 none_passes : {X : Type 0} (p : X → Bool) (xs : List X) → list_any p xs ≡ false → All (λ x. p x ≡ false) xs

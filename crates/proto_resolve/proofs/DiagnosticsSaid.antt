@@ -11,7 +11,7 @@ use Rattle.file_facts.specs.declared.fact.Decl.{Decl}
 use Rattle.file_facts.specs.declared.fact.ImportFact.{ImportFact}
 use Rattle.file_facts.specs.declared.problem.Problem.TheVariants as m
 use Rattle.file_facts.specs.Diags.{diag}
-use Rattle.import_graph.specs.declared.paths.NamedFacts.{NamedFacts}
+use Rattle.file_facts.specs.declared.named_facts.NamedFacts.{NamedFacts}
 use Rattle.import_graph.specs.declared.imports.FileImports.{FileImports}
 use Rattle.import_graph.specs.Imports.{graph_of, is_analysed, edges_at, target_at}
 use Rattle.import_graph.specs.Views.{IsClosed, Sees}
@@ -21,10 +21,10 @@ use Rattle.import_graph.proofs.Closures.{and_both, both_and, or_right}
 use Rattle.import_graph.proofs.ImportEdges.{filter_to, here, here_or_next, next}
 use Rattle.import_graph.proofs.SeesTest.{all_is}
 use Rattle.proto_resolve.specs.declared.site.NameSite.{NameSite}
-use Rattle.proto_resolve.specs.declared.target.DeclRef.{DeclRef}
+use Rattle.proto_names.specs.declared.decl_ref.DeclRef.{DeclRef}
 use Rattle.proto_resolve.specs.declared.target.Target.{Target}
-use Rattle.proto_resolve.specs.Files.{all_named, decls_at, has_package}
-use Rattle.proto_resolve.specs.Names.{has_kind, is_seen, is_type}
+use Rattle.proto_names.specs.Files.{all_named, decls_at, has_package, is_seen}
+use Rattle.proto_resolve.specs.Names.{has_kind, is_type}
 use Rattle.proto_resolve.specs.Finding.{IsSeenAs}
 use Rattle.proto_resolve.specs.ViewDiagnostics.{decl_diagnostics, diagnostics_of_meaning, diagnostics_of_target, import_diagnostics, is_declared_elsewhere, name_diagnostics, view_diagnostics}
 use Rattle.proto_resolve.specs.DiagnosticLaws.{IsViewDiagnostic, means, numbered_imports}

@@ -11,11 +11,11 @@ use Rattle.file_facts.specs.declared.fact.Decl.{Decl}
 use Rattle.file_facts.specs.declared.fact.DeclKind.{DeclKind}
 use Rattle.file_facts.specs.declared.fact.FileFacts.{FileFacts}
 use Rattle.file_facts.specs.declared.fact.PackageFact.{PackageFact}
-use Rattle.import_graph.specs.declared.paths.NamedFacts.{NamedFacts}
-use Rattle.proto_resolve.specs.declared.target.DeclRef.{DeclRef}
-use Rattle.proto_resolve.specs.Files.{begins, decls_at, is_within, no_decl}
-use Rattle.proto_resolve.specs.Seen.{exports}
-use Rattle.proto_resolve.proofs.Order.{numbered, refs}
+use Rattle.file_facts.specs.declared.named_facts.NamedFacts.{NamedFacts}
+use Rattle.proto_names.specs.declared.decl_ref.DeclRef.{DeclRef}
+use Rattle.proto_names.specs.Files.{begins, decls_at, is_within, no_decl}
+use Rattle.proto_names.specs.Outlines.{exports}
+use Rattle.proto_names.proofs.Order.{numbered, refs}
 
 abbrev entry : Decl → DeclKind × List ℕ
 entry d = (d.kind, d.full_name)

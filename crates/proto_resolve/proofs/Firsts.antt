@@ -8,8 +8,8 @@ use Rattle.std.proofs.lemmas.Bool.Decides.{nat_tests}
 use Rattle.std.proofs.lemmas.List.{drop_all, drop_more, get_or-drop, length-drop}
 use Rattle.std.proofs.lemmas.List.Elements.{All-head, All-tail, All-from_get_or}
 use Rattle.std.proofs.lemmas.List.Kept.{AllPairs-from_increasing}
-use Rattle.proto_resolve.specs.declared.target.DeclRef.{DeclRef}
-use Rattle.proto_resolve.specs.Names.{is_seen}
+use Rattle.proto_names.specs.declared.decl_ref.DeclRef.{DeclRef}
+use Rattle.proto_names.specs.Files.{is_seen}
 
 module _ {X : Type 0} (p : X → Bool) where
   pub find_none : (xs : List X) → All (λ x. p x ≡ false) xs → find p xs ≡ None

@@ -10,23 +10,23 @@ use Rattle.std.proofs.lemmas.List.Elements.{All-nil, All-cons, All-append, All-w
 use Rattle.std.proofs.lemmas.Slice.Eq.{bytes_eq-Decides}
 use Rattle.file_facts.specs.declared.fact.Decl.{Decl}
 use Rattle.file_facts.specs.declared.fact.PackageFact.{PackageFact}
-use Rattle.import_graph.specs.declared.paths.NamedFacts.{NamedFacts}
+use Rattle.file_facts.specs.declared.named_facts.NamedFacts.{NamedFacts}
 use Rattle.import_graph.specs.declared.imports.FileImports.{FileImports}
 use Rattle.import_graph.specs.Imports.{graph_of, imports_of}
 use Rattle.import_graph.specs.Views.{Sees}
 use Rattle.import_graph.specs.Closures.{view_of, sees}
 use Rattle.import_graph.specs.Laws.{ViewLaw}
-use Rattle.proto_resolve.specs.declared.target.DeclRef.{DeclRef}
+use Rattle.proto_names.specs.declared.decl_ref.DeclRef.{DeclRef}
 use Rattle.proto_resolve.specs.declared.target.Target.{Target}
 use Rattle.proto_resolve.specs.declared.target.Target.TheVariants.{Declared, Package}
-use Rattle.proto_resolve.specs.Files.{all_decls, all_named, begins, decl_at, decls_at, ends_component, facts_at, has_package, is_within}
+use Rattle.proto_names.specs.Files.{all_decls, all_named, begins, decl_at, decls_at, ends_component, facts_at, has_package, is_within, is_seen}
 use Rattle.file_facts.specs.FullNames.{dot}
-use Rattle.proto_resolve.specs.Names.{first_declared, found, is_seen, package_found}
+use Rattle.proto_resolve.specs.Names.{first_declared, found, package_found}
 use Rattle.proto_resolve.specs.Finding.{ComesBefore, Finds, HasPackage, IsFirst, IsSeenAs, IsUndeclared}
 use Rattle.proto_resolve.specs.Finding.ComesBefore.{own_file, by_path, by_offset}
 use Rattle.proto_resolve.proofs.Firsts.{agrees, is_own, is_visible}
 use Rattle.proto_resolve.proofs.Members.{In, all_in, first_in, from_any, from_filter, in_filter, in_left, in_right, none_in, to_any}
-use Rattle.proto_resolve.proofs.Order.{Earlier, files_from, named_rise, numbered, refs}
+use Rattle.proto_names.proofs.Order.{Earlier, files_from, named_rise, numbered, refs}
 use Rattle.proto_resolve.proofs.Within.{named_within}
 
 -- every declaration is listed

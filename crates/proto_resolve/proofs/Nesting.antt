@@ -9,9 +9,9 @@ use Rattle.std.proofs.lemmas.List.Elements.{All-head, All-nil, All-tail}
 use Rattle.file_facts.specs.Nesting.{IsWithin, HasOuterNames, NamesNest}
 use Rattle.file_facts.specs.Text.{joined}
 use Rattle.file_facts.specs.declared.fact.PackageFact.{PackageFact}
-use Rattle.import_graph.specs.declared.paths.NamedFacts.{NamedFacts}
-use Rattle.proto_resolve.specs.declared.target.DeclRef.{DeclRef}
-use Rattle.proto_resolve.specs.Files.{all_named, decl_at, decls_at, facts_at, has_package, is_within, no_decl, no_facts}
+use Rattle.file_facts.specs.declared.named_facts.NamedFacts.{NamedFacts}
+use Rattle.proto_names.specs.declared.decl_ref.DeclRef.{DeclRef}
+use Rattle.proto_names.specs.Files.{all_named, decl_at, decls_at, facts_at, has_package, is_within, no_decl, no_facts}
 use Rattle.proto_resolve.proofs.Firsts.{agrees}
 use Rattle.proto_resolve.proofs.Meets.{begins_so, in_all_named, in_named}
 use Rattle.proto_resolve.proofs.Members.{In}

@@ -8,14 +8,14 @@ use Rattle.std.proofs.lemmas.Bool.Decides.{Decides-eqb}
 use Rattle.std.proofs.lemmas.List.{append_assoc, take-append-drop}
 use Rattle.std.proofs.lemmas.Slice.Eq.{bytes_eq-Decides}
 use Rattle.std.proofs.Math.Seq.{drop-append_seam, take-append_seam}
-use Rattle.import_graph.specs.declared.paths.NamedFacts.{NamedFacts}
+use Rattle.file_facts.specs.declared.named_facts.NamedFacts.{NamedFacts}
 use Rattle.file_facts.specs.declared.fact.PackageFact.{PackageFact}
 use Rattle.file_facts.specs.Nesting.{NamesNest}
 use Rattle.file_facts.specs.Text.{joined}
-use Rattle.proto_resolve.specs.declared.target.DeclRef.{DeclRef}
+use Rattle.proto_names.specs.declared.decl_ref.DeclRef.{DeclRef}
 use Rattle.proto_resolve.specs.declared.target.Target.TheVariants.{Declared}
-use Rattle.proto_resolve.specs.Files.{all_named, begins, ends_component, facts_at, has_package, is_within}
-use Rattle.proto_resolve.specs.Names.{first_declared, found, is_seen, package_found}
+use Rattle.proto_names.specs.Files.{all_named, begins, ends_component, facts_at, has_package, is_within, is_seen}
+use Rattle.proto_resolve.specs.Names.{first_declared, found, package_found}
 use Rattle.proto_resolve.proofs.Nesting.{declares, outer_has}
 
 -- ---- tests

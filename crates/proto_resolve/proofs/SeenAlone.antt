@@ -17,7 +17,7 @@ use Rattle.file_facts.specs.declared.problem.Problem.TheVariants as m
 use Rattle.file_facts.specs.Diags.{diag}
 use Rattle.file_facts.specs.Order.{in_order}
 use Rattle.file_facts.specs.Text.{joined}
-use Rattle.import_graph.specs.declared.paths.NamedFacts.{NamedFacts}
+use Rattle.file_facts.specs.declared.named_facts.NamedFacts.{NamedFacts}
 use Rattle.import_graph.specs.Imports.{graph_of, target_at}
 use Rattle.import_graph.specs.Closures.{is_closed, view_of}
 use Rattle.import_graph.specs.Outlooks.{import_outlook, imports_outlook}
@@ -25,18 +25,20 @@ use Rattle.import_graph.proofs.Outlooks.{said_at}
 use Rattle.proto_resolve.specs.declared.resolve.Links.{Links}
 use Rattle.proto_resolve.specs.declared.site.NameSite.{NameSite}
 use Rattle.proto_resolve.specs.declared.site.Needs.TheVariants as needs
-use Rattle.proto_resolve.specs.declared.target.DeclRef.{DeclRef}
+use Rattle.proto_names.specs.declared.decl_ref.DeclRef.{DeclRef}
 use Rattle.proto_resolve.specs.declared.target.Target.{Target}
 use Rattle.proto_resolve.specs.declared.target.Target.TheVariants.{Declared, Package}
 use Rattle.proto_resolve.specs.declared.uses.NameUse.{NameUse}
-use Rattle.proto_resolve.specs.Files.{all_decls, all_named, decl_at, facts_at, has_package}
-use Rattle.proto_resolve.specs.Names.{first_declared, first_text, found, has_kind, is_holder, is_seen, is_type, joined_all, meaning, scope_of, settles, settles_at, texts_of}
+use Rattle.proto_names.specs.Files.{all_decls, all_named, decl_at, facts_at, has_package, is_seen}
+use Rattle.proto_resolve.specs.Names.{first_declared, first_text, found, has_kind, is_type, joined_all, meaning, scope_of, settles, settles_at, texts_of}
+use Rattle.proto_names.specs.Holders.{is_holder}
 use Rattle.proto_resolve.specs.Resolved.{resolved, sites_at}
-use Rattle.proto_resolve.specs.Seen.{exports, SeenLaw, SeesTheSame}
+use Rattle.proto_names.specs.Outlines.{exports}
+use Rattle.proto_resolve.specs.Seen.{SeenLaw, SeesTheSame}
 use Rattle.proto_resolve.specs.Sites.{names_of_file}
 use Rattle.proto_resolve.specs.Uses.{prefixes, uses}
 use Rattle.proto_resolve.specs.ViewDiagnostics.{decl_diagnostics, diagnostics_of_meaning, diagnostics_of_target, import_diagnostics, is_declared_elsewhere, name_diagnostics, view_diagnostics}
-use Rattle.proto_resolve.proofs.Alike.{any_agree, any_alike, filter_kept, filter_swap, find_alike}
+use Rattle.proto_names.proofs.Alike.{any_agree, any_alike, filter_kept, filter_swap, find_alike}
 use Rattle.proto_resolve.proofs.Firsts.{find_passes, is_another, is_own, is_visible}
 use Rattle.proto_resolve.proofs.Exports.{as_many, decls_alike, kind_at, name_at, within_alike}
 

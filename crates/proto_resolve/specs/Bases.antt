@@ -1,17 +1,16 @@
 -- What a table knows of its files beside their declarations by name.
-use Rattle.std.specs.Prelude.{◌≡◌, ℕ, ◌<◌, ◌≤◌, Bool, true, List, length, option_map}
-use Rattle.std.specs.List.{insert}
+use Rattle.std.specs.Prelude.{◌≡◌, ℕ, ◌<◌, Bool, true, List, length, option_map}
 use Rattle.file_facts.specs.declared.fact.FileFacts.{FileFacts}
-use Rattle.import_graph.specs.declared.paths.NamedFacts.{NamedFacts}
+use Rattle.file_facts.specs.declared.named_facts.NamedFacts.{NamedFacts}
 use Rattle.import_graph.specs.Arrivals.{NobodyImports}
 use Rattle.import_graph.specs.Imports.{graph_of}
 use Rattle.import_graph.specs.Paths.{IsInPathOrder}
-use Rattle.proto_resolve.specs.declared.packages.PackagedFile.{PackagedFile}
 use Rattle.proto_resolve.specs.declared.table_base.TableBase.{TableBase}
-use Rattle.proto_resolve.specs.declared.target.DeclRef.{DeclRef}
-use Rattle.proto_resolve.specs.Files.{all_decls, facts_at}
-use Rattle.proto_resolve.specs.Outlines.{import_outline, with_facts}
-use Rattle.proto_resolve.specs.Packages.{AreNoLonger, ArePackaged}
+use Rattle.proto_names.specs.Files.{facts_at}
+use Rattle.proto_resolve.specs.Outlines.{import_outline}
+use Rattle.proto_names.specs.Outlines.{with_facts}
+use Rattle.proto_names.specs.Packages.{AreNoLonger, ArePackaged}
+use Rattle.proto_names.specs.Changes.{HasCome}
 
 -- the graph and the packages are those of the files, which are in the order of their paths; no package has a longer name
 pub record IsBaseOf (files : List NamedFacts) (base : TableBase) : Type 0 where
@@ -19,32 +18,6 @@ pub record IsBaseOf (files : List NamedFacts) (base : TableBase) : Type 0 where
   pub graph : base.graph ≡ graph_of files
   pub packaged : ArePackaged files base.packaged.items
   pub longest : AreNoLonger base.longest base.packaged.items
-
--- these are all declarations of the files before other facts were put in the place of one's
-pub record HadDecls (files : List NamedFacts) (file : ℕ) (decls : List DeclRef) : Type 0 where
-  pub old : List NamedFacts
-  pub facts : FileFacts
-  pub within : file < length old
-  pub files_are : files ≡ with_facts old file facts
-  pub were : decls ≡ all_decls old
-
--- the file of the number k came to others
-pub record HasCome (files : List NamedFacts) (k : ℕ) (others : List NamedFacts) : Type 0 where
-  pub file : NamedFacts
-  pub within : k ≤ length others
-  pub files_are : files ≡ insert others k file
-
--- these are all declarations of the files before the one of the number k came to them
-pub record HadOtherDecls (files : List NamedFacts) (k : ℕ) (decls : List DeclRef) : Type 0 where
-  pub others : List NamedFacts
-  pub came : HasCome files k others
-  pub were : decls ≡ all_decls others
-
--- these are the files that have packages before the one of the number k came to them
-pub record HadOtherPackages (files : List NamedFacts) (k : ℕ) (list : List PackagedFile) : Type 0 where
-  pub others : List NamedFacts
-  pub came : HasCome files k others
-  pub were : ArePackaged others list
 
 -- the base is that of the files before the one of the number k came to them, which none of them imports
 pub record WasBaseOfOthers (files : List NamedFacts) (k : ℕ) (base : TableBase) : Type 0 where

@@ -6,14 +6,14 @@ use Rattle.file_facts.specs.declared.fact.Decl.{Decl}
 use Rattle.file_facts.specs.declared.fact.ImportFact.{ImportFact}
 use Rattle.file_facts.specs.declared.problem.Problem.TheVariants as m
 use Rattle.file_facts.specs.Diags.{diag}
-use Rattle.import_graph.specs.declared.paths.NamedFacts.{NamedFacts}
+use Rattle.file_facts.specs.declared.named_facts.NamedFacts.{NamedFacts}
 use Rattle.import_graph.specs.Imports.{graph_of, target_at}
 use Rattle.import_graph.specs.Views.{Sees, IsClosed, ClosesCycle}
 use Rattle.import_graph.specs.Closures.{view_of}
 use Rattle.proto_resolve.specs.declared.site.NameSite.{NameSite}
-use Rattle.proto_resolve.specs.declared.target.DeclRef.{DeclRef}
+use Rattle.proto_names.specs.declared.decl_ref.DeclRef.{DeclRef}
 use Rattle.proto_resolve.specs.declared.target.Target.{Target}
-use Rattle.proto_resolve.specs.Files.{facts_at, decls_at}
+use Rattle.proto_names.specs.Files.{facts_at, decls_at}
 use Rattle.proto_resolve.specs.Finding.{IsSeenAs, HasPackage}
 use Rattle.proto_resolve.specs.Names.{meaning, has_kind, is_type}
 use Rattle.proto_resolve.specs.ViewDiagnostics.{view_diagnostics}

@@ -1,12 +1,13 @@
 -- Laws of the definitions.
 use Rattle.std.specs.Prelude.{◌≡◌, ◌≢◌, ◌↔◌, ℕ, suc, List, [], All, IsTrue, Some, None, true, false, map, length, take}
 use Rattle.std.specs.List.{range_with_len}
-use Rattle.import_graph.specs.declared.paths.NamedFacts.{NamedFacts}
+use Rattle.file_facts.specs.declared.named_facts.NamedFacts.{NamedFacts}
 use Rattle.file_facts.specs.Nesting.{NamesNest}
 use Rattle.proto_resolve.specs.declared.site.NameSite.{NameSite}
 use Rattle.proto_resolve.specs.declared.target.Target.{Target}
 use Rattle.proto_resolve.specs.declared.uses.NameUse.{NameUse}
-use Rattle.proto_resolve.specs.Names.{found, is_seen, joined_all, meaning, scope_of, settles_at, texts_of, IsInnermost}
+use Rattle.proto_resolve.specs.Names.{found, joined_all, meaning, scope_of, settles_at, texts_of, IsInnermost}
+use Rattle.proto_names.specs.Files.{is_seen}
 use Rattle.proto_resolve.specs.Uses.{uses_of}
 
 -- A name without a leading dot has the scope s exactly where s settles it and no inner scope does, and none exactly where no

@@ -1,4 +1,3 @@
-pub mod Files
 pub mod Names
 pub mod Views
 pub mod Uses
@@ -8,15 +7,7 @@ pub mod Settled
 pub mod Sites
 pub mod Resolved
 pub mod Laws
-pub mod Holders
-pub mod Packages
-pub mod Tables
-pub mod Hashed
-pub mod Entries
 pub mod Bases
-pub mod Buckets
-pub mod Replaced
-pub mod Moved
 pub mod Finding
 pub mod FindingLaws
 pub mod Seen

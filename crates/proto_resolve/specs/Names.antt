@@ -3,20 +3,17 @@ use Rattle.std.specs.Prelude.{◌≡◌, ℕ, ◌<◌, ◌==◌, List, [], ◌�
 use Rattle.std.specs.List.{list_any}
 use Rattle.std.specs.Option.{option_or}
 use Rattle.file_facts.specs.declared.fact.DeclKind.{DeclKind}
-use Rattle.file_facts.specs.declared.fact.DeclKind.TheVariants.{Message, EnumDef, Service}
-use Rattle.import_graph.specs.declared.paths.NamedFacts.{NamedFacts}
+use Rattle.file_facts.specs.declared.fact.DeclKind.TheVariants.{Message, EnumDef}
+use Rattle.file_facts.specs.declared.named_facts.NamedFacts.{NamedFacts}
 use Rattle.proto_resolve.specs.declared.site.NameSite.{NameSite}
 use Rattle.proto_resolve.specs.declared.site.Needs.{Needs}
 use Rattle.proto_resolve.specs.declared.site.Needs.TheVariants as needs
-use Rattle.proto_resolve.specs.declared.target.DeclRef.{DeclRef}
+use Rattle.proto_names.specs.declared.decl_ref.DeclRef.{DeclRef}
 use Rattle.proto_resolve.specs.declared.target.Target.{Target}
 use Rattle.proto_resolve.specs.declared.target.Target.TheVariants.{Declared, Package}
 use Rattle.file_facts.specs.Text.{joined}
-use Rattle.proto_resolve.specs.Files.{all_named, decl_at, has_package}
-
--- whether the view has the file
-abbrev pub is_seen : List ℕ → ℕ → Bool
-is_seen view g = list_any (λ h. h == g) view
+use Rattle.proto_names.specs.Files.{all_named, decl_at, has_package, is_seen}
+use Rattle.proto_names.specs.Holders.{is_holder}
 
 -- a package that a file of the view has
 abbrev pub package_found : List NamedFacts → List ℕ → List ℕ → Option Target
@@ -40,13 +37,6 @@ abbrev pub is_type : Needs → DeclKind → Bool
 is_type _ Message = true
 is_type needs.MessageOrEnum EnumDef = true
 is_type _ _ = false
-
--- what may hold the rest of a name
-abbrev pub is_holder : DeclKind → Bool
-is_holder Message = true
-is_holder EnumDef = true
-is_holder Service = true
-is_holder _ = false
 
 -- whether the target is a declaration of such a kind
 abbrev pub has_kind : List NamedFacts → (DeclKind → Bool) → Option Target → Bool

@@ -2,12 +2,12 @@
 use Rattle.std.specs.Prelude.{ℕ, List}
 use Rattle.syntax_tree.specs.declared.node.FileTree.{FileTree}
 use Rattle.file_facts.specs.Order.{in_order}
-use Rattle.import_graph.specs.declared.paths.NamedFacts.{NamedFacts}
+use Rattle.file_facts.specs.declared.named_facts.NamedFacts.{NamedFacts}
 use Rattle.import_graph.specs.Imports.{graph_of}
 use Rattle.import_graph.specs.Closures.{view_of}
 use Rattle.proto_resolve.specs.declared.resolve.Links.{Links}
 use Rattle.proto_resolve.specs.declared.site.NameSite.{NameSite}
-use Rattle.proto_resolve.specs.Files.{facts_at}
+use Rattle.proto_names.specs.Files.{facts_at}
 use Rattle.proto_resolve.specs.Sites.{names_of_file}
 use Rattle.proto_resolve.specs.Uses.{uses}
 use Rattle.proto_resolve.specs.ViewDiagnostics.{view_diagnostics}

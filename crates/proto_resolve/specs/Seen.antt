@@ -1,19 +1,13 @@
 -- What is known of a file by what it sees depends on no more than that.
-use Rattle.std.specs.Prelude.{◌≡◌, ℕ, ◌<◌, List, Option, All, length, map, option_map}
+use Rattle.std.specs.Prelude.{◌≡◌, ℕ, ◌<◌, List, All, length}
 use Rattle.syntax_tree.specs.declared.node.FileTree.{FileTree}
-use Rattle.file_facts.specs.declared.fact.FileFacts.{FileFacts}
-use Rattle.file_facts.specs.declared.fact.DeclKind.{DeclKind}
-use Rattle.import_graph.specs.declared.paths.NamedFacts.{NamedFacts}
+use Rattle.file_facts.specs.declared.named_facts.NamedFacts.{NamedFacts}
 use Rattle.import_graph.specs.Imports.{graph_of}
 use Rattle.import_graph.specs.Closures.{view_of}
 use Rattle.import_graph.specs.Outlooks.{outlook}
-use Rattle.proto_resolve.specs.Files.{facts_at}
+use Rattle.proto_names.specs.Files.{facts_at}
 use Rattle.proto_resolve.specs.Resolved.{resolved}
-
--- What a file's facts say to the files that see it: the kinds and full names of its declarations, in order, and its package's
--- full name.
-abbrev pub exports : FileFacts → List (DeclKind × List ℕ) × Option (List ℕ)
-exports facts = (map (λ d. (d.kind, d.full_name)) facts.decls, option_map (λ p. p.full_name) facts.«package»)
+use Rattle.proto_names.specs.Outlines.{exports}
 
 -- there are as many files, their imports say the same of f, f says the same by itself, and each file that f sees says the same
 -- to it

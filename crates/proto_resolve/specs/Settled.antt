@@ -1,11 +1,11 @@
 -- What is known of the scope of a name.
 use Rattle.std.specs.Prelude.{◌≡◌, ◌<◌, ℕ, List, Option, Some, length, IfSome}
 use Rattle.file_facts.specs.Text.{joined}
-use Rattle.import_graph.specs.declared.paths.NamedFacts.{NamedFacts}
+use Rattle.file_facts.specs.declared.named_facts.NamedFacts.{NamedFacts}
 use Rattle.proto_resolve.specs.declared.site.NameSite.{NameSite}
-use Rattle.proto_resolve.specs.declared.target.DeclRef.{DeclRef}
+use Rattle.proto_names.specs.declared.decl_ref.DeclRef.{DeclRef}
 use Rattle.proto_resolve.specs.declared.view.View.{View}
-use Rattle.proto_resolve.specs.Files.{all_named}
+use Rattle.proto_names.specs.Files.{all_named}
 use Rattle.proto_resolve.specs.Names.{first_declared, first_text}
 
 -- where a declaration is kept with a scope, it is there, and it is the one that the name's first component means in that scope

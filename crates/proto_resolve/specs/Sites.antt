@@ -1,5 +1,5 @@
 -- The names of a tree, by offset.
-use Rattle.std.specs.Prelude.{ℕ, ◌==◌, ◌&&◌, not, Bool, List, [], ◌∷◌, ◌++◌, length, map, slice_index_or, bytes_eq, codes, if◌then◌else◌}
+use Rattle.std.specs.Prelude.{ℕ, ◌==◌, ◌&&◌, not, Bool, List, [], ◌∷◌, ◌++◌, length, map, slice_index_or, bytes_eq, codes, if◌then◌else◌, Option, Some, None}
 use Rattle.std.specs.List.{list_any}
 use Rattle.syntax_tree.specs.declared.node.Span.{Span}
 use Rattle.syntax_tree.specs.declared.node.TypeName.{TypeName}
@@ -10,7 +10,6 @@ use Rattle.proto_resolve.specs.declared.site.Component.{Component}
 use Rattle.proto_resolve.specs.declared.site.NameSite.{NameSite}
 use Rattle.proto_resolve.specs.declared.site.Needs.{Needs}
 use Rattle.proto_resolve.specs.declared.site.Needs.TheVariants as needs
-use Rattle.std.specs.Prelude.{Option, Some, None}
 use Rattle.file_facts.specs.declared.fact.FileFacts.{FileFacts}
 use Rattle.file_facts.specs.declared.fact.PackageFact.{PackageFact}
 use Rattle.import_graph.specs.Imports.{is_opaque}

@@ -6,13 +6,13 @@ use Rattle.file_facts.specs.declared.fact.Decl.{Decl}
 use Rattle.file_facts.specs.declared.fact.ImportFact.{ImportFact}
 use Rattle.file_facts.specs.declared.problem.Problem.TheVariants as m
 use Rattle.file_facts.specs.Diags.{diag}
-use Rattle.import_graph.specs.declared.paths.NamedFacts.{NamedFacts}
+use Rattle.file_facts.specs.declared.named_facts.NamedFacts.{NamedFacts}
 use Rattle.import_graph.specs.Imports.{graph_of, target_at}
 use Rattle.import_graph.specs.Closures.{view_of, is_closed, closes_cycle}
 use Rattle.proto_resolve.specs.declared.site.NameSite.{NameSite}
 use Rattle.proto_resolve.specs.declared.target.Target.{Target}
-use Rattle.proto_resolve.specs.Files.{facts_at, decls_at, all_named, has_package}
-use Rattle.proto_resolve.specs.Names.{meaning, has_kind, is_type, is_seen}
+use Rattle.proto_names.specs.Files.{facts_at, decls_at, all_named, has_package, is_seen}
+use Rattle.proto_resolve.specs.Names.{meaning, has_kind, is_type}
 
 module _ (files : List NamedFacts) (f : ℕ) (view : List ℕ) where
   abbrev pub diagnostics_of_meaning : NameSite → Option Target → List Diag

@@ -2,12 +2,12 @@
 ghost use Rattle.std.specs.Prelude.{◌≡◌, false, List, ℕ, [], All, IsTrue};
 ghost use Rattle.std.specs.List.{flat_map, list_any};
 ghost use Rattle.std.specs.List.Sorted.{IsNonDecreasingBy};
-ghost use Rattle.proto_resolve.specs.Files.{has_package};
+ghost use Rattle.proto_names.specs.Files.{has_package};
 ghost use Rattle.proto_resolve.specs.ViewDiagnostics.{decl_diagnostics, is_declared_elsewhere};
 
 use crate::index::Index;
-use crate::target::DeclRef;
 use file_facts::{Decl, FullName};
+use proto_names::DeclRef;
 
 // Whether a file has all of these declarations, which are by file.
 fn are_of(decls: &[DeclRef], file: usize) -> bool

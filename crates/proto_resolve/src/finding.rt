@@ -1,16 +1,16 @@
 // What stands at a full name.
 ghost use Rattle.std.specs.Prelude.{◌≡◌, ◌==◌, ◌<◌, ◌≤◌, find, length, nat_lt, true, false, IfOk, IfSome};
 ghost use Rattle.std.specs.List.Sorted.{IsNonDecreasingBy, IsPartitionPoint};
-ghost use Rattle.proto_resolve.specs.Files.{all_named};
+ghost use Rattle.proto_names.specs.Files.{all_named, is_seen};
 ghost use Rattle.proto_resolve.specs.Views.{IsView};
-ghost use Rattle.proto_resolve.specs.Names.{found, first_declared, is_seen, package_found, IsThere};
+ghost use Rattle.proto_resolve.specs.Names.{found, first_declared, package_found, IsThere};
 
 use crate::index::Index;
-use crate::packages::unsplit;
-use crate::target::{DeclRef, Target};
+use crate::target::Target;
 use crate::view::View;
 use crate::views::sees_package;
 use file_facts::Name;
+use proto_names::{DeclRef, unsplit};
 use std::alloc::{AllocError, Global};
 
 // The first place from which on no declaration is of an earlier file than this. Mostly that is the first of all.

@@ -1,8 +1,7 @@
 // What has to be known of all files.
-use crate::packages::PackagedFile;
-use crate::target::DeclRef;
 use file_facts::{FileFacts, FullName, NameParts};
 use import_graph::Graph;
+use proto_names::{DeclRef, PackagedFile};
 use std::marker::Sync;
 
 /// The facts of all files, with their declarations by name. A file is its number in the list of all files, by path,
@@ -11,12 +10,12 @@ pub trait Index: Sync {
     ghost use Rattle.std.specs.Prelude.{List, All, ◌≡◌, ◌<◌, ◌≤◌, false, take, length, map};
     ghost use Rattle.std.specs.List.Sorted.{IsNonDecreasing};
     ghost use Rattle.file_facts.specs.Text.{joined};
-    ghost use Rattle.import_graph.specs.declared.paths.NamedFacts.{NamedFacts};
+    ghost use Rattle.file_facts.specs.declared.named_facts.NamedFacts.{NamedFacts};
     ghost use Rattle.import_graph.specs.Imports.{graph_of};
-    ghost use Rattle.proto_resolve.specs.Files.{facts_at, all_named};
-    ghost use Rattle.proto_resolve.specs.Holders.{is_held, IsLast};
+    ghost use Rattle.proto_names.specs.Files.{facts_at, all_named};
+    ghost use Rattle.proto_names.specs.Holders.{is_held, IsLast};
     ghost use Rattle.file_facts.specs.FullNames.{has_dot};
-    ghost use Rattle.proto_resolve.specs.Packages.{AreThoseWith};
+    ghost use Rattle.proto_names.specs.Packages.{AreThoseWith};
 
     /// The files, by path.
     ghost files: { Self → List NamedFacts };

@@ -1,7 +1,7 @@
 //! What the names of a file mean, by the declarations that it sees: an index of all files, a text and its tree in, uses and
 //! diagnostics out.
 //!
-//! `resolve_file` asks an [`Index`] for facts, imports and declarations by name; a [`Table`] is such an index. What is found
+//! `resolve_file` asks an [`Index`] for facts, imports and declarations by name; a [`Table`] is such an index, over the tables of `proto_names`. What is found
 //! at a full name, and what a name means in its scopes, stands in specs/Names.antt; which names a file has in
 //! specs/Sites.antt; the diagnostics 401 to 406 in specs/ViewDiagnostics.antt. The law `finding_law` says what is found at a full
 //! name as the relation in specs/Finding.antt, without a search; `scope_law` says that a name is looked for in the innermost
@@ -11,27 +11,16 @@
 #![tactic(auto)]
 
 mod alone;
-mod buckets;
-mod decls;
+mod by_threads;
 mod diagnostic_laws;
 mod diagnostics;
-mod entry_order;
 mod finding;
 mod finding_laws;
 mod full_names;
-mod hashed;
-mod holders;
 mod index;
-mod kept;
 mod laws;
 mod listed_table;
-mod moving;
-mod name_entries;
-mod name_table;
-mod naming;
 mod outline;
-mod packages;
-mod replacing;
 mod resolve;
 mod resolver;
 mod scope_chain;
@@ -50,11 +39,9 @@ pub use finding_laws::finding_law;
 pub use index::Index;
 pub use laws::{scope_law, seen_law, uses_law};
 pub use listed_table::ListedTable;
-pub use name_entries::NameEntries;
-pub use name_table::NameTable;
-pub use outline::{same_exports, same_imports};
-pub use packages::PackagedFile;
+pub use outline::same_imports;
+pub use proto_names::{DeclRef, NameEntries, NameTable, PackagedFile, same_exports};
 pub use resolve::{Links, resolve_file};
 pub use table::Table;
-pub use target::{DeclRef, Target};
+pub use target::Target;
 pub use uses::NameUse;

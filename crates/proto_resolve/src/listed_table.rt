@@ -4,14 +4,13 @@ ghost use Rattle.std.specs.List.{insert, remove};
 ghost use Rattle.import_graph.specs.Arrivals.{NobodyImports};
 ghost use Rattle.import_graph.specs.Imports.{graph_of};
 ghost use Rattle.import_graph.specs.Paths.{IsInPathOrder};
-ghost use Rattle.proto_resolve.specs.Files.{all_decls, facts_at};
-ghost use Rattle.proto_resolve.specs.Outlines.{import_outline, with_facts};
-ghost use Rattle.proto_resolve.specs.Seen.{exports};
+ghost use Rattle.proto_names.specs.Files.{all_decls, facts_at};
+ghost use Rattle.proto_resolve.specs.Outlines.{import_outline};
+ghost use Rattle.proto_names.specs.Outlines.{with_facts, exports};
 
-use crate::decls::{all_decls, insert_decls, replace_decls};
 use crate::table::Table;
-use crate::target::DeclRef;
 use import_graph::{Graph, NamedFacts, SharedFacts};
+use proto_names::{DeclRef, all_decls, insert_decls, replace_decls};
 use std::alloc::{AllocError, Global};
 use std::marker::Model;
 
@@ -25,8 +24,8 @@ pub struct ListedTable {
 
 impl Model for ListedTable {
     ghost use Rattle.std.specs.Prelude.{◌≡◌, List};
-    ghost use Rattle.import_graph.specs.declared.paths.NamedFacts.{NamedFacts};
-    ghost use Rattle.proto_resolve.specs.Files.{all_decls};
+    ghost use Rattle.file_facts.specs.declared.named_facts.NamedFacts.{NamedFacts};
+    ghost use Rattle.proto_names.specs.Files.{all_decls};
 
     ghost Value = { List NamedFacts };
 

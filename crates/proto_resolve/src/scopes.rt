@@ -1,22 +1,22 @@
 // The scope in which a name is looked for, and what it means.
 ghost use Rattle.std.specs.Prelude.{◌≡◌, ◌==◌, ◌<◌, length, false, find, All, IfOk, IfSome, Some, option_map, option_and_then};
-ghost use Rattle.proto_resolve.specs.Files.{all_named, decl_at};
-ghost use Rattle.proto_resolve.specs.Holders.{earlier, IsNext};
+ghost use Rattle.proto_names.specs.Files.{all_named, decl_at};
+ghost use Rattle.proto_names.specs.Holders.{earlier, IsNext, is_holder};
 ghost use Rattle.file_facts.specs.FullNames.{has_dot};
 ghost use Rattle.file_facts.specs.Text.{joined};
 ghost use Rattle.proto_resolve.specs.declared.target.Target.TheVariants.{Declared};
-ghost use Rattle.proto_resolve.specs.Names.{found, first_declared, is_type, is_holder, settles, settles_at, first_text, joined_all, texts_of, scope_of, IsThere};
+ghost use Rattle.proto_resolve.specs.Names.{found, first_declared, is_type, settles, settles_at, first_text, joined_all, texts_of, scope_of, IsThere};
 ghost use Rattle.proto_resolve.specs.Settled.{IsFirstIn};
 
 use crate::finding::{declared, found};
 use crate::full_names::{joined_all, push_component};
 use crate::index::Index;
-use crate::packages::unsplit;
 use crate::resolver::Resolver;
 use crate::site::{NameSite, Needs};
-use crate::target::{DeclRef, Target};
+use crate::target::Target;
 use crate::views::sees_package;
 use file_facts::DeclKind;
+use proto_names::{DeclRef, is_holder, unsplit};
 use std::alloc::{AllocError, Global};
 
 pub fn is_type(needs: Needs, kind: DeclKind) -> bool
@@ -27,15 +27,6 @@ pub fn is_type(needs: Needs, kind: DeclKind) -> bool
         DeclKind::EnumDef => matches!(needs, Needs::MessageOrEnum),
         _ => false,
     }
-}
-
-pub fn is_holder(kind: DeclKind) -> bool
-    ensures { result ≡ is_holder kind }
-{
-    matches!(
-        kind,
-        DeclKind::Message | DeclKind::EnumDef | DeclKind::Service
-    )
 }
 
 pub fn kind_at<I: Index>(index: &I, decl: DeclRef) -> DeclKind

@@ -1,24 +1,23 @@
 // An index that holds its files.
 ghost use Rattle.std.specs.Prelude.{◌≡◌, ◌<◌, ◌≤◌, ◌↔◌, ℕ, None, bytes_eq, length, position, IfOk, IsFalse};
-ghost use Rattle.import_graph.specs.declared.paths.NamedFacts.{NamedFacts};
+ghost use Rattle.file_facts.specs.declared.named_facts.NamedFacts.{NamedFacts};
 ghost use Rattle.std.specs.List.{insert, remove};
 ghost use Rattle.import_graph.specs.Arrivals.{NobodyImports};
 ghost use Rattle.import_graph.specs.Imports.{graph_of};
 ghost use Rattle.import_graph.specs.Paths.{IsInPathOrder};
 ghost use Rattle.proto_resolve.specs.Bases.{IsBaseOf};
-ghost use Rattle.proto_resolve.specs.Files.{facts_at};
-ghost use Rattle.proto_resolve.specs.Outlines.{import_outline, with_facts};
-ghost use Rattle.proto_resolve.specs.Seen.{exports};
+ghost use Rattle.proto_names.specs.Files.{facts_at};
+ghost use Rattle.proto_resolve.specs.Outlines.{import_outline};
+ghost use Rattle.proto_names.specs.Outlines.{with_facts, exports};
 
+use crate::by_threads::names_and_base;
 use crate::index::Index;
-use crate::name_entries::NameEntries;
-use crate::name_table::NameTable;
-use crate::outline::{have_one_name, same_exports};
-use crate::packages::{PackagedFile, of_package};
 use crate::table_base::TableBase;
-use crate::target::DeclRef;
 use file_facts::{FileFacts, FullName, NameParts};
 use import_graph::{FileNo, Graph, NamedFacts, SharedFacts, number_of, place_for};
+use proto_names::{
+    DeclRef, NameEntries, NameTable, PackagedFile, have_one_name, of_package, same_exports,
+};
 use std::alloc::{AllocError, Global};
 use std::marker::Model;
 use std::thread::Threads;
@@ -32,7 +31,7 @@ pub struct Table {
 
 impl Model for Table {
     ghost use Rattle.std.specs.Prelude.{List};
-    ghost use Rattle.import_graph.specs.declared.paths.NamedFacts.{NamedFacts};
+    ghost use Rattle.file_facts.specs.declared.named_facts.NamedFacts.{NamedFacts};
     ghost use Rattle.proto_resolve.specs.Bases.{IsBaseOf};
 
     ghost Value = { List NamedFacts };
@@ -82,7 +81,7 @@ impl Table {
         requires { IsInPathOrder entries }
         ensures { IfOk result (λ t. t ≡ entries) }
     {
-        let (names, base) = NameTable::with_base(rt, alloc, entries)?;
+        let (names, base) = names_and_base(rt, alloc, entries)?;
         Ok(Table { names, base })
     }
 

@@ -3,8 +3,8 @@ ghost use Rattle.std.specs.Prelude.{IfOk};
 ghost use Rattle.import_graph.specs.Paths.{IsInPathOrder};
 ghost use Rattle.proto_resolve.specs.Bases.{IsBaseOf, WasBaseOf, WasBaseOfOthers};
 
-use crate::packages::{PackagedFile, add_packaged, longest_of, longest_with, packaged_files};
 use import_graph::{Graph, NamedFacts};
+use proto_names::{PackagedFile, add_packaged, longest_of, longest_with, packaged_files};
 use std::alloc::{AllocError, Global};
 
 /// What a table knows of its files beside their declarations by name: their graph, and the files of each package.

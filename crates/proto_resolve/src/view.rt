@@ -2,9 +2,9 @@
 ghost use Rattle.std.specs.Prelude.{◌≡◌};
 ghost use Rattle.std.specs.List.{list_any};
 ghost use Rattle.std.specs.List.Sorted.{IsStrictlyIncreasing};
-ghost use Rattle.proto_resolve.specs.Names.{is_seen};
+ghost use Rattle.proto_names.specs.Files.{is_seen};
 
-use crate::packages::PackagedFile;
+use proto_names::PackagedFile;
 use sqlite_items::Items;
 
 // A file and the files that it sees.

@@ -14,17 +14,16 @@ use Rattle.piece_collector.specs.Views.{TextAt}
 use Rattle.file_facts.specs.declared.fact.FileFacts.{FileFacts}
 use Rattle.file_facts.specs.Facts.{facts_of}
 use Rattle.import_graph.specs.declared.imports.FileImports.{FileImports}
-use Rattle.import_graph.specs.declared.paths.NamedFacts.{NamedFacts}
+use Rattle.file_facts.specs.declared.named_facts.NamedFacts.{NamedFacts}
 use Rattle.import_graph.specs.Closures.{seers_of, sees, view_of}
 use Rattle.import_graph.specs.Imports.{graph_of, imports_of}
 use Rattle.import_graph.proofs.ImportEdges.{filter_from, filter_to}
 use Rattle.import_graph.proofs.OneView.{in_range, rising}
 use Rattle.file_facts.specs.declared.diagnostic.Diag.{Diag}
 use Rattle.proto_resolve.specs.declared.resolve.Links.{Links}
-use Rattle.proto_resolve.specs.Files.{all_decls, facts_at}
-use Rattle.proto_resolve.specs.Names.{is_seen}
-use Rattle.proto_resolve.specs.Outlines.{import_outline, with_facts}
-use Rattle.proto_resolve.specs.Seen.{exports}
+use Rattle.proto_names.specs.Files.{all_decls, facts_at, is_seen}
+use Rattle.proto_resolve.specs.Outlines.{import_outline}
+use Rattle.proto_names.specs.Outlines.{with_facts, exports}
 use Rattle.proto_resolve.proofs.Outlines.{asking, same_graph}
 use Rattle.link_changes.specs.declared.touched.Touched.{Touched}
 use Rattle.link_changes.specs.Touched.{Tells}

@@ -20,7 +20,7 @@ use Rattle.syntax_tree.proofs.node.Span.TheSendSync as Span
 use Rattle.syntax_tree.proofs.node.TypeName.TheSendSync as TypeName
 use Rattle.sqlite_items.proofs.boxed.Boxed.TheSendSync as Boxed
 use Rattle.sqlite_items.proofs.items.Items.TheSendSync as Items
-use Rattle.import_graph.proofs.shared_facts.SharedFacts.TheSendSync as SharedFacts
+use Rattle.file_facts.proofs.shared_facts.SharedFacts.TheSendSync as SharedFacts
 use Rattle.link_changes.proofs.asked.Asked.TheSendSync as Asked
 use Rattle.proto_resolve.proofs.table.Table.TheSendSync as Table
 use Rattle.proto_resolve.proofs.resolve.Links.TheSendSync as Links

@@ -11,10 +11,10 @@ use Rattle.file_facts.specs.declared.diagnostic.Diag.{Diag}
 use Rattle.file_facts.specs.declared.fact.FileFacts.{FileFacts}
 use Rattle.file_facts.specs.Facts.{facts_of}
 use Rattle.file_facts.specs.Order.{in_order}
-use Rattle.import_graph.specs.declared.paths.NamedFacts.{NamedFacts}
+use Rattle.file_facts.specs.declared.named_facts.NamedFacts.{NamedFacts}
 use Rattle.proto_resolve.specs.declared.resolve.Links.{Links}
-use Rattle.proto_resolve.specs.Files.{decls_at, facts_at, no_facts}
-use Rattle.proto_resolve.specs.Outlines.{with_facts}
+use Rattle.proto_names.specs.Files.{decls_at, facts_at, no_facts}
+use Rattle.proto_names.specs.Outlines.{with_facts}
 use Rattle.proto_resolve.specs.Resolved.{resolved, sites_at}
 use Rattle.proto_resolve.specs.Seen.{SeenLaw}
 use Rattle.proto_resolve.specs.Sites.{names_of_file}

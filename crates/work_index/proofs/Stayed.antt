@@ -10,7 +10,7 @@ use Rattle.import_graph.specs.Closures.{view_of}
 use Rattle.import_graph.specs.Imports.{graph_of, imports_of}
 use Rattle.import_graph.specs.Moves.{place}
 use Rattle.proto_resolve.specs.declared.resolve.Links.{Links}
-use Rattle.proto_resolve.specs.Files.{facts_at}
+use Rattle.proto_names.specs.Files.{facts_at}
 use Rattle.link_changes.specs.Laws.{MovedLaw, MovesAlike, decl_moved}
 use Rattle.link_changes.specs.Touched.{links_after}
 use Rattle.work_index.specs.declared.after.Earlier.{Earlier}

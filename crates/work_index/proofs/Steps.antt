@@ -6,9 +6,9 @@ use Rattle.std.proofs.lemmas.List.FromFn.{length-enumerate_from}
 use Rattle.std.specs.List.{enumerate_from}
 use Rattle.piece_collector.specs.Views.{TextAt}
 use Rattle.file_facts.specs.declared.diagnostic.Diag.{Diag}
-use Rattle.import_graph.specs.declared.paths.NamedFacts.{NamedFacts}
+use Rattle.file_facts.specs.declared.named_facts.NamedFacts.{NamedFacts}
 use Rattle.proto_resolve.specs.declared.resolve.Links.{Links}
-use Rattle.proto_resolve.specs.Files.{all_decls}
+use Rattle.proto_names.specs.Files.{all_decls}
 use Rattle.work_index.specs.Pieces.{workspace_of}
 use Rattle.work_index.specs.Shares.{AreNumbersIn}
 use Rattle.work_index.specs.Workspace.{analysis, named_facts, all_facts, resolution_of, diagnostics_of}

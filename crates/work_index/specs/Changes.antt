@@ -2,14 +2,15 @@
 use Rattle.std.specs.Prelude.{◌≡◌, ◌≢◌, ◌<◌, ℕ, List, [], Bool, true, false, Some, All, Contains, length, map, slice_index_or, slice_set, IfSome, MatchOption, ⊤}
 use Rattle.syntax_tree.specs.Read.{value_tree}
 use Rattle.file_facts.specs.Facts.{facts_of}
-use Rattle.import_graph.specs.declared.paths.NamedFacts.{NamedFacts}
+use Rattle.file_facts.specs.declared.named_facts.NamedFacts.{NamedFacts}
 use Rattle.import_graph.specs.Closures.{seers_of}
 use Rattle.import_graph.specs.Imports.{graph_of}
 use Rattle.import_graph.specs.Outlooks.{outlook}
 use Rattle.proto_resolve.specs.declared.resolve.Links.{Links}
-use Rattle.proto_resolve.specs.Files.{facts_at}
+use Rattle.proto_names.specs.Files.{facts_at}
 use Rattle.proto_resolve.specs.Resolved.{resolved}
-use Rattle.proto_resolve.specs.Seen.{exports, SeesTheSame}
+use Rattle.proto_names.specs.Outlines.{exports}
+use Rattle.proto_resolve.specs.Seen.{SeesTheSame}
 use Rattle.link_changes.specs.declared.asked.Asked.{Asked}
 use Rattle.link_changes.specs.declared.renumbering.Renumbering.{Renumbering}
 use Rattle.link_changes.specs.declared.touched.Touched.{Touched}

@@ -8,10 +8,10 @@ use Rattle.file_facts.specs.declared.fact.Decl.{Decl}
 use Rattle.file_facts.specs.declared.fact.FileFacts.{FileFacts}
 use Rattle.file_facts.specs.Facts.{facts_of}
 use Rattle.file_facts.specs.Order.{in_order}
-use Rattle.import_graph.specs.declared.paths.NamedFacts.{NamedFacts}
-use Rattle.proto_resolve.specs.declared.target.DeclRef.{DeclRef}
+use Rattle.file_facts.specs.declared.named_facts.NamedFacts.{NamedFacts}
+use Rattle.proto_names.specs.declared.decl_ref.DeclRef.{DeclRef}
 use Rattle.proto_resolve.specs.declared.resolve.Links.{Links}
-use Rattle.proto_resolve.specs.Files.{all_decls, no_facts, no_decl}
+use Rattle.proto_names.specs.Files.{all_decls, no_facts, no_decl}
 use Rattle.proto_resolve.specs.Resolved.{resolved}
 use Rattle.proto_resolve.specs.Sites.{names_of_file}
 use Rattle.link_changes.specs.Asked.{names_asked}

@@ -1,13 +1,14 @@
 // The analysis of a workspace after changes of the texts of some files.
 ghost use Rattle.std.specs.Prelude.{◌≡◌, ◌<◌, List, All, Some, true, false, length, map, slice_index_or, slice_set, IfOk, IfSome, MatchOption, OnOk, IsTrue};
 ghost use Rattle.std.specs.List.{enumerate_from};
-ghost use Rattle.import_graph.specs.declared.paths.NamedFacts.{NamedFacts};
+ghost use Rattle.file_facts.specs.declared.named_facts.NamedFacts.{NamedFacts};
 ghost use Rattle.import_graph.specs.Closures.{seers_of, view_of};
 ghost use Rattle.import_graph.specs.Imports.{graph_of};
 ghost use Rattle.import_graph.specs.Outlooks.{outlook};
-ghost use Rattle.proto_resolve.specs.Files.{facts_at};
-ghost use Rattle.proto_resolve.specs.Outlines.{import_outline, with_facts};
-ghost use Rattle.proto_resolve.specs.Seen.{exports, SeenLaw};
+ghost use Rattle.proto_names.specs.Files.{facts_at};
+ghost use Rattle.proto_resolve.specs.Outlines.{import_outline};
+ghost use Rattle.proto_names.specs.Outlines.{with_facts, exports};
+ghost use Rattle.proto_resolve.specs.Seen.{SeenLaw};
 ghost use Rattle.link_changes.specs.Laws.{TouchedLaw};
 ghost use Rattle.link_changes.specs.Touched.{decl_after, links_after};
 ghost use Rattle.work_index.specs.declared.again.FileChange.{FileChange};

@@ -28,7 +28,7 @@ pub struct Resolutions {
 
 impl Model for Analysis {
     ghost use Rattle.std.specs.Prelude.{◌≡◌, map, length};
-    ghost use Rattle.proto_resolve.specs.Files.{all_decls};
+    ghost use Rattle.proto_names.specs.Files.{all_decls};
     ghost use Rattle.work_index.specs.Workspace.{AnalysisData};
 
     ghost Value = { AnalysisData };

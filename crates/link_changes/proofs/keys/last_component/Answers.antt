@@ -3,7 +3,7 @@ use Rattle.std.proofs.lemmas.Bool.{cases_Bool}
 use Rattle.std.proofs.iter.runs.Made.{chains}
 use Rattle.file_facts.specs.FullNames.{has_dot, behind_dot}
 use Rattle.file_facts.proofs.LastParts.{at_dot, last_plain, no_dot}
-use Rattle.proto_resolve.proofs.PackageFronts.{to_end}
+use Rattle.proto_names.proofs.PackageFronts.{to_end}
 use Rattle.link_changes.proofs.keys.last_component.Goals as goal
 
 dot_inside : (b p : List ℕ) → has_dot (b ++ 46 ∷ p) ≡ true

@@ -3,7 +3,7 @@ use Rattle.std.proofs.lemmas.Bool.{cases_Bool}
 use Rattle.std.proofs.lemmas.List.{set-get_or}
 use Rattle.std.proofs.lemmas.List.Edits.{map_over_more}
 use Rattle.proto_resolve.specs.declared.resolve.Links.{Links}
-use Rattle.proto_resolve.specs.declared.target.DeclRef.{DeclRef}
+use Rattle.proto_names.specs.declared.decl_ref.DeclRef.{DeclRef}
 use Rattle.proto_resolve.specs.declared.target.Target.{Target}
 use Rattle.proto_resolve.specs.declared.target.Target.TheVariants.{Declared, Package}
 use Rattle.proto_resolve.specs.declared.uses.NameUse.{NameUse}

@@ -1,6 +1,6 @@
 use Rattle.std.proofs.Common.{rules}
 use Rattle.std.proofs.iter.runs.Made.{chains}
-use Rattle.proto_resolve.specs.Outlines.{declared}
+use Rattle.proto_names.specs.Outlines.{declared}
 use Rattle.link_changes.proofs.Alike.{same_at_front}
 use Rattle.link_changes.proofs.touched.same_front.Goals as goal
 

@@ -1,7 +1,7 @@
 use Rattle.std.proofs.Common.{◌≡◌, ℕ, ◌≤◌, ◌-◌, get_or, length, arith}
 use Rattle.std.proofs.lemmas.Bool.Decides.{nat_tests}
 use Rattle.std.proofs.lemmas.List.{get_or_default}
-use Rattle.proto_resolve.specs.declared.target.DeclRef.{DeclRef}
+use Rattle.proto_names.specs.declared.decl_ref.DeclRef.{DeclRef}
 use Rattle.proto_resolve.proofs.alone.are_of.Goals as goal
 
 -- what lies between two files that are the same one

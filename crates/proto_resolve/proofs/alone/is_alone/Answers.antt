@@ -3,13 +3,13 @@ use Rattle.std.specs.Prelude.{All}
 use Rattle.std.specs.List.{list_any}
 use Rattle.std.proofs.lemmas.Bool.Decides.{nat_tests}
 use Rattle.std.proofs.lemmas.List.Elements.{All-head, All-tail}
-use Rattle.import_graph.specs.declared.paths.NamedFacts.{NamedFacts}
-use Rattle.proto_resolve.specs.declared.packages.PackagedFile.{PackagedFile}
-use Rattle.proto_resolve.specs.declared.target.DeclRef.{DeclRef}
-use Rattle.proto_resolve.specs.Files.{all_named, has_package}
-use Rattle.proto_resolve.proofs.Apart.{whole}
+use Rattle.file_facts.specs.declared.named_facts.NamedFacts.{NamedFacts}
+use Rattle.proto_names.specs.declared.packages.PackagedFile.{PackagedFile}
+use Rattle.proto_names.specs.declared.decl_ref.DeclRef.{DeclRef}
+use Rattle.proto_names.specs.Files.{all_named, has_package}
+use Rattle.proto_names.proofs.Apart.{whole}
 use Rattle.proto_resolve.proofs.Firsts.{agrees, is_another}
-use Rattle.proto_resolve.proofs.Order.{named_by_file}
+use Rattle.proto_names.proofs.Order.{named_by_file}
 use Rattle.proto_resolve.proofs.alone.is_alone.Goals as goal
 
 -- where one file has all declarations, no other one has any

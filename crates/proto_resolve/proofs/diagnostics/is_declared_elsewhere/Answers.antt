@@ -1,9 +1,9 @@
 use Rattle.std.proofs.Common.{◌≡◌, ◌∙◌, sym, refl, ℕ, List, [], ◌∷◌, Bool, true, false, ◌==◌, ◌||◌, not}
 use Rattle.std.specs.List.{list_any}
-use Rattle.proto_resolve.specs.declared.target.DeclRef.{DeclRef}
-use Rattle.proto_resolve.specs.Files.{all_named}
+use Rattle.proto_names.specs.declared.decl_ref.DeclRef.{DeclRef}
+use Rattle.proto_names.specs.Files.{all_named}
 use Rattle.proto_resolve.proofs.Firsts.{is_another, nobody, one_or_later}
-use Rattle.proto_resolve.proofs.Order.{named_by_file}
+use Rattle.proto_names.proofs.Order.{named_by_file}
 use Rattle.proto_resolve.proofs.diagnostics.is_declared_elsewhere.Goals as goal
 
 neither_of : (a b : Bool) → (a || b) ≡ false → (a ≡ false) × (b ≡ false)

@@ -1,7 +1,7 @@
 use Rattle.std.proofs.Common.{◌∙◌, ap}
 use Rattle.std.specs.List.{list_any}
-use Rattle.proto_resolve.specs.Files.{has_package}
-use Rattle.proto_resolve.proofs.Apart.{whole}
+use Rattle.proto_names.specs.Files.{has_package}
+use Rattle.proto_names.proofs.Apart.{whole}
 use Rattle.proto_resolve.proofs.diagnostics.is_package.Goals as goal
 
 pub returns : goal.returns

@@ -1,10 +1,10 @@
 use Rattle.std.proofs.Common.{◌≡◌, ◌∙◌, sym, ap, refl, Option, Some, None, ◌<◌, length}
 use Rattle.std.specs.Prelude.{IfSome}
-use Rattle.proto_resolve.specs.declared.target.DeclRef.{DeclRef}
-use Rattle.proto_resolve.specs.Files.{all_named}
+use Rattle.proto_names.specs.declared.decl_ref.DeclRef.{DeclRef}
+use Rattle.proto_names.specs.Files.{all_named}
 use Rattle.proto_resolve.specs.Names.{first_declared}
 use Rattle.proto_resolve.proofs.Within.{first_within}
-use Rattle.proto_resolve.proofs.Order.{named_by_file}
+use Rattle.proto_names.proofs.Order.{named_by_file}
 use Rattle.proto_resolve.proofs.finding.declared.Goals as goal
 
 if_some : (P : DeclRef → Type 0) (o : Option DeclRef) → ((r : DeclRef) → o ≡ Some r → P r) → IfSome o P

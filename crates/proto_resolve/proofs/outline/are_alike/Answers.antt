@@ -1,6 +1,6 @@
 use Rattle.std.proofs.Common.{◌<◌, length, arith}
 use Rattle.proto_resolve.specs.Outlines.{imported}
-use Rattle.proto_resolve.proofs.Outlines.{alike_at}
+use Rattle.proto_names.proofs.Outlines.{alike_at}
 use Rattle.proto_resolve.proofs.outline.are_alike.Goals as goal
 
 pub returns-then-not-name_alike : goal.returns-then-not-name_alike

@@ -3,8 +3,8 @@ use Rattle.std.specs.Prelude.{is_ok}
 use Rattle.std.specs.List.Sorted.{IsStrictlyIncreasing}
 use Rattle.import_graph.specs.Closures.{seers_of}
 use Rattle.import_graph.specs.Imports.{graph_of}
-use Rattle.proto_resolve.specs.Names.{is_seen}
-use Rattle.proto_resolve.proofs.Search.{searched}
+use Rattle.proto_names.specs.Files.{is_seen}
+use Rattle.proto_names.proofs.Search.{searched}
 use Rattle.work_index.proofs.Changed.{seers_rise, unseen_by}
 use Rattle.work_index.proofs.again.is_seer.Goals as goal
 

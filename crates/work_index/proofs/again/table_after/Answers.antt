@@ -1,5 +1,5 @@
 use Rattle.std.proofs.Common.{ap, ◌∙◌}
-use Rattle.proto_resolve.specs.Outlines.{with_facts}
+use Rattle.proto_names.specs.Outlines.{with_facts}
 use Rattle.work_index.proofs.again.table_after.Goals as goal
 
 pub returns-then-differences-clause-table : goal.returns-then-differences-clause-table

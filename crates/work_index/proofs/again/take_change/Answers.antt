@@ -2,10 +2,10 @@ use Rattle.std.proofs.Common.{◌≡◌, ◌<◌, length, sym, ap, ◌∙◌, Li
 use Rattle.std.specs.Prelude.{IfSome}
 use Rattle.import_graph.specs.Closures.{seers_of}
 use Rattle.import_graph.specs.Imports.{graph_of}
-use Rattle.import_graph.specs.declared.paths.NamedFacts.{NamedFacts}
-use Rattle.proto_resolve.specs.Files.{facts_at}
-use Rattle.proto_resolve.specs.Outlines.{import_outline, with_facts}
-use Rattle.proto_resolve.specs.Seen.{exports}
+use Rattle.file_facts.specs.declared.named_facts.NamedFacts.{NamedFacts}
+use Rattle.proto_names.specs.Files.{facts_at}
+use Rattle.proto_resolve.specs.Outlines.{import_outline}
+use Rattle.proto_names.specs.Outlines.{with_facts, exports}
 use Rattle.link_changes.specs.Touched.{Tells}
 use Rattle.work_index.specs.Changes.{DifferAt}
 use Rattle.work_index.specs.Pieces.{workspace_of}

@@ -4,7 +4,7 @@ use Rattle.std.proofs.lemmas.List.{length-map}
 use Rattle.file_facts.specs.Facts.{facts_of}
 use Rattle.import_graph.specs.Arrivals.{NobodyImports}
 use Rattle.import_graph.specs.Paths.{IsInPathOrder}
-use Rattle.import_graph.specs.declared.paths.NamedFacts.{NamedFacts}
+use Rattle.file_facts.specs.declared.named_facts.NamedFacts.{NamedFacts}
 use Rattle.link_changes.specs.Laws.{decl_moved}
 use Rattle.link_changes.specs.Touched.{links_after}
 use Rattle.proto_resolve.specs.declared.resolve.Links.{Links}

@@ -1,5 +1,5 @@
 use Rattle.std.proofs.Common.{◌<◌, length, arith}
-use Rattle.proto_resolve.proofs.Walked.{one_more_mapped}
+use Rattle.proto_names.proofs.Walked.{one_more_mapped}
 use Rattle.link_changes.specs.Laws.{decl_moved}
 use Rattle.link_changes.specs.Touched.{links_after}
 use Rattle.work_index.proofs.arrival.move_all.Goals as goal

@@ -1,5 +1,5 @@
 use Rattle.std.proofs.Common.{◌≡◌, ◌∙◌, List, sym, subst}
-use Rattle.import_graph.specs.declared.paths.NamedFacts.{NamedFacts}
+use Rattle.file_facts.specs.declared.named_facts.NamedFacts.{NamedFacts}
 use Rattle.import_graph.specs.Paths.{IsInPathOrder}
 use Rattle.work_index.specs.Pieces.{workspace_of}
 use Rattle.work_index.specs.Shares.{pieces_in}

@@ -1,6 +1,6 @@
 use Rattle.std.proofs.Common.{◌≡◌, ◌∙◌, List, length, ap, subst, sym}
 use Rattle.std.specs.Prelude.{IfOk}
-use Rattle.import_graph.specs.declared.paths.NamedFacts.{NamedFacts}
+use Rattle.file_facts.specs.declared.named_facts.NamedFacts.{NamedFacts}
 use Rattle.import_graph.specs.Paths.{IsInPathOrder}
 use Rattle.work_index.proofs.Ascending.{in_path_order}
 use Rattle.work_index.proofs.FilesMoves.{put_in, taken_out}

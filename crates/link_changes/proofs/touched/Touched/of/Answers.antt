@@ -1,6 +1,6 @@
 use Rattle.std.proofs.Common.{rules, ◌≡◌, ◌∙◌, sym, ap, refl, List, ◌-◌, ◌++◌, length, take, drop, map}
 use Rattle.file_facts.specs.declared.fact.Decl.{Decl}
-use Rattle.proto_resolve.specs.Outlines.{declared}
+use Rattle.proto_names.specs.Outlines.{declared}
 use Rattle.link_changes.specs.declared.keys.NameKeys.{NameKeys}
 use Rattle.link_changes.specs.declared.renumbering.Renumbering.{Renumbering}
 use Rattle.link_changes.proofs.Declared.{behind_them, decl_keys, moved, of_name, same_but_for_numbers}

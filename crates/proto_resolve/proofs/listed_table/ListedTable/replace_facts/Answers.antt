@@ -1,6 +1,6 @@
 use Rattle.std.proofs.Common.{◌≡◌, ◌∙◌, List}
-use Rattle.import_graph.specs.declared.paths.NamedFacts.{NamedFacts}
-use Rattle.proto_resolve.specs.Outlines.{with_facts}
+use Rattle.file_facts.specs.declared.named_facts.NamedFacts.{NamedFacts}
+use Rattle.proto_names.specs.Outlines.{with_facts}
 use Rattle.proto_resolve.proofs.listed_table.ListedTable.replace_facts.Goals as goal
 
 pub replace_decls-requires : goal.replace_decls-requires

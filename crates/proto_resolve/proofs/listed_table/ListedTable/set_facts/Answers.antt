@@ -1,8 +1,8 @@
 use Rattle.std.proofs.Common.{◌≡◌, ◌∙◌, List, ap, map, sym}
-use Rattle.import_graph.specs.declared.paths.NamedFacts.{NamedFacts}
-use Rattle.proto_resolve.specs.Files.{all_decls}
-use Rattle.proto_resolve.specs.Outlines.{with_facts}
-use Rattle.proto_resolve.proofs.Outlines.{telling, tells_alike, same_decls}
+use Rattle.file_facts.specs.declared.named_facts.NamedFacts.{NamedFacts}
+use Rattle.proto_names.specs.Files.{all_decls}
+use Rattle.proto_names.specs.Outlines.{with_facts}
+use Rattle.proto_names.proofs.Outlines.{telling, tells_alike, same_decls}
 use Rattle.proto_resolve.proofs.listed_table.ListedTable.set_facts.Goals as goal
 
 pub invariant_of-self : goal.invariant_of-self

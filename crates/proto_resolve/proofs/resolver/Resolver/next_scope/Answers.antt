@@ -2,8 +2,8 @@ use Rattle.std.proofs.Common.{◌≡◌, ◌∙◌, sym, length}
 use Rattle.std.proofs.lemmas.List.{length-map}
 use Rattle.file_facts.specs.Text.{joined}
 use Rattle.std.specs.List.{list_any}
-use Rattle.proto_resolve.specs.Files.{has_package}
-use Rattle.proto_resolve.specs.Holders.{is_held}
+use Rattle.proto_names.specs.Files.{has_package}
+use Rattle.proto_names.specs.Holders.{is_held}
 use Rattle.proto_resolve.specs.Names.{first_text, settles_at, texts_of}
 use Rattle.proto_resolve.proofs.Ahead.{unsettled, unsettled_whole}
 use Rattle.proto_resolve.proofs.NextScopes.{next_two, next_weaker}

@@ -1,7 +1,7 @@
 use Rattle.std.proofs.Common.{◌≡◌, length, arith}
 use Rattle.std.specs.Prelude.{string_bytes}
 use Rattle.file_facts.specs.Text.{joined}
-use Rattle.proto_resolve.specs.Holders.{is_held}
+use Rattle.proto_names.specs.Holders.{is_held}
 use Rattle.proto_resolve.proofs.NextScopes.{none_next, some_next}
 use Rattle.proto_resolve.proofs.ScopeChains.{as_many}
 use Rattle.proto_resolve.proofs.scope_chain.ScopeChain.next_held.Goals as goal

@@ -3,8 +3,8 @@ use Rattle.std.specs.Prelude.{option_map}
 use Rattle.std.proofs.lemmas.List.{get_or-map}
 use Rattle.file_facts.specs.declared.fact.FileFacts.{FileFacts}
 use Rattle.file_facts.specs.declared.fact.PackageFact.{PackageFact}
-use Rattle.import_graph.specs.declared.paths.NamedFacts.{NamedFacts}
-use Rattle.proto_resolve.specs.Files.{facts_at, no_facts}
+use Rattle.file_facts.specs.declared.named_facts.NamedFacts.{NamedFacts}
+use Rattle.proto_names.specs.Files.{facts_at, no_facts}
 use Rattle.proto_resolve.proofs.table.Table.replace_exports.Goals as goal
 
 pub changed-requires : goal.changed-requires

@@ -1,7 +1,7 @@
 use Rattle.std.proofs.Common.{◌≡◌, ◌∙◌, List, subst, sym}
-use Rattle.import_graph.specs.declared.paths.NamedFacts.{NamedFacts}
+use Rattle.file_facts.specs.declared.named_facts.NamedFacts.{NamedFacts}
 use Rattle.import_graph.specs.Paths.{IsInPathOrder}
-use Rattle.proto_resolve.specs.Outlines.{with_facts}
+use Rattle.proto_names.specs.Outlines.{with_facts}
 use Rattle.proto_resolve.proofs.Outlines.{stays_in_order}
 use Rattle.proto_resolve.proofs.table.Table.replace_facts.Goals as goal
 

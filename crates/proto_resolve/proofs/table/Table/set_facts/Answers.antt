@@ -1,7 +1,8 @@
 use Rattle.std.proofs.Common.{◌≡◌, ◌∙◌, List, map}
-use Rattle.import_graph.specs.declared.paths.NamedFacts.{NamedFacts}
-use Rattle.proto_resolve.specs.Outlines.{with_facts}
-use Rattle.proto_resolve.proofs.Outlines.{asking, telling, asks_alike, tells_alike, same_graph, stays_in_order, still_packaged}
+use Rattle.file_facts.specs.declared.named_facts.NamedFacts.{NamedFacts}
+use Rattle.proto_names.specs.Outlines.{with_facts}
+use Rattle.proto_resolve.proofs.Outlines.{asking, asks_alike, same_graph, stays_in_order}
+use Rattle.proto_names.proofs.Outlines.{telling, tells_alike, still_packaged}
 use Rattle.proto_resolve.proofs.table.Table.set_facts.Goals as goal
 
 pub invariant_of-self : goal.invariant_of-self

@@ -1,8 +1,8 @@
 use Rattle.std.proofs.Common.{◌≡◌, ◌∙◌, ◌<◌, List, length, subst, sym}
 use Rattle.std.specs.List.{remove}
-use Rattle.import_graph.specs.declared.paths.NamedFacts.{NamedFacts}
+use Rattle.file_facts.specs.declared.named_facts.NamedFacts.{NamedFacts}
 use Rattle.import_graph.specs.Paths.{IsInPathOrder}
-use Rattle.proto_resolve.proofs.MovedFiles.{rest_in_order}
+use Rattle.proto_resolve.proofs.FilesInOrder.{rest_in_order}
 use Rattle.proto_resolve.proofs.table.Table.without_file.Goals as goal
 
 pub of-requires : goal.of-requires

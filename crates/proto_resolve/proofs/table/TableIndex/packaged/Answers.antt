@@ -1,5 +1,5 @@
 use Rattle.file_facts.specs.Text.{joined}
-use Rattle.proto_resolve.proofs.Packaged.{those_with}
+use Rattle.proto_names.proofs.Packaged.{those_with}
 use Rattle.proto_resolve.proofs.table.TableIndex.packaged.Goals as goal
 
 pub of_package-requires-clause-by_package : goal.of_package-requires-clause-by_package

@@ -1,12 +1,12 @@
 use Rattle.std.proofs.Common.{◌≡◌, ◌∙◌, List, Option, ap, subst}
 use Rattle.file_facts.specs.declared.fact.FileFacts.{FileFacts}
 use Rattle.file_facts.specs.declared.fact.PackageFact.{PackageFact}
-use Rattle.import_graph.specs.declared.paths.NamedFacts.{NamedFacts}
-use Rattle.proto_resolve.specs.declared.packages.PackagedFile.{PackagedFile}
-use Rattle.proto_resolve.specs.Bases.{HadOtherPackages}
-use Rattle.proto_resolve.specs.Files.{facts_at}
-use Rattle.proto_resolve.specs.Packages.{packaged, AreNoLonger}
-use Rattle.proto_resolve.proofs.InsertedPackages.{no_longer, package_is}
+use Rattle.file_facts.specs.declared.named_facts.NamedFacts.{NamedFacts}
+use Rattle.proto_names.specs.declared.packages.PackagedFile.{PackagedFile}
+use Rattle.proto_names.specs.Changes.{HadOtherPackages}
+use Rattle.proto_names.specs.Files.{facts_at}
+use Rattle.proto_names.specs.Packages.{packaged, AreNoLonger}
+use Rattle.proto_names.proofs.InsertedPackages.{no_longer, package_is}
 use Rattle.proto_resolve.proofs.table_base.TableBase.with_file.Goals as goal
 
 pub with_file-requires-clause-arrived : goal.with_file-requires-clause-arrived

@@ -1,5 +1,5 @@
 use Rattle.std.proofs.Common.{◌∙◌}
-use Rattle.proto_resolve.proofs.Search.{searched}
+use Rattle.proto_names.proofs.Search.{searched}
 use Rattle.proto_resolve.proofs.view.View.has.Goals as goal
 
 pub returns : goal.returns

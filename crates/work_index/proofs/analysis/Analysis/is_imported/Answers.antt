@@ -2,7 +2,7 @@ use Rattle.std.proofs.Common.{◌≡◌, List, map, ap, sym, subst, ◌∙◌}
 use Rattle.std.specs.Prelude.{bytes_eq, position}
 use Rattle.file_facts.specs.declared.fact.FileFacts.{FileFacts}
 use Rattle.import_graph.specs.Arrivals.{NobodyImports}
-use Rattle.import_graph.specs.declared.paths.NamedFacts.{NamedFacts}
+use Rattle.file_facts.specs.declared.named_facts.NamedFacts.{NamedFacts}
 use Rattle.work_index.specs.Arrivals.{NoneImports}
 use Rattle.work_index.specs.Workspace.{AnalysisData}
 use Rattle.work_index.proofs.Arrived.{nobody_imports, none_imports, position_mapped}

@@ -1,6 +1,6 @@
 use Rattle.std.proofs.Common.{List, ap, sym, ◌∙◌}
 use Rattle.std.specs.Prelude.{bytes_eq, position}
-use Rattle.import_graph.specs.declared.paths.NamedFacts.{NamedFacts}
+use Rattle.file_facts.specs.declared.named_facts.NamedFacts.{NamedFacts}
 use Rattle.work_index.specs.Workspace.{AnalysisData}
 use Rattle.work_index.proofs.Arrived.{position_mapped}
 use Rattle.work_index.proofs.analysis.Analysis.number_of.Goals as goal

@@ -1,0 +1,11 @@
+pub mod Files
+pub mod Holders
+pub mod Packages
+pub mod Tables
+pub mod Hashed
+pub mod Entries
+pub mod Buckets
+pub mod Replaced
+pub mod Moved
+pub mod Changes
+pub mod Outlines

@@ -1,9 +1,0 @@
-use Rattle.std.proofs.Common.{◌≡◌, ◌++◌, drop}
-use Rattle.std.specs.List.{enumerate_from, flat_map}
-use Rattle.proto_resolve.specs.Files.{all_decls, refs_of}
-use Rattle.proto_resolve.proofs.decls.all_decls.Given as goal
-
--- what is found and what is left are all
-abbrev pub invariant-loop-number : goal.invariant-loop-number
-invariant-loop-number l =
-    l.found.items ++ flat_map (λ e. refs_of e.0 (let facts = e.1.facts in facts.decls)) (enumerate_from l.number (drop l.number l.files)) ≡ all_decls l.files

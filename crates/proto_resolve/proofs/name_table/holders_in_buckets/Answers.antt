@@ -1,6 +1,0 @@
-use Rattle.proto_resolve.specs.Tables.{name_at}
-use Rattle.proto_resolve.proofs.ByLast.{scopes_total}
-use Rattle.proto_resolve.proofs.name_table.holders_in_buckets.Goals as goal
-
-pub of-requires : goal.of-requires
-of-requires c = scopes_total (name_at c.args.files.now)

@@ -1,6 +1,0 @@
-use Rattle.proto_resolve.specs.Tables.{name_at}
-use Rattle.proto_resolve.proofs.Places.{names_total}
-use Rattle.proto_resolve.proofs.name_table.names_in_buckets.Goals as goal
-
-pub of_names-requires : goal.of_names-requires
-of_names-requires c = names_total (name_at c.args.files.now)
