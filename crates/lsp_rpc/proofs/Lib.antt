@@ -3,6 +3,7 @@ pub mod WritingLemmas
 pub mod ReportLemmas
 pub mod ReplyLemmas
 pub mod ParamsLemmas
+pub mod ClientLemmas
 pub mod TextLemmas
 pub mod MessageLemmas
 pub mod ListLemmas

@@ -1,11 +1,12 @@
--- The tokens of the diagnostics of a report, and of the reports of a workspace.
-use Rattle.std.proofs.Common.{◌≡◌, List, [], ◌∷◌, ◌++◌, map, flat_map, refl, ap, ◌∙◌, append_assoc}
-use Rattle.json.specs.Token.{Token, end_array}
-use Rattle.json.specs.Tree.{json_tokens, items_tokens}
+-- The tokens of the diagnostics of a report, of the reports of a workspace, and of a version that is published.
+use Rattle.std.proofs.Common.{◌≡◌, ℤ, Option, Some, None, List, [], ◌∷◌, ◌++◌, map, flat_map, refl, ap, ◌∙◌, append_assoc}
+use Rattle.json.specs.Token.{Token, end_array, end_object}
+use Rattle.json.specs.Tree.{json_tokens, items_tokens, members_tokens}
 use Rattle.serde_json.specs.View.{items_of}
-use Rattle.serde_json.specs.Written.{outline, items_outline}
+use Rattle.serde_json.specs.Written.{outline, items_outline, members_outline}
 use Rattle.lsp_rpc.specs.Diagnostic.{diagnostic_value, diagnostic_view}
 use Rattle.lsp_rpc.specs.Workspace.{document_value, document_view}
+use Rattle.lsp_rpc.specs.Notification.{version_members, version_tokens}
 use Rattle.lsp_rpc.specs.declared.diagnostic.Diagnostic.{Diagnostic}
 use Rattle.lsp_rpc.specs.declared.workspace.DocumentReport.{DocumentReport}
 
@@ -30,3 +31,8 @@ documents_tokens_of rs = flat_map document_tokens rs
 pub documents_tokens-closed : (rs : List DocumentReport) → documents_tokens_of rs ++ end_array ∷ [] ≡ items_tokens (items_outline (items_of (map document_value (map document_view rs))))
 documents_tokens-closed [] = refl
 documents_tokens-closed (r ∷ rs) = append_assoc (document_tokens r) (documents_tokens_of rs) (end_array ∷ []) ∙ ap (λ ts. document_tokens r ++ ts) (documents_tokens-closed rs)
+
+-- the version's member, with the closing brace
+pub version-closed : (version : Option ℤ) → version_tokens version ++ end_object ∷ [] ≡ members_tokens (members_outline (version_members version))
+version-closed None = refl
+version-closed (Some version) = refl

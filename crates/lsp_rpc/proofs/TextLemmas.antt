@@ -1,5 +1,5 @@
 -- The texts of replies, byte for byte.
-use Rattle.std.proofs.Common.{◌≡◌, ℕ, List, [], ◌∷◌, ◌++◌, true, false, map, refl, sym, ap, ap₂, ◌∙◌, append_assoc, codes}
+use Rattle.std.proofs.Common.{◌≡◌, ℕ, ℤ, pos, negsuc, Option, Some, None, List, [], ◌∷◌, ◌++◌, true, false, map, refl, sym, ap, ap₂, ◌∙◌, append_assoc, codes}
 use Rattle.std.specs.Fmt.{digits}
 use Rattle.std.specs.List.{join_with_byte}
 use Rattle.serde_json.specs.Data.{Data, Items, number, unsigned, string, array, object, member, no_members}
@@ -9,7 +9,9 @@ use Rattle.serde_json.proofs.OnLiterals.{serde_json_on_literals}
 use Rattle.lsp_rpc.specs.Reply.{id_or_null, error_value}
 use Rattle.lsp_rpc.specs.Diagnostic.{range_value, severity_number, diagnostic_value}
 use Rattle.lsp_rpc.specs.Workspace.{DocumentData, version_value, document_value}
-use Rattle.lsp_rpc.specs.Laws.{ResultText, error_object_text, ErrorText, InitializeText, DiagnosticText, ReportText, document_text, WorkspaceText}
+use Rattle.lsp_rpc.specs.Notification.{version_members, published_value}
+use Rattle.lsp_rpc.specs.Laws.{ResultText, error_object_text, ErrorText, InitializeText, DiagnosticText, ReportText, document_text, WorkspaceText, version_text, PublicationText}
+use Rattle.doc_text.specs.declared.encoding.Encoding.TheVariants.{Utf16, Utf8, Utf32}
 use Rattle.lsp_rpc.specs.declared.error_code.ErrorCode.{ErrorCode}
 use Rattle.lsp_rpc.specs.declared.error_code.ErrorCode.TheVariants.{ParseError, InvalidRequest, MethodNotFound, InvalidParams, ServerNotInitialized, RenameRefused}
 use Rattle.lsp_rpc.specs.declared.error_code.RenameRefusal.TheVariants.{NoSymbol, NotRenamable, BadName, NameTaken}
@@ -20,7 +22,9 @@ result_text id result = simp append_assoc
 
 pub initialize_text : InitializeText
 unfolding serde_json_on_literals digits
-initialize_text = refl
+initialize_text Utf16 = refl
+initialize_text Utf8 = refl
+initialize_text Utf32 = refl
 
 -- ---- errors
 
@@ -120,3 +124,34 @@ workspace_text rs =
     ∙ ap (λ s. codes "{\"items\":[" ++ (s ++ codes "}")) (joined_items document_value rs)
     ∙ ap (λ s. codes "{\"items\":[" ++ s) (append_assoc (join_with_byte 44 texts) (93 ∷ []) (codes "}"))
     ∙ ap (λ ts. codes "{\"items\":[" ++ (join_with_byte 44 ts ++ codes "]}")) (documents_are rs)
+
+-- ---- publications
+
+call_spelled : (params : Data)
+    → compact_text
+    (object (member (codes "jsonrpc") (string (codes "2.0")) (member (codes "method") (string (codes "textDocument/publishDiagnostics")) (member (codes "params") params no_members))))
+    ≡ codes "{\"jsonrpc\":\"2.0\",\"method\":\"textDocument/publishDiagnostics\",\"params\":" ++ compact_text params ++ codes "}"
+unfolding serde_json_on_literals
+call_spelled params = simp append_assoc
+
+published_spelled : (items : Items) (uri : Data) (version : Option ℤ)
+    → compact_text (object (member (codes "diagnostics") (array items) (member (codes "uri") uri (version_members version))))
+    ≡ codes "{\"diagnostics\":[" ++ (items_text false items ++ (codes ",\"uri\":" ++ compact_text uri ++ version_text version ++ codes "}"))
+unfolding serde_json_on_literals
+published_spelled items uri None = simp append_assoc
+published_spelled items uri (Some (pos n)) = simp append_assoc
+published_spelled items uri (Some (negsuc n)) = simp append_assoc
+
+joined_call : (before items bracket key uri version end : List ℕ)
+    → before ++ ((items ++ bracket) ++ (key ++ uri ++ version ++ end)) ++ end ≡ before ++ items ++ (bracket ++ key) ++ uri ++ version ++ (end ++ end)
+joined_call before items bracket key uri version end = simp append_assoc
+
+pub publication_text : PublicationText
+publication_text r =
+    let texts : List (List ℕ) = map (λ d. compact_text (diagnostic_value d)) r.diagnostics in
+    let call : List ℕ = codes "{\"jsonrpc\":\"2.0\",\"method\":\"textDocument/publishDiagnostics\",\"params\":" in
+    let rest : List ℕ = codes ",\"uri\":" ++ compact_text (string r.uri) ++ version_text r.version ++ codes "}" in
+    call_spelled (published_value r)
+    ∙ ap (λ s. call ++ s ++ codes "}") (published_spelled (items_of (map diagnostic_value r.diagnostics)) (string r.uri) r.version)
+    ∙ ap (λ s. call ++ (codes "{\"diagnostics\":[" ++ (s ++ rest)) ++ codes "}") (joined_items diagnostic_value r.diagnostics)
+    ∙ joined_call (call ++ codes "{\"diagnostics\":[") (join_with_byte 44 texts) (93 ∷ []) (codes ",\"uri\":") (compact_text (string r.uri)) (version_text r.version) (codes "}")

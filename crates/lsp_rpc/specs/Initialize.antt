@@ -1,6 +1,8 @@
 -- What the server tells of itself: Language Server Protocol 3.17, "InitializeResult".
 use Rattle.std.specs.Prelude.{codes, true}
 use Rattle.serde_json.specs.Data.{Data, boolean, number, unsigned, string, object, member, no_members}
+use Rattle.doc_text.specs.declared.encoding.Encoding.{Encoding}
+use Rattle.lsp_rpc.specs.Encoding.{encoding_name}
 
 -- diagnostics of one file depend on others, and may be asked for the whole workspace
 abbrev pub diagnostic_options : Data
@@ -15,11 +17,12 @@ sync_options =
     (member (codes "openClose") (boolean true)
     (member (codes "save") (boolean true) no_members)))
 
-abbrev pub capabilities : Data
-capabilities =
+-- both sides count characters of positions in the encoding
+abbrev pub capabilities : Encoding → Data
+capabilities encoding =
     object (member (codes "definitionProvider") (boolean true)
     (member (codes "diagnosticProvider") diagnostic_options
-    (member (codes "positionEncoding") (string (codes "utf-16"))
+    (member (codes "positionEncoding") (string (encoding_name encoding))
     (member (codes "referencesProvider") (boolean true)
     (member (codes "renameProvider") (boolean true)
     (member (codes "textDocumentSync") sync_options
@@ -30,7 +33,7 @@ server_info =
     object (member (codes "name") (string (codes "protols"))
     (member (codes "version") (string (codes "1")) no_members))
 
-abbrev pub initialize_result : Data
-initialize_result =
-    object (member (codes "capabilities") capabilities
+abbrev pub initialize_result : Encoding → Data
+initialize_result encoding =
+    object (member (codes "capabilities") (capabilities encoding)
     (member (codes "serverInfo") server_info no_members))

@@ -1,23 +1,29 @@
 -- What the definitions of messages and replies come to, in the words of the standards.
-use Rattle.std.specs.Prelude.{◌≡◌, ◌↔◌, true, false, ℕ, List, [], ◌∷◌, ◌++◌, Option, Some, None, map, codes, decimal, bytes_eq}
+use Rattle.std.specs.Prelude.{◌≡◌, ◌≢◌, ◌↔◌, ◌⊎◌, true, false, ℕ, ℤ, List, [], ◌∷◌, ◌++◌, Option, Some, None, map, codes, decimal, bytes_eq}
 use Rattle.std.specs.Fmt.{signed_decimal}
-use Rattle.std.specs.List.{fold, filter, join_with_byte}
+use Rattle.std.specs.List.{All, fold, filter, join_with_byte}
 use Rattle.std.specs.List.Sorted.{IsStrictlySortedBy}
 use Rattle.std.specs.Cmp.Lexicographic.{slice_cmp}
 use Rattle.std.specs.Map.{keys_of}
 use Rattle.std.specs.Ordering.{nat_cmp}
 use Rattle.json.specs.Print.{quoted}
-use Rattle.serde_json.specs.Data.{Data, Items, array}
+use Rattle.serde_json.specs.Data.{Data, Items, null, string, array}
+use Rattle.serde_json.specs.Find.{get}
 use Rattle.serde_json.specs.Written.{compact_text}
 use Rattle.lsp_rpc.specs.Body.{json_of, has}
+use Rattle.lsp_rpc.specs.Encoding.{encoding_name}
 use Rattle.lsp_rpc.specs.Message.{IdData, message_of, parse_error, invalid_request, request, notification, id_of, method_of, params_of, is_version_two, names_method}
+use Rattle.lsp_rpc.specs.ClientCapabilities.{client_of, position_encodings}
 use Rattle.lsp_rpc.specs.Reply.{id_value, id_or_null, result_reply, error_row, error_reply}
 use Rattle.lsp_rpc.specs.Initialize.{initialize_result}
 use Rattle.lsp_rpc.specs.Diagnostic.{DiagnosticData, range_value, severity_number, diagnostic_value, report_value}
 use Rattle.lsp_rpc.specs.Workspace.{DocumentData, version_value, workspace_value}
+use Rattle.lsp_rpc.specs.Notification.{publication_value}
 use Rattle.lsp_rpc.specs.Location.{LocationData, locations_value}
 use Rattle.lsp_rpc.specs.Symbol.{SymbolData, kind_number, symbols_value}
 use Rattle.lsp_rpc.specs.WorkspaceEdit.{Changes, further, ranges_at, merged, workspace_edit_value}
+use Rattle.doc_text.specs.declared.encoding.Encoding.{Encoding}
+use Rattle.doc_text.specs.declared.encoding.Encoding.TheVariants.{Utf16}
 use Rattle.doc_text.specs.declared.position.Position.{Position}
 use Rattle.doc_text.specs.declared.position.Range.{Range}
 use Rattle.lsp_rpc.specs.declared.method.Method.{Method}
@@ -49,6 +55,42 @@ NotificationsHaveNoId =
     (body : List ℕ) (method : Option Method) (params : Data) → message_of body ≡ notification method params
     → (d : Data) × (json_of body ≡ Some d) × (has (codes "id") d ≡ false)
 
+-- ---- what an editor can do
+
+-- an entry that is the name of an encoding
+abbrev pub NamesAnEncoding : Data → Type 0
+NamesAnEncoding entry = (encoding : Encoding) × (entry ≡ string (encoding_name encoding))
+
+abbrev pub NoneIsNamed : List Data → Type 0
+NoneIsNamed entries = All (λ entry. ¬ NamesAnEncoding entry) entries
+
+-- the encoding's name is an entry, and no entry before it is an encoding's name
+pub record IsNamedFirst (entries : List Data) (encoding : Encoding) : Type 0 where
+  pub before : List Data
+  pub after : List Data
+  pub listed : entries ≡ before ++ string (encoding_name encoding) ∷ after
+  pub first : NoneIsNamed before
+
+-- an editor's encoding is the one that its list names first, and UTF-16 if the list names none, and no other
+abbrev pub TheFirstEncodingCounts : Type 0
+TheFirstEncodingCounts =
+    (params : Data) (encoding : Encoding)
+    → ((client_of params).encoding ≡ encoding)
+    ↔ (IsNamedFirst (position_encodings params) encoding ⊎ (NoneIsNamed (position_encodings params) × (encoding ≡ Utf16)))
+
+-- a member `diagnostic` of the member `textDocument` of the member `capabilities`, which isn't `null`
+pub record DeclaresDiagnostics (params : Data) : Type 0 where
+  pub capabilities : Data
+  pub document : Data
+  pub diagnostic : Data
+  pub of_params : get (codes "capabilities") params ≡ Some capabilities
+  pub of_capabilities : get (codes "textDocument") capabilities ≡ Some document
+  pub of_document : get (codes "diagnostic") document ≡ Some diagnostic
+  pub value : diagnostic ≢ null
+
+abbrev pub PullingIsDeclared : Type 0
+PullingIsDeclared = (params : Data) → ((client_of params).pulls_diagnostics ≡ true) ↔ DeclaresDiagnostics params
+
 -- ---- the texts of replies
 
 abbrev pub ResultText : Type 0
@@ -68,8 +110,9 @@ ErrorText =
 
 abbrev pub InitializeText : Type 0
 InitializeText =
-    compact_text initialize_result
-    ≡ codes "{\"capabilities\":{\"definitionProvider\":true,\"diagnosticProvider\":{\"interFileDependencies\":true,\"workspaceDiagnostics\":true},\"positionEncoding\":\"utf-16\",\"referencesProvider\":true,\"renameProvider\":true,\"textDocumentSync\":{\"change\":2,\"openClose\":true,\"save\":true},\"workspaceSymbolProvider\":true},\"serverInfo\":{\"name\":\"protols\",\"version\":\"1\"}}"
+    (encoding : Encoding) → compact_text (initialize_result encoding)
+    ≡ codes "{\"capabilities\":{\"definitionProvider\":true,\"diagnosticProvider\":{\"interFileDependencies\":true,\"workspaceDiagnostics\":true},\"positionEncoding\":\"" ++ encoding_name encoding
+    ++ codes "\",\"referencesProvider\":true,\"renameProvider\":true,\"textDocumentSync\":{\"change\":2,\"openClose\":true,\"save\":true},\"workspaceSymbolProvider\":true},\"serverInfo\":{\"name\":\"protols\",\"version\":\"1\"}}"
 
 abbrev pub DiagnosticText : Type 0
 DiagnosticText =
@@ -91,6 +134,19 @@ document_text r =
 -- the reports' texts stand in order, with commas between them
 abbrev pub WorkspaceText : Type 0
 WorkspaceText = (rs : List DocumentData) → compact_text (workspace_value rs) ≡ codes "{\"items\":[" ++ join_with_byte 44 (map document_text rs) ++ codes "]}"
+
+-- the version's member, if there is a version
+abbrev pub version_text : Option ℤ → List ℕ
+version_text None = []
+version_text (Some version) = codes ",\"version\":" ++ signed_decimal version
+
+-- the diagnostics' texts stand in order, with commas between them
+abbrev pub PublicationText : Type 0
+PublicationText =
+    (r : DocumentData) → compact_text (publication_value r)
+    ≡ codes "{\"jsonrpc\":\"2.0\",\"method\":\"textDocument/publishDiagnostics\",\"params\":{\"diagnostics\":["
+    ++ join_with_byte 44 (map (λ d. compact_text (diagnostic_value d)) r.diagnostics) ++ codes "],\"uri\":" ++ quoted r.uri
+    ++ version_text r.version ++ codes "}}"
 
 -- ---- places and declarations
 

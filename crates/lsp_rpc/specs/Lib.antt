@@ -1,8 +1,10 @@
 pub mod Body
+pub mod Encoding
 pub mod Method
 pub mod Message
 pub mod Params
 pub mod RequestParams
+pub mod ClientCapabilities
 pub mod Diagnostic
 pub mod Workspace
 pub mod Location
@@ -10,5 +12,6 @@ pub mod Symbol
 pub mod WorkspaceEdit
 pub mod Initialize
 pub mod Reply
+pub mod Notification
 pub mod Writing
 pub mod Laws

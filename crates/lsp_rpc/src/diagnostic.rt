@@ -30,8 +30,8 @@ impl Severity {
     }
 }
 
-/// A fault that was found in a document: where, in lines and UTF-16 units from 0, how grave it is, its number and
-/// what it says.
+/// A fault that was found in a document: where, in lines and units of the position encoding from 0, how grave it is, its
+/// number and what it says.
 #[derive(Clone, Copy, Debug)]
 pub struct Diagnostic<'m> {
     /// Where it stands.

@@ -4,31 +4,33 @@ ghost use Rattle.json.specs.Token.{key, boolean};
 ghost use Rattle.lsp_rpc.specs.Writing.{Appends, Adds};
 ghost use Rattle.lsp_rpc.specs.Initialize as spec;
 
+use crate::encoding::encoding_name;
+use doc_text::Encoding;
 use json::Writer;
 use std::alloc::AllocError;
 
-/// Writes the result of `initialize` (Language Server Protocol 3.17, "InitializeResult").
-pub fn write_initialize_result(out: &mut Writer) -> Result<(), AllocError>
-    ensures { OnOk result (Adds out.old spec.initialize_result out.new) }
+/// Writes the result of `initialize` (Language Server Protocol 3.17, "InitializeResult"), which names the position encoding.
+pub fn write_initialize_result(out: &mut Writer, encoding: Encoding) -> Result<(), AllocError>
+    ensures { OnOk result (Adds out.old (spec.initialize_result encoding) out.new) }
 {
     out.begin_object()?;
     out.key("capabilities")?;
-    write_capabilities(out)?;
+    write_capabilities(out, encoding)?;
     out.key("serverInfo")?;
     write_server_info(out)?;
     out.end_object()?;
     Ok(())
 }
 
-fn write_capabilities(out: &mut Writer) -> Result<(), AllocError>
-    ensures { OnOk result (Adds out.old spec.capabilities out.new) }
+fn write_capabilities(out: &mut Writer, encoding: Encoding) -> Result<(), AllocError>
+    ensures { OnOk result (Adds out.old (spec.capabilities encoding) out.new) }
 {
     out.begin_object()?;
     write_yes(out, "definitionProvider")?;
     out.key("diagnosticProvider")?;
     write_diagnostic_options(out)?;
     out.key("positionEncoding")?;
-    out.string("utf-16")?;
+    out.string(encoding_name(encoding))?;
     write_yes(out, "referencesProvider")?;
     write_yes(out, "renameProvider")?;
     out.key("textDocumentSync")?;

@@ -1,6 +1,6 @@
 // Laws of the definitions that the contracts cite. Each is a function with nothing to do, whose clause
 // is the law.
-ghost use Rattle.lsp_rpc.specs.Laws.{OnlyJsonIsRead, BatchesAreInvalid, RequestsAreCalls, NotificationsHaveNoId, ResultText, ErrorText, InitializeText, DiagnosticText, ReportText, WorkspaceText, LocationsText, SymbolsText, UrisStandOnce, RangesAreKept, WorkspaceEditText};
+ghost use Rattle.lsp_rpc.specs.Laws.{OnlyJsonIsRead, BatchesAreInvalid, RequestsAreCalls, NotificationsHaveNoId, TheFirstEncodingCounts, PullingIsDeclared, ResultText, ErrorText, InitializeText, DiagnosticText, ReportText, WorkspaceText, PublicationText, LocationsText, SymbolsText, UrisStandOnce, RangesAreKept, WorkspaceEditText};
 
 /// A law: what is answered as a parse error is what is no JSON text, and nothing else.
 pub fn parse_errors()
@@ -22,6 +22,17 @@ pub fn notifications()
     ensures { NotificationsHaveNoId }
 {}
 
+/// A law: the encoding is the one that the editor's list names first. Names that aren't encodings' and entries that aren't strings
+/// don't count. It is UTF-16 if the list names none, or there is no such list.
+pub fn encodings()
+    ensures { TheFirstEncodingCounts }
+{}
+
+/// A law: an editor asks for diagnostics if it declares that capability by any value but `null`, and in no other case.
+pub fn pulling()
+    ensures { PullingIsDeclared }
+{}
+
 /// A law: the bytes of a reply with a result.
 pub fn result_text()
     ensures { ResultText }
@@ -32,7 +43,7 @@ pub fn error_text()
     ensures { ErrorText }
 {}
 
-/// A law: the bytes of the result of `initialize`.
+/// A law: the bytes of the result of `initialize`, around the name of the encoding.
 pub fn initialize_text()
     ensures { InitializeText }
 {}
@@ -50,6 +61,11 @@ pub fn report_text()
 /// A law: the bytes of the reports of a workspace.
 pub fn workspace_text()
     ensures { WorkspaceText }
+{}
+
+/// A law: the bytes of the notification that publishes diagnostics, which has no `version` if there is none.
+pub fn publication_text()
+    ensures { PublicationText }
 {}
 
 /// A law: the bytes of the places in documents.

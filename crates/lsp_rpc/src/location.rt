@@ -13,7 +13,7 @@ use std::alloc::AllocError;
 pub struct DocumentRanges {
     /// The document's URI.
     pub uri: String,
-    /// The ranges, in lines and UTF-16 units from 0.
+    /// The ranges, in lines and units of the position encoding from 0.
     pub ranges: Vec<Range>,
 }
 

@@ -21,16 +21,17 @@ use crate::location::{DocumentRanges, write_locations};
 use crate::symbol::{DocumentSymbols, write_symbols};
 use crate::workspace::{DocumentReport, write_workspace};
 use crate::workspace_edit::write_workspace_edit;
+use doc_text::Encoding;
 use json::Writer;
 use std::alloc::{AllocError, Global};
 
-/// The reply to `initialize`. An error is want of memory.
-pub fn initialize_reply(alloc: Global, id: &Id) -> Result<Vec<u8>, AllocError>
+/// The reply to `initialize`, which names the position encoding. The only error is out of memory.
+pub fn initialize_reply(alloc: Global, id: &Id, encoding: Encoding) -> Result<Vec<u8>, AllocError>
     ensures { IfOk result (λ b. b.items
-        ≡ compact_text (reply.result_reply (id_view id.now) initialize_result)) }
+        ≡ compact_text (reply.result_reply (id_view id.now) (initialize_result encoding))) }
 {
     let mut out = begin_result(alloc, id)?;
-    write_initialize_result(&mut out)?;
+    write_initialize_result(&mut out, encoding)?;
     out.end_object()?;
     Ok(out.into_inner())
 }
@@ -207,7 +208,8 @@ fn write_null(out: &mut Writer) -> Result<(), AllocError>
     Ok(())
 }
 
-fn new_text(alloc: Global) -> Writer
+// A writer of a new text.
+pub(crate) fn new_text(alloc: Global) -> Writer
     ensures { Appends empty [] result }
 {
     Writer::new(Vec::new(alloc))

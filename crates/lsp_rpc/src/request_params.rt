@@ -20,7 +20,7 @@ pub fn symbol_query(params: &Value) -> Option<&str>
 pub struct DocumentPosition<'v> {
     /// The document's URI, as the editor wrote it.
     pub uri: &'v str,
-    /// The position, in lines and UTF-16 units from 0.
+    /// The position, in lines and units of the position encoding from 0.
     pub position: Position,
 }
 

@@ -52,7 +52,7 @@ pub struct Symbol<'m> {
     pub container: &'m str,
     /// What it is.
     pub kind: SymbolKind,
-    /// Where its name stands, in lines and UTF-16 units from 0.
+    /// Where its name stands, in lines and units of the position encoding from 0.
     pub range: Range,
 }
 

@@ -8,4 +8,4 @@ use Rattle.lsp_rpc.proofs.reply.initialize_reply.Goals as goal
 pub returns : goal.returns
 returns c =
     c.into_inner.ensures.items
-    ∙ whole_result (id_view c.args.id.now) initialize_result (c.in_ok-out.ensures ▹ c.in_ok-write_initialize_result.ensures ▹ one c.in_ok-end_object.ensures)
+    ∙ whole_result (id_view c.args.id.now) (initialize_result c.args.encoding) (c.in_ok-out.ensures ▹ c.in_ok-write_initialize_result.ensures ▹ one c.in_ok-end_object.ensures)
