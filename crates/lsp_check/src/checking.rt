@@ -7,7 +7,7 @@ ghost use Rattle.lsp_workspace.specs.Files.{workspace};
 ghost use Rattle.lsp_check.specs.Listing.{lines_of, listing, has_errors};
 ghost use Rattle.lsp_check.specs.Steps.{Sent};
 ghost use Rattle.lsp_config.specs.Configuration.{files_of};
-ghost use Rattle.lsp_config.specs.Fault.{ComesWhileChecking};
+ghost use Rattle.lsp_config.specs.Fault.{ComesWhileChecking, NoErrorUnless};
 ghost use Rattle.lsp_config.specs.Sending.{SendsPrefix};
 
 use crate::diagnosing::diagnose_files;
@@ -45,6 +45,7 @@ fn flush<K: ByteSink>(writer: &mut K, room: &mut Vec<u8>) -> Result<(), ServeFau
     ensures fault { IfErr result (ComesWhileChecking (K.counts writer.old) (K.counts writer.new)) }
     ensures counts { NoneFell (K.counts writer.old) (K.counts writer.new) }
     ensures calm { OnOk result (NoError (K.counts writer.old) (K.counts writer.new)) }
+    ensures reported { IfErr result (NoErrorUnless ServeFault.Write (K.counts writer.old) (K.counts writer.new)) }
     ensures once { (K.counts writer.new).errors ≤ (K.counts writer.old).errors + 1 }
 {
     match write_bytes(writer, room.as_slice()) {
@@ -73,6 +74,7 @@ fn add_part<K: ByteSink>(
     ensures fault { IfErr result (ComesWhileChecking (K.counts writer.old) (K.counts writer.new)) }
     ensures counts { NoneFell (K.counts writer.old) (K.counts writer.new) }
     ensures calm { OnOk result (NoError (K.counts writer.old) (K.counts writer.new)) }
+    ensures reported { IfErr result (NoErrorUnless ServeFault.Write (K.counts writer.old) (K.counts writer.new)) }
     ensures once { (K.counts writer.new).errors ≤ (K.counts writer.old).errors + 1 }
 {
     let Ok(()) = push_lines(room, path, walk, diags) else {
@@ -97,6 +99,7 @@ fn add_lines<K: ByteSink>(
     ensures fault { IfErr result (ComesWhileChecking (K.counts writer.old) (K.counts writer.new)) }
     ensures counts { NoneFell (K.counts writer.old) (K.counts writer.new) }
     ensures calm { OnOk result (NoError (K.counts writer.old) (K.counts writer.new)) }
+    ensures reported { IfErr result (NoErrorUnless ServeFault.Write (K.counts writer.old) (K.counts writer.new)) }
     ensures once { (K.counts writer.new).errors ≤ (K.counts writer.old).errors + 1 }
 {
     let mut walk = Walk::new(text, Encoding::Utf16);
@@ -119,6 +122,7 @@ fn send_in_turn<K: ByteSink>(
     ensures err { OnErr result (SendsPrefix (K.written writer.old) (K.written writer.new) (listing files.now)) }
     ensures fault { IfErr result (ComesWhileChecking (K.counts writer.old) (K.counts writer.new)) }
     ensures calm { OnOk result (NoError (K.counts writer.old) (K.counts writer.new)) }
+    ensures reported { IfErr result (NoErrorUnless ServeFault.Write (K.counts writer.old) (K.counts writer.new)) }
     ensures once { (K.counts writer.new).errors ≤ (K.counts writer.old).errors + 1 }
 {
     let mut room = Vec::new(alloc);
@@ -140,6 +144,7 @@ fn send_shares<K: ByteSink>(writer: &mut K, shares: Vec<ShareLines>) -> Result<(
     ensures err { OnErr result (SendsPrefix (K.written writer.old) (K.written writer.new) (flat_map (λ share. share.lines.items) shares.items)) }
     ensures fault { IfErr result (ComesWhileChecking (K.counts writer.old) (K.counts writer.new)) }
     ensures calm { OnOk result (NoError (K.counts writer.old) (K.counts writer.new)) }
+    ensures reported { IfErr result (NoErrorUnless ServeFault.Write (K.counts writer.old) (K.counts writer.new)) }
     ensures once { (K.counts writer.new).errors ≤ (K.counts writer.old).errors + 1 }
 {
     'shares: for share in shares {
@@ -161,6 +166,7 @@ fn send_by_threads<R: Threads + Wait, K: ByteSink>(
     ensures err { OnErr result (SendsPrefix (K.written writer.old) (K.written writer.new) (listing files.now)) }
     ensures fault { IfErr result (ComesWhileChecking (K.counts writer.old) (K.counts writer.new)) }
     ensures calm { OnOk result (NoError (K.counts writer.old) (K.counts writer.new)) }
+    ensures reported { IfErr result (NoErrorUnless ServeFault.Write (K.counts writer.old) (K.counts writer.new)) }
     ensures once { (K.counts writer.new).errors ≤ (K.counts writer.old).errors + 1 }
 {
     match lines_in_shares(rt, alloc, files, least) {
@@ -181,6 +187,7 @@ fn send_all<R: Threads + Wait, K: ByteSink>(
     ensures err { OnErr result (SendsPrefix (K.written writer.old) (K.written writer.new) (listing files.now)) }
     ensures fault { IfErr result (ComesWhileChecking (K.counts writer.old) (K.counts writer.new)) }
     ensures calm { OnOk result (NoError (K.counts writer.old) (K.counts writer.new)) }
+    ensures reported { IfErr result (NoErrorUnless ServeFault.Write (K.counts writer.old) (K.counts writer.new)) }
     ensures once { (K.counts writer.new).errors ≤ (K.counts writer.old).errors + 1 }
 {
     let count = diagnostic_count(files);
@@ -203,6 +210,7 @@ fn send_and_judge<R: Threads + Wait, K: ByteSink>(
     ensures errors { IfOk result (λ found. found ≡ has_errors files.now) }
     ensures fault { IfErr result (ComesWhileChecking (K.counts writer.old) (K.counts writer.new)) }
     ensures calm { OnOk result (NoError (K.counts writer.old) (K.counts writer.new)) }
+    ensures reported { IfErr result (NoErrorUnless ServeFault.Write (K.counts writer.old) (K.counts writer.new)) }
     ensures once { (K.counts writer.new).errors ≤ (K.counts writer.old).errors + 1 }
 {
     send_all(rt, alloc, writer, files, workers)?;
@@ -245,8 +253,9 @@ pub fn check<R: Threads + Wait + Clone + Send + Drop + 'static, K: ByteSink, G: 
     // The faults are those of memory and threads, and the sink's, which is reported only where the sink failed in the call.
     ensures fault { IfErr result (ComesWhileChecking (K.counts writer.old) (K.counts writer.new)) }
 
-    // It ends well only where no error of the sink came, and after an error nothing more is written.
+    // It ends well only where no error of the sink came, an error is reported as `Write`, and nothing more is written after one.
     ensures calm { OnOk result (NoError (K.counts writer.old) (K.counts writer.new)) }
+    ensures reported { IfErr result (NoErrorUnless ServeFault.Write (K.counts writer.old) (K.counts writer.new)) }
     ensures once { (K.counts writer.new).errors ≤ (K.counts writer.old).errors + 1 }
 {
     match diagnose_files(rt, alloc, gate, config, workers) {

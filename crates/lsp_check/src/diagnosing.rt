@@ -22,7 +22,10 @@ fn start_workspace(alloc: Global, config: Config) -> Result<Workspace, ServeFaul
     ensures files { IfOk result (λ w. w.files ≡ files_of config) }
     ensures fault { IfErr result IsOfWorkers }
 {
-    match Workspace::from_disk(alloc, config.into_files(), 0) {
+    let Ok(files) = config.into_files() else {
+        return Err(ServeFault::Memory);
+    };
+    match Workspace::from_disk(alloc, files, 0) {
         Ok(workspace) => Ok(workspace),
         // There are fewer files than stamps, so only memory can be refused.
         Err(_) => Err(ServeFault::Memory),

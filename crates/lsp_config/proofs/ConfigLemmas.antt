@@ -1,39 +1,46 @@
--- A configuration that can be used: one root, and good files below it.
-use Rattle.std.proofs.Common.{◌≡◌, ℕ, ◌+◌, List, [], ◌∷◌, map, Bool, true, false, not, ◌==◌, nat_lt, cond, Some, None, option_map, filter, refl, sym, ap, ◌∙◌, append-nil, arith}
-use Rattle.std.specs.List.{position, position_from}
+-- A configuration that can be used: its files are good, and in the order of their roots.
+use Rattle.std.proofs.Common.{◌≡◌, ℕ, ◌+◌, ◌<◌, List, [], ◌∷◌, map, length, Bool, true, false, not, cond, Option, Some, None, option_map, refl, sym, ap, ◌∙◌}
+use Rattle.std.specs.Ordering.{nat_cmp}
+use Rattle.std.specs.List.{All, position, position_from}
+use Rattle.std.specs.List.Sorted.{IsNonDecreasingBy, IsPermutation, IsStableByKey}
 use Rattle.std.proofs.lemmas.Bool.{and_parts, ltb-true}
 use Rattle.std.proofs.lemmas.Iterator.Adapters.{position_from-zero}
-use Rattle.lsp_config.specs.Configuration.{has_one_root, is_good_file, in_root_order, refusal}
+use Rattle.std.proofs.lemmas.List.Elements.{All-nil, All-cons}
+use Rattle.workspace_uri.specs.Uri.{are_roots}
 use Rattle.lsp_workspace.specs.Disk.{disk_view}
 use Rattle.lsp_workspace.specs.declared.disk.DiskFile.{DiskFile}
+use Rattle.lsp_config.specs.Configuration.{is_good_file, in_root_order, refusal}
 use Rattle.lsp_config.specs.declared.fault.ServeFault.TheVariants.{BadPath}
+use Rattle.lsp_config.proofs.RootOrder.{sorted_stably, keys_seen}
 
-position-map : (fs : List DiskFile) (i : ℕ) → position_from (λ f. not (is_good_file 1 f)) i (map disk_view fs) ≡ position_from (λ f. not (is_good_file 1 (disk_view f))) i fs
-position-map [] i = refl
-position-map (f ∷ fs) i = ap (λ r. cond (not (is_good_file 1 (disk_view f))) (Some i) r) (position-map fs (i + 1))
+-- a file that is bad beside so many roots
+abbrev bad : ℕ → DiskFile → Bool
+bad roots f = not (is_good_file roots (disk_view f))
 
-position-map-all : (fs : List DiskFile) → position (λ f. not (is_good_file 1 f)) (map disk_view fs) ≡ position (λ f. not (is_good_file 1 (disk_view f))) fs
-position-map-all fs = position_from-zero (λ f. not (is_good_file 1 f)) (map disk_view fs) ∙ position-map fs 0 ∙ sym (position_from-zero (λ f. not (is_good_file 1 (disk_view f))) fs)
+position-map : (roots : ℕ) (fs : List DiskFile) (i : ℕ) → position_from (λ f. not (is_good_file roots f)) i (map disk_view fs) ≡ position_from (bad roots) i fs
+position-map roots [] i = refl
+position-map roots (f ∷ fs) i = ap (λ r. cond (bad roots f) (Some i) r) (position-map roots fs (i + 1))
 
--- beside one root the first bad file counts
-pub refusal_at : (roots : List (List ℕ)) (fs : List DiskFile) → has_one_root roots ≡ true → refusal (record { roots = roots; files = map disk_view fs }) ≡ option_map BadPath (position (λ f. not (is_good_file 1 (disk_view f))) fs)
-refusal_at [] fs one = cc
-refusal_at (root ∷ []) fs one = rw one (ap (option_map BadPath) (position-map-all fs))
-refusal_at (root ∷ other ∷ more) fs one = cc
+position-map-all : (roots : ℕ) (fs : List DiskFile) → position (λ f. not (is_good_file roots f)) (map disk_view fs) ≡ position (bad roots) fs
+position-map-all roots fs = position_from-zero (λ f. not (is_good_file roots f)) (map disk_view fs) ∙ position-map roots fs 0 ∙ sym (position_from-zero (bad roots) fs)
 
-zero_root : (n : ℕ) → nat_lt n 1 ≡ true → (n == 0) ≡ true
-zero_root n e = let zero_only : n ≡ 0 = omega (arith, ltb-true n 1 e) in ap (λ k. k == 0) zero_only
+-- beside good roots the first bad file counts
+pub refusal_of : (roots : List (List ℕ)) (fs : List DiskFile) (count : ℕ) (first : Option ℕ) → are_roots roots ≡ true → count ≡ length roots → first ≡ position (bad count) fs
+    → refusal (record { roots = roots; files = map disk_view fs }) ≡ option_map BadPath first
+refusal_of roots fs count first good as_many is = rw good (ap (option_map BadPath) (position-map-all (length roots) fs ∙ ap (λ n. position (bad n) fs) (sym as_many) ∙ sym is))
 
-kept-one : (f : DiskFile) (fs : List DiskFile) (i : ℕ) (good : Bool) → is_good_file 1 (disk_view f) ≡ good → cond (not good) (Some i) (position_from (λ f. not (is_good_file 1 (disk_view f))) (i + 1) fs) ≡ None
-    → (position_from (λ f. not (is_good_file 1 (disk_view f))) (i + 1) fs ≡ None → filter (λ f. f.root == 0) (map disk_view fs) ≡ map disk_view fs)
-    → filter (λ f. f.root == 0) (map disk_view (f ∷ fs)) ≡ map disk_view (f ∷ fs)
-kept-one f fs i true is none others = rw (zero_root f.root (and_parts _ _ is).0) (ap (λ l. disk_view f ∷ l) (others none))
-kept-one f fs i false is none others = cc
+one-low : (roots : ℕ) (f : DiskFile) (fs : List DiskFile) (i : ℕ) (good : Bool) → is_good_file roots (disk_view f) ≡ good → cond (not good) (Some i) (position_from (bad roots) (i + 1) fs) ≡ None
+    → (position_from (bad roots) (i + 1) fs ≡ None → All (λ f. f.root < roots) fs) → All (λ f. f.root < roots) (f ∷ fs)
+one-low roots f fs i true is none others = All-cons (λ f. f.root < roots) f fs (ltb-true f.root roots (and_parts _ _ is).0) (others none)
+one-low roots f fs i false is none others = cc
 
-kept-all : (fs : List DiskFile) (i : ℕ) → position_from (λ f. not (is_good_file 1 (disk_view f))) i fs ≡ None → filter (λ f. f.root == 0) (map disk_view fs) ≡ map disk_view fs
-kept-all [] i none = refl
-kept-all (f ∷ fs) i none = kept-one f fs i (is_good_file 1 (disk_view f)) refl none (kept-all fs (i + 1))
+all-low : (roots : ℕ) (fs : List DiskFile) (i : ℕ) → position_from (bad roots) i fs ≡ None → All (λ f. f.root < roots) fs
+all-low roots [] i none = All-nil (λ f. f.root < roots)
+all-low roots (f ∷ fs) i none = one-low roots f fs i (is_good_file roots (disk_view f)) refl none (all-low roots fs (i + 1))
 
--- the files of the one root are all
-pub in_order : (root : List ℕ) (fs : List DiskFile) → position (λ f. not (is_good_file 1 (disk_view f))) fs ≡ None → map disk_view fs ≡ in_root_order (record { roots = root ∷ []; files = map disk_view fs })
-in_order root fs none = sym (append-nil _ ∙ kept-all fs 0 (sym (position_from-zero (λ f. not (is_good_file 1 (disk_view f))) fs) ∙ none))
+-- good files that were sorted stably by their roots
+pub in_order : (roots : List (List ℕ)) (old new : List DiskFile) → position (bad (length roots)) old ≡ None
+    → IsPermutation old new → IsNonDecreasingBy (λ f. f.root) new → IsStableByKey (λ f. f.root) nat_cmp old new → map disk_view new ≡ in_root_order (record { roots = roots; files = map disk_view old })
+in_order roots old new none same sorted stable =
+    ap (map disk_view) (sorted_stably (λ (f : DiskFile). f.root) old new stable (length roots) same sorted (all-low (length roots) old 0 (sym (position_from-zero (bad (length roots)) old) ∙ none)))
+    ∙ keys_seen disk_view (λ f. f.root) 0 (length roots) old

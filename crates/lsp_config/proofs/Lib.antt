@@ -1,2 +1,3 @@
+mod RootOrder
 mod ConfigLemmas
 pub mod SendingLemmas

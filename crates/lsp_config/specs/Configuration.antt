@@ -1,8 +1,8 @@
 -- What a session is started with: its roots, and the files that it found on disk.
-use Rattle.std.specs.Prelude.{ℕ, nat_lt, List, [], ◌∷◌, Bool, false, not, ◌&&◌, ◌==◌, if◌then◌else◌, Option, Some, is_some, option_map, length, filter}
+use Rattle.std.specs.Prelude.{ℕ, nat_lt, List, Bool, not, ◌&&◌, ◌==◌, if◌then◌else◌, Option, Some, option_map, length, filter}
 use Rattle.std.specs.List.{flat_map, position, range_with_len}
 use Rattle.workspace_uri.specs.Path.{is_workspace_path}
-use Rattle.workspace_uri.specs.Uri.{folder_of}
+use Rattle.workspace_uri.specs.Uri.{are_roots}
 use Rattle.lsp_workspace.specs.Disk.{FileData}
 use Rattle.lsp_workspace.specs.Files.{Files, from_disk}
 use Rattle.lsp_config.specs.declared.fault.ServeFault.{ServeFault}
@@ -22,12 +22,6 @@ files_of config = from_disk (in_root_order config)
 
 -- ---- configurations that can't be used
 
--- there is exactly one root, and it is one
-abbrev pub has_one_root : List (List ℕ) → Bool
-has_one_root [] = false
-has_one_root (root ∷ []) = is_some (folder_of root)
-has_one_root (root ∷ other ∷ more) = false
-
 -- its root is one of so many, and its path is one of a workspace
 abbrev pub is_good_file : ℕ → FileData → Bool
 is_good_file roots f = nat_lt f.root roots && is_workspace_path f.path
@@ -35,6 +29,6 @@ is_good_file roots f = nat_lt f.root roots && is_workspace_path f.path
 -- bad roots come before bad paths, and of these the first counts
 abbrev pub refusal : Configuration → Option ServeFault
 refusal config =
-    if has_one_root config.roots
+    if are_roots config.roots
     then option_map BadPath (position (λ f. not (is_good_file (length config.roots) f)) config.files)
     else Some BadRoot

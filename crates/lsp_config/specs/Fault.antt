@@ -1,6 +1,6 @@
 -- The numbers of the faults, and which faults can come where.
-use Rattle.std.specs.Prelude.{ℕ, ⊤}
-use Rattle.lsp_frame.specs.Counts.{HasFailed}
+use Rattle.std.specs.Prelude.{◌≢◌, ℕ, ⊤}
+use Rattle.lsp_frame.specs.Counts.{HasFailed, NoError}
 use Rattle.lsp_frame.specs.declared.counts.Counts.{Counts}
 use Rattle.piece_collector.specs.declared.fault.BoardFault.{BoardFault}
 use Rattle.piece_collector.specs.declared.fault.BoardFault.TheVariants as board
@@ -69,6 +69,10 @@ IsOfWorkers _ = ⊥
 abbrev pub ComesWhileChecking : Counts → Counts → ServeFault → Type 0
 ComesWhileChecking old new serve.Write = HasFailed old new
 ComesWhileChecking old new fault = IsOfWorkers fault
+
+-- unless the fault is this one, no error came between these counts
+abbrev pub NoErrorUnless : ServeFault → Counts → Counts → ServeFault → Type 0
+NoErrorUnless own old new fault = fault ≢ own → NoError old new
 
 -- a fault of a core or of its workers
 abbrev pub IsOfCore : ServeFault → Type 0

@@ -1,44 +1,48 @@
 // What a session is started with.
-ghost use Rattle.std.specs.Prelude.{◌≡◌, ◌≢◌, true, false, not, [], ◌∷◌, None, Some, map, string_bytes, IfOk, IfErr, OnOk};
+ghost use Rattle.std.specs.Prelude.{◌≡◌, ◌≢◌, true, false, not, length, None, Some, map, string_bytes, IfOk, IfErr, OnOk};
 ghost use Rattle.std.specs.List.{position};
-ghost use Rattle.lsp_config.specs.Configuration.{has_one_root, is_good_file};
+ghost use Rattle.std.specs.List.Sorted.{IsNonDecreasingBy, IsPermutation, IsStableByKey};
+ghost use Rattle.std.specs.Ordering.{nat_cmp};
+ghost use Rattle.lsp_config.specs.Configuration.{is_good_file};
 ghost use Rattle.lsp_workspace.specs.Disk.{disk_view};
+ghost use Rattle.workspace_uri.specs.View.{roots_texts};
 
 use crate::fault::ServeFault;
 use lsp_workspace::DiskFile;
-use std::alloc::Global;
+use std::alloc::{AllocError, Global};
 use std::marker::Model;
-use workspace_uri::{Root, is_workspace_path};
+use workspace_uri::{Roots, is_workspace_path};
 
-/// What a session is started with: one root, and files on disk under it.
+/// What a session is started with: its roots, and files on disk under them.
 #[derive(Debug, Drop)]
 pub struct Config {
-    root: Root,
+    roots: Roots,
     files: Vec<DiskFile>,
-    ghost good: { position (λ f. not (is_good_file 1 (disk_view f))) files.items ≡ None },
+    ghost good: { position (λ f. not (is_good_file (length (roots_texts roots)) (disk_view f))) files.items ≡ None },
 }
 
 impl Model for Config {
-    ghost use Rattle.std.specs.Prelude.{map, [], ◌∷◌};
-    ghost use Rattle.workspace_uri.specs.View.{root_text};
+    ghost use Rattle.std.specs.Prelude.{map};
+    ghost use Rattle.workspace_uri.specs.View.{roots_texts};
     ghost use Rattle.lsp_config.specs.Configuration.{Configuration};
     ghost use Rattle.lsp_workspace.specs.Disk.{disk_view};
 
     ghost Value = { Configuration };
 
-    ghost view = { λ c. record { roots = root_text c.root ∷ []; files = map disk_view c.files.items } };
+    ghost view = { λ c. record { roots = roots_texts c.roots; files = map disk_view c.files.items } };
 }
 
 impl Config {
-    ghost use Rattle.workspace_uri.specs.View.{root_text};
+    ghost use Rattle.workspace_uri.specs.Uri.{are_roots};
+    ghost use Rattle.workspace_uri.specs.View.{roots_texts};
     ghost use Rattle.lsp_config.specs.Configuration.{in_root_order, refusal};
 
-    /// The configuration with these roots and files. There has to be one root: a `file` URL without host, query and
-    /// fragment whose path ends with `/`. Each file names it by its number 0, and has the path of a file in a
-    /// workspace: segments joined by `/` that are not empty, `.` or `..` and hold no U+0000.
+    /// The configuration with these roots and files. There has to be at least one root, and each is a `file` URL without host, query
+    /// and fragment whose path ends with `/`. Each file names its root by its number, from 0 in the order of the roots, and has the path
+    /// of a file in a workspace: segments joined by `/` that are not empty, `.` or `..` and hold no U+0000.
     ///
-    /// The faults: `BadRoot` where there is not exactly one root, or it is none; else `BadPath` with the number of the
-    /// first file that is bad; and `Memory` where memory was refused.
+    /// The faults: `BadRoot` if there is no root, or one of them is none; else `BadPath` with the number of the first file that is bad;
+    /// and `Memory` if memory was refused.
     pub fn make(
         alloc: Global,
         roots: Vec<String>,
@@ -48,56 +52,70 @@ impl Config {
         ensures good { OnOk result (refusal (record { roots = map string_bytes roots.items; files = map disk_view files.items }) ≡ None) }
         ensures refused { IfErr result (λ fault. fault ≢ ServeFault.Memory → refusal (record { roots = map string_bytes roots.items; files = map disk_view files.items }) ≡ Some fault) }
     {
-        let root = Config::one_root(alloc, roots.as_slice())?;
-        match first_bad(files.as_slice()) {
+        let texts = roots.as_slice();
+        let parsed = Config::parse_roots(alloc, texts)?;
+        match first_bad(files.as_slice(), texts.len()) {
             Some(index) => Err(ServeFault::BadPath { index }),
-            None => Ok(Config { root, files }),
+            None => Ok(Config {
+                roots: parsed,
+                files,
+            }),
         }
     }
 
-    // The root, where there is exactly one and it is one.
-    fn one_root(alloc: Global, roots: &[String]) -> Result<Root, ServeFault>
-        ensures is { IfOk result (λ root. root_text root ∷ [] ≡ map string_bytes roots.now) }
-        ensures ok { OnOk result (has_one_root (map string_bytes roots.now) ≡ true) }
+    // The roots, if there is at least one and each is one.
+    fn parse_roots(alloc: Global, texts: &[String]) -> Result<Roots, ServeFault>
+        ensures is { IfOk result (λ roots. roots_texts roots ≡ map string_bytes texts.now) }
+        ensures ok { OnOk result (are_roots (map string_bytes texts.now) ≡ true) }
         ensures refused { IfErr result (λ fault. fault ≢ ServeFault.Memory → fault ≡ ServeFault.BadRoot) }
-        ensures err { IfErr result (λ fault. fault ≢ ServeFault.Memory → has_one_root (map string_bytes roots.now) ≡ false) }
+        ensures err { IfErr result (λ fault. fault ≢ ServeFault.Memory → are_roots (map string_bytes texts.now) ≡ false) }
     {
-        let [text] = roots else {
-            return Err(ServeFault::BadRoot);
-        };
-        match Root::parse(alloc, text.as_str()) {
-            Ok(Some(root)) => Ok(root),
+        match Roots::parse(alloc, texts) {
+            Ok(Some(roots)) => Ok(roots),
             Ok(None) => Err(ServeFault::BadRoot),
             Err(_) => Err(ServeFault::Memory),
         }
     }
 
-    /// Its root, and its files.
-    pub fn into_parts(self) -> (Root, Vec<DiskFile>)
-        ensures root { root_text result.0 ∷ [] ≡ self.roots }
-        ensures files { map disk_view result.1.items ≡ in_root_order self }
+    /// Its roots, and its files: those of the first root in their order, then those of the next. An `Err` comes only where memory was
+    /// refused.
+    pub fn into_parts(self) -> Result<(Roots, Vec<DiskFile>), AllocError>
+        ensures roots { IfOk result (λ parts. roots_texts parts.0 ≡ self.roots) }
+        ensures files { IfOk result (λ parts. map disk_view parts.1.items ≡ in_root_order self) }
     {
-        (self.root, self.files)
+        let Config { roots, mut files } = self;
+        sort_by_root(&mut files)?;
+        Ok((roots, files))
     }
 
-    /// Its files.
-    pub fn into_files(self) -> Vec<DiskFile>
-        ensures { map disk_view result.items ≡ in_root_order self }
+    /// Its files: those of the first root in their order, then those of the next. An `Err` comes only where memory was refused.
+    pub fn into_files(self) -> Result<Vec<DiskFile>, AllocError>
+        ensures { IfOk result (λ files. map disk_view files.items ≡ in_root_order self) }
     {
-        self.files
+        let (_, files) = self.into_parts()?;
+        Ok(files)
     }
 }
 
-// The number of the first file that is bad, beside one root.
-fn first_bad(files: &[DiskFile]) -> Option<usize>
-    ensures { result ≡ position (λ f. not (is_good_file 1 (disk_view f))) files.now }
+// The number of the first file that is bad beside so many roots.
+fn first_bad(files: &[DiskFile], roots: usize) -> Option<usize>
+    ensures { result ≡ position (λ f. not (is_good_file roots (disk_view f))) files.now }
 {
-    files.iter().position(|file| !is_good(file))
+    files.iter().position(|file| !is_good(file, roots))
 }
 
-// Whether a file names the one root and has the path of a file in a workspace.
-fn is_good(file: &DiskFile) -> bool
-    ensures { result ≡ is_good_file 1 (disk_view file.now) }
+// Whether a file names one of so many roots and has the path of a file in a workspace.
+fn is_good(file: &DiskFile, roots: usize) -> bool
+    ensures { result ≡ is_good_file roots (disk_view file.now) }
 {
-    file.root < 1 && is_workspace_path(file.path.as_str())
+    file.root < roots && is_workspace_path(file.path.as_str())
+}
+
+// Puts the files of each root before those of the next, and leaves those of one root in their order.
+fn sort_by_root(files: &mut Vec<DiskFile>) -> Result<(), AllocError>
+    ensures same { IsPermutation files.old.items files.new.items }
+    ensures sorted { OnOk result (IsNonDecreasingBy (λ f. f.root) files.new.items) }
+    ensures stable { IsStableByKey (λ f. f.root) nat_cmp files.old.items files.new.items }
+{
+    files.sort_by_key(|file| file.root)
 }

@@ -86,7 +86,7 @@ pub enum ServeFault {
     /// 805: a text needed a stamp after `u64::MAX`.
     #[error("no stamp is left")]
     Exhausted,
-    /// 806: there isn't exactly one root, or it is none.
+    /// 806: there is no root, or one is none.
     #[error("a root is bad")]
     BadRoot,
     /// 807: a file on disk names a root that isn't there, or its path is none of a workspace.

@@ -6,8 +6,9 @@ use Rattle.std.specs.Map.{lookup}
 use Rattle.std.specs.Ordering.{match_ordering, is_eq}
 use Rattle.std.specs.BTreeMap.{is_at}
 use Rattle.doc_text.specs.Edits.{ChangeData}
-use Rattle.lsp_workspace.specs.Files.{OpenDocument, File, Files, file_at, with_file, set_file, text_of, text_at, edited_all, opened_file, opened_at, opened_files, with_document, with_open_file, where_open, changed_file, changed_files, saved_file, saved_files}
-use Rattle.lsp_workspace.specs.Steps.{empty_file, room_for, with_room, with_document_at, with_kept_at}
+use Rattle.doc_text.specs.declared.encoding.Encoding.{Encoding}
+use Rattle.lsp_workspace.specs.Files.{OpenDocument, File, Files, empty_file, file_at, with_file, set_file, text_of, text_at, edited_all, opened_file, opened_at, opened_files, with_document, with_open_file, where_open, changed_file, changed_files, saved_file, saved_files}
+use Rattle.lsp_workspace.specs.Steps.{room_for, with_room, with_document_at, with_kept_at}
 use Rattle.lsp_workspace.specs.Texts.{open_document, is_open}
 use Rattle.lsp_workspace.proofs.TextChanges.{same_test, file_by_bytes, file-with, with-texts, stays}
 
@@ -37,7 +38,7 @@ pub new_file : (path : List ℕ) (f : File) (files : Files) → file_at path (wi
 new_file path f files = file_by_bytes path (with_file path f files) ∙ file-with path path f files ∙ ap (λ b. cond b (Some f) (lookup (bytes_eq path) files)) ((bytes_decides path path).1 refl)
 
 room-opened : (uri : List ℕ) (d : OpenDocument) (path : List ℕ) (files : Files) (o : Option File) → file_at path files ≡ o → opened_files uri d path (room_for path files o) ≡ opened_at uri d path files o
-room-opened uri d path files None found = ap (opened_at uri d path (with_file path empty_file files)) (new_file path empty_file files) ∙ set-with path empty_file (opened_file uri d None) files found
+room-opened uri d path files None found = ap (opened_at uri d path (with_file path empty_file files)) (new_file path empty_file files) ∙ set-with path empty_file (opened_file uri d empty_file) files found
 room-opened uri d path files (Some f) found = ap (opened_at uri d path files) found
 
 -- an open where room was made is the open
@@ -74,11 +75,11 @@ module _ (path : List ℕ) (files : Files) where
       option_or_else None x = x
       option_or_else (Some x) y = x
 
-  pub changed_document : (version : ℤ) (changes : List ChangeData) (d : OpenDocument) → open_document path files ≡ Some d
-      → with_document_at path (record { version = version; text = edited_all changes d.text }) files ≡ changed_files version changes path files
-  changed_document version changes d is_there =
-      same-where (λ f e. set_file path (record f { document = Some (record { version = version; text = edited_all changes d.text }) }) files) (λ f e. set_file path (changed_file version changes f e) files) (file_at path files) refl
-      (λ f e is. ap (λ x. set_file path (record f { document = Some (record { version = version; text = edited_all changes x.text }) }) files) (some-same e d (sym is ∙ is_there)))
+  pub changed_document : (version : ℤ) (encoding : Encoding) (changes : List ChangeData) (d : OpenDocument) → open_document path files ≡ Some d
+      → with_document_at path (record { version = version; text = edited_all encoding changes d.text }) files ≡ changed_files version encoding changes path files
+  changed_document version encoding changes d is_there =
+      same-where (λ f e. set_file path (record f { document = Some (record { version = version; text = edited_all encoding changes d.text }) }) files) (λ f e. set_file path (changed_file version encoding changes f e) files) (file_at path files) refl
+      (λ f e is. ap (λ x. set_file path (record f { document = Some (record { version = version; text = edited_all encoding changes x.text }) }) files) (some-same e d (sym is ∙ is_there)))
 
   pub kept_document : (d : OpenDocument) → open_document path files ≡ Some d → with_kept_at path d.text files ≡ saved_files path files
   kept_document d is_there =
@@ -101,16 +102,16 @@ kept_text path files text is = by (open_document path files) refl is
     by None open_is is = cc
     by (Some d) open_is is = let same : text ≡ d.text = cc in ap (λ t. with_kept_at path t files) same ∙ kept_document path files d open_is
 
-abbrev pub edited_document : ℤ → List ChangeData → OpenDocument → OpenDocument
-edited_document version changes d = record { version = version; text = edited_all changes d.text }
+abbrev pub edited_document : ℤ → Encoding → List ChangeData → OpenDocument → OpenDocument
+edited_document version encoding changes d = record { version = version; text = edited_all encoding changes d.text }
 
 -- the open document with these changes takes its place
-pub changed_text : (path : List ℕ) (files : Files) (version : ℤ) (changes : List ChangeData) (document : OpenDocument) → Some document ≡ option_map (edited_document version changes) (open_document path files)
-    → (is_open path files ≡ true) × (with_document_at path document files ≡ changed_files version changes path files)
-changed_text path files version changes document is = by (open_document path files) refl is
+pub changed_text : (path : List ℕ) (files : Files) (version : ℤ) (encoding : Encoding) (changes : List ChangeData) (document : OpenDocument) → Some document ≡ option_map (edited_document version encoding changes) (open_document path files)
+    → (is_open path files ≡ true) × (with_document_at path document files ≡ changed_files version encoding changes path files)
+changed_text path files version encoding changes document is = by (open_document path files) refl is
   where
-    by : (o : Option OpenDocument) → open_document path files ≡ o → Some document ≡ option_map (edited_document version changes) o → (is_open path files ≡ true) × (with_document_at path document files ≡ changed_files version changes path files)
+    by : (o : Option OpenDocument) → open_document path files ≡ o → Some document ≡ option_map (edited_document version encoding changes) o → (is_open path files ≡ true) × (with_document_at path document files ≡ changed_files version encoding changes path files)
     by None open_is is = cc
     by (Some d) open_is is =
-        let same : document ≡ edited_document version changes d = cc in
-        (ap is_some open_is, ap (λ x. with_document_at path x files) same ∙ changed_document path files version changes d open_is)
+        let same : document ≡ edited_document version encoding changes d = cc in
+        (ap is_some open_is, ap (λ x. with_document_at path x files) same ∙ changed_document path files version encoding changes d open_is)

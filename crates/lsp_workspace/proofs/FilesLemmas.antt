@@ -96,7 +96,7 @@ module _ (path : List ℕ) (files : Files) (none : file_at path files ≡ None) 
   pub nothing_kept : (text : List ℕ) → files ≡ with_kept_at path text files
   nothing_kept text = sym (ap (with_open_file (λ f d. set_file path (record f { kept = Some text }) files) files) none)
 
-pub opened_again : (path : List ℕ) (files : Files) (f : File) (uri : List ℕ) (d : OpenDocument) → file_at path files ≡ Some f → set_file path (opened_file uri d f.kept) files ≡ opened_files uri d path files
+pub opened_again : (path : List ℕ) (files : Files) (f : File) (uri : List ℕ) (d : OpenDocument) → file_at path files ≡ Some f → set_file path (opened_file uri d f) files ≡ opened_files uri d path files
 opened_again path files f uri d found = sym (ap (opened_at uri d path files) found)
 
 -- ---- a close
@@ -138,6 +138,6 @@ stayed path files middle (Some f) found e is = is ∙ stayed-file path files f f
 
 -- ---- files on disk
 
-pub with_one_more : (fs : List FileData) (f : FileData) (files : Files) → with_disk_files (fs ++ f ∷ []) files ≡ with_disk_files fs (with_file f.path (disk_file f.text) files)
+pub with_one_more : (fs : List FileData) (f : FileData) (files : Files) → with_disk_files (fs ++ f ∷ []) files ≡ with_disk_files fs (with_file f.path (disk_file f.root f.text) files)
 with_one_more [] f files = refl
-with_one_more (g ∷ fs) f files = ap (with_file g.path (disk_file g.text)) (with_one_more fs f files)
+with_one_more (g ∷ fs) f files = ap (with_file g.path (disk_file g.root g.text)) (with_one_more fs f files)

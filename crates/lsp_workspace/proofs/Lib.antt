@@ -4,6 +4,7 @@ mod FilesLemmas
 pub mod DocumentLemmas
 pub mod WorkspaceLemmas
 pub mod TextChanges
+mod RootsLemmas
 pub mod Held
 pub mod FirstEvents
 pub mod OneMore

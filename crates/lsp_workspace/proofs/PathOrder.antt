@@ -10,8 +10,9 @@ use Rattle.std.proofs.lemmas.Cmp.{nat_list_cmp_total}
 use Rattle.std.proofs.lemmas.Map.{keys-set_value}
 use Rattle.work_index.specs.Workspace.{Workspace}
 use Rattle.doc_text.specs.Edits.{ChangeData}
+use Rattle.doc_text.specs.declared.encoding.Encoding.{Encoding}
 use Rattle.lsp_workspace.specs.Disk.{FileData}
-use Rattle.lsp_workspace.specs.Files.{OpenDocument, File, Files, file_at, with_file, set_file, without_file, text_of, workspace, are_apart, AreInPathOrder, disk_file, with_disk_files, from_disk, opened_file, opened_at, opened_files, with_document, with_open_file, changed_file, changed_files, saved_file, saved_files, closed_at, closed_files}
+use Rattle.lsp_workspace.specs.Files.{OpenDocument, File, Files, empty_file, file_at, with_file, set_file, without_file, text_of, workspace, are_apart, AreInPathOrder, disk_file, with_disk_files, from_disk, opened_file, opened_at, opened_files, with_document, with_open_file, changed_file, changed_files, saved_file, saved_files, closed_at, closed_files}
 
 -- each path comes after p
 abbrev pub AreBehind : List ℕ → List (List ℕ) → Type 0
@@ -84,7 +85,7 @@ order-apart (e ∷ es) order = rw (none-behind e.0 es order.0) (order-apart es o
 
 with_disk_files-order : (fs : List FileData) (files : Files) → AreInPathOrder files → AreInPathOrder (with_disk_files fs files)
 with_disk_files-order [] files order = order
-with_disk_files-order (f ∷ fs) files order = with_file-order f.path (disk_file f.text) (with_disk_files fs files) (with_disk_files-order fs files order)
+with_disk_files-order (f ∷ fs) files order = with_file-order f.path (disk_file f.root f.text) (with_disk_files fs files) (with_disk_files-order fs files order)
 
 pub from_disk-order : (fs : List FileData) → AreInPathOrder (from_disk fs)
 unfolding IsStrictlySortedBy
@@ -93,8 +94,8 @@ from_disk-order fs = with_disk_files-order fs [] tt
 -- ---- documents
 
 opened_at-order : (uri : List ℕ) (o : OpenDocument) (path : List ℕ) (files : Files) (found : Option File) → AreInPathOrder files → AreInPathOrder (opened_at uri o path files found)
-opened_at-order uri o path files None order = with_file-order path (opened_file uri o None) files order
-opened_at-order uri o path files (Some f) order = set_file-order path (opened_file uri o f.kept) files order
+opened_at-order uri o path files None order = with_file-order path (opened_file uri o empty_file) files order
+opened_at-order uri o path files (Some f) order = set_file-order path (opened_file uri o f) files order
 
 pub opened_files-order : (uri : List ℕ) (o : OpenDocument) (path : List ℕ) (files : Files) → AreInPathOrder files → AreInPathOrder (opened_files uri o path files)
 opened_files-order uri o path files order = opened_at-order uri o path files (file_at path files) order
@@ -108,9 +109,9 @@ module _ (become : File → OpenDocument → Files) (files : Files) (order : Are
   with_open_file-order None = order
   with_open_file-order (Some f) = with_document-order f f.document
 
-pub changed_files-order : (version : ℤ) (changes : List ChangeData) (path : List ℕ) (files : Files) → AreInPathOrder files → AreInPathOrder (changed_files version changes path files)
-changed_files-order version changes path files order =
-    with_open_file-order (λ f d. set_file path (changed_file version changes f d) files) files order (λ f d. set_file-order path (changed_file version changes f d) files order) (file_at path files)
+pub changed_files-order : (version : ℤ) (encoding : Encoding) (changes : List ChangeData) (path : List ℕ) (files : Files) → AreInPathOrder files → AreInPathOrder (changed_files version encoding changes path files)
+changed_files-order version encoding changes path files order =
+    with_open_file-order (λ f d. set_file path (changed_file version encoding changes f d) files) files order (λ f d. set_file-order path (changed_file version encoding changes f d) files order) (file_at path files)
 
 pub saved_files-order : (path : List ℕ) (files : Files) → AreInPathOrder files → AreInPathOrder (saved_files path files)
 saved_files-order path files order = with_open_file-order (λ f d. set_file path (saved_file f d) files) files order (λ f d. set_file-order path (saved_file f d) files order) (file_at path files)

@@ -9,7 +9,7 @@ use Rattle.std.specs.List.Sorted.{IsStrictlySortedBy}
 use Rattle.std.proofs.lemmas.Cmp.{nat_list_eq_equiv}
 use Rattle.std.proofs.lemmas.Map.{lookup-set_value}
 use Rattle.std.proofs.lemmas.Map.Text.{is_eq-slice_cmp}
-use Rattle.lsp_workspace.specs.Files.{OpenDocument, File, Files, file_at, with_file, set_file, without_file, text_of, text_at, AreInPathOrder, opened_file, opened_at, with_document, with_open_file, changed_file, saved_file, closed_at}
+use Rattle.lsp_workspace.specs.Files.{OpenDocument, File, Files, empty_file, file_at, with_file, set_file, without_file, text_of, text_at, AreInPathOrder, opened_file, opened_at, with_document, with_open_file, changed_file, saved_file, closed_at}
 use Rattle.lsp_workspace.specs.Texts.{TextsChangeAt, TextsChangeAtOnePath}
 use Rattle.lsp_workspace.proofs.PathOrder.{AreBehind}
 
@@ -28,7 +28,7 @@ symm p q = nat_list_eq_equiv.symm p q
 
 -- ---- a file in the place of another
 
-file-set : (path q : List ℕ) (f g : File) (files : Files) → file_at path files ≡ Some g → file_at q (set_file path f files) ≡ cond (bytes_eq path q) (Some f) (file_at q files)
+pub file-set : (path q : List ℕ) (f g : File) (files : Files) → file_at path files ≡ Some g → file_at q (set_file path f files) ≡ cond (bytes_eq path q) (Some f) (file_at q files)
 file-set path q f g files found =
     let there : IsSome (lookup (bytes_eq path) files) = subst IsSome (sym found ∙ file_by_bytes path files) refl in
     file_by_bytes q (set_file path f files)
@@ -92,7 +92,7 @@ remove-cond path q e es false here all rest = by (bytes_eq q e.0) refl
         sym (ap (λ d. cond d None (Some e.1)) other)
     by false c = rest
 
-file-without : (path q : List ℕ) (files : Files) → AreInPathOrder files → lookup (bytes_eq q) (remove_entry (bytes_eq path) files) ≡ cond (bytes_eq path q) None (lookup (bytes_eq q) files)
+pub file-without : (path q : List ℕ) (files : Files) → AreInPathOrder files → lookup (bytes_eq q) (remove_entry (bytes_eq path) files) ≡ cond (bytes_eq path q) None (lookup (bytes_eq q) files)
 unfolding IsStrictlySortedBy
 file-without path q [] order = by (bytes_eq path q)
   where
@@ -137,8 +137,8 @@ stays path files q = by (bytes_eq path q) refl
 -- ---- documents
 
 opened-texts : (uri : List ℕ) (d : OpenDocument) (path : List ℕ) (files : Files) (o : Option File) → file_at path files ≡ o → TextsChangeAt path (Some d.text) files (opened_at uri d path files o)
-opened-texts uri d path files None found = with-texts path (opened_file uri d None) files
-opened-texts uri d path files (Some f) found = set-texts path (opened_file uri d f.kept) f files found
+opened-texts uri d path files None found = with-texts path (opened_file uri d empty_file) files
+opened-texts uri d path files (Some f) found = set-texts path (opened_file uri d f) f files found
 
 abbrev OwnTextsChange : List ℕ → Files → Files → Type 0
 OwnTextsChange path old new = TextsChangeAt path (text_at path new) old new
@@ -171,8 +171,8 @@ module _ (path : List ℕ) (files : Files) where
 pub texts_change : TextsChangeAtOnePath
 texts_change = record {
   opened = λ uri d path files. opened-texts uri d path files (file_at path files) refl;
-  changed = λ version changes path files. where_open-texts path files (λ f d. set_file path (changed_file version changes f d) files) (file_at path files) refl
-      (λ f d found is. by_own path _ files (set_file path (changed_file version changes f d) files) (set-texts path (changed_file version changes f d) f files found));
+  changed = λ version encoding changes path files. where_open-texts path files (λ f d. set_file path (changed_file version encoding changes f d) files) (file_at path files) refl
+      (λ f d found is. by_own path _ files (set_file path (changed_file version encoding changes f d) files) (set-texts path (changed_file version encoding changes f d) f files found));
   saved = λ path files q. saved-texts path files (file_at path files) refl q;
   closed = λ path files order. where_open-texts path files (λ f d. closed_at path files f f.kept) (file_at path files) refl
       (λ f d found is. closed-texts path files f f.kept order found);

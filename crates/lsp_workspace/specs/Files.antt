@@ -8,18 +8,24 @@ use Rattle.std.specs.List.Sorted.{IsStrictlySortedBy}
 use Rattle.std.specs.Map.{keys_of, lookup, set_value, remove_entry}
 use Rattle.std.specs.BTreeMap.{insert_entry, is_at}
 use Rattle.doc_text.specs.Edits.{ChangeData, replaced}
-use Rattle.doc_text.specs.declared.encoding.Encoding.TheVariants.{Utf16}
+use Rattle.doc_text.specs.declared.encoding.Encoding.{Encoding}
 use Rattle.lsp_workspace.specs.Disk.{FileData}
 
 pub record OpenDocument : Type 0 where
   pub version : ℤ
   pub text : List ℕ
 
--- the document that is open, the text that is kept for the path, and the URI of the last open
+-- the document that is open, the text that is kept for the path, the URI of the last open, and the number of the root under which
+-- the file was found on disk
 pub record File : Type 0 where
   pub document : Option OpenDocument
   pub kept : Option (List ℕ)
   pub uri : Option (List ℕ)
+  pub root : Option ℕ
+
+-- a file without a text
+abbrev pub empty_file : File
+empty_file = record { document = None; kept = None; uri = None; root = None }
 
 -- files by their paths, in the order of the paths' bytes
 abbrev pub Files : Type 0
@@ -27,6 +33,10 @@ Files = List (List ℕ × File)
 
 abbrev pub file_at : List ℕ → Files → Option File
 file_at path files = lookup (is_at (slice_cmp nat_cmp path)) files
+
+-- the number of the root under which the file at a path was found on disk
+abbrev pub root_at : Files → List ℕ → Option ℕ
+root_at files path = option_and_then (λ f. f.root) (file_at path files)
 
 -- a new file in its place
 abbrev pub with_file : List ℕ → File → Files → Files
@@ -66,27 +76,27 @@ TextsAreOfTheWorkspace = (files : Files) → are_apart files ≡ true → HasTex
 
 -- ---- files on disk
 
-abbrev pub disk_file : List ℕ → File
-disk_file text = record { document = None; kept = Some text; uri = None }
+abbrev pub disk_file : ℕ → List ℕ → File
+disk_file root text = record { document = None; kept = Some text; uri = None; root = Some root }
 
 -- the files with those of a list put among them, of which the earlier counts where two have one path
 abbrev pub with_disk_files : List FileData → Files → Files
 with_disk_files [] files = files
-with_disk_files (f ∷ fs) files = with_file f.path (disk_file f.text) (with_disk_files fs files)
+with_disk_files (f ∷ fs) files = with_file f.path (disk_file f.root f.text) (with_disk_files fs files)
 
 abbrev pub from_disk : List FileData → Files
 from_disk fs = with_disk_files fs []
 
 -- ---- documents
 
-abbrev pub opened_file : List ℕ → OpenDocument → Option (List ℕ) → File
-opened_file uri d kept = record { document = Some d; kept = kept; uri = Some uri }
+abbrev pub opened_file : List ℕ → OpenDocument → File → File
+opened_file uri d f = record f { document = Some d; uri = Some uri }
 
 abbrev pub opened_at : List ℕ → OpenDocument → List ℕ → Files → Option File → Files
-opened_at uri d path files None = with_file path (opened_file uri d None) files
-opened_at uri d path files (Some f) = set_file path (opened_file uri d f.kept) files
+opened_at uri d path files None = with_file path (opened_file uri d empty_file) files
+opened_at uri d path files (Some f) = set_file path (opened_file uri d f) files
 
--- an open under a URI, which replaces a document that is open; the kept text stays
+-- an open under a URI, which replaces a document that is open; the kept text and the root stay
 abbrev pub opened_files : List ℕ → OpenDocument → List ℕ → Files → Files
 opened_files uri d path files = opened_at uri d path files (file_at path files)
 
@@ -102,16 +112,16 @@ with_open_file become files (Some f) = with_document become files f f.document
 abbrev pub where_open : (File → OpenDocument → Files) → List ℕ → Files → Files
 where_open become path files = with_open_file become files (file_at path files)
 
--- a text after some changes, in order, each at places of the text that those before it leave; characters count in UTF-16 units
-abbrev pub edited_all : List ChangeData → List ℕ → List ℕ
-edited_all changes text = fold (λ t c. replaced Utf16 c.range t c.text) text changes
+-- a text after some changes, in order, each at places of the text that those before it leave; characters count in the encoding's units
+abbrev pub edited_all : Encoding → List ChangeData → List ℕ → List ℕ
+edited_all encoding changes text = fold (λ t c. replaced encoding c.range t c.text) text changes
 
-abbrev pub changed_file : ℤ → List ChangeData → File → OpenDocument → File
-changed_file version changes f d = record f { document = Some (record { version = version; text = edited_all changes d.text }) }
+abbrev pub changed_file : ℤ → Encoding → List ChangeData → File → OpenDocument → File
+changed_file version encoding changes f d = record f { document = Some (record { version = version; text = edited_all encoding changes d.text }) }
 
 -- changes of an open document, which takes their version whatever its own is
-abbrev pub changed_files : ℤ → List ChangeData → List ℕ → Files → Files
-changed_files version changes path files = where_open (λ f d. set_file path (changed_file version changes f d) files) path files
+abbrev pub changed_files : ℤ → Encoding → List ChangeData → List ℕ → Files → Files
+changed_files version encoding changes path files = where_open (λ f d. set_file path (changed_file version encoding changes f d) files) path files
 
 abbrev pub saved_file : File → OpenDocument → File
 saved_file f d = record f { kept = Some d.text }
@@ -141,7 +151,7 @@ KeepsPathOrder become = (files : Files) → AreInPathOrder files → AreInPathOr
 pub record FilesStayInPathOrder : Type 0 where
   pub begun : (fs : List FileData) → AreInPathOrder (from_disk fs)
   pub opened : (uri : List ℕ) (d : OpenDocument) (path : List ℕ) → KeepsPathOrder (opened_files uri d path)
-  pub changed : (version : ℤ) (changes : List ChangeData) (path : List ℕ) → KeepsPathOrder (changed_files version changes path)
+  pub changed : (version : ℤ) (encoding : Encoding) (changes : List ChangeData) (path : List ℕ) → KeepsPathOrder (changed_files version encoding changes path)
   pub saved : (path : List ℕ) → KeepsPathOrder (saved_files path)
   pub closed : (path : List ℕ) → KeepsPathOrder (closed_files path)
 

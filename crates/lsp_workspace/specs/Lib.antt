@@ -3,4 +3,5 @@ pub mod Files
 pub mod View
 pub mod Steps
 pub mod Texts
+pub mod Roots
 pub mod Kept

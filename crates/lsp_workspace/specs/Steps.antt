@@ -1,10 +1,6 @@
 -- What the private steps of files promise each other.
 use Rattle.std.specs.Prelude.{ℕ, List, Bool, false, ◌&&◌, Option, Some, None, is_some, is_none}
-use Rattle.lsp_workspace.specs.Files.{OpenDocument, File, Files, file_at, with_file, set_file, where_open}
-
--- a file without a text
-abbrev pub empty_file : File
-empty_file = record { document = None; kept = None; uri = None }
+use Rattle.lsp_workspace.specs.Files.{OpenDocument, File, Files, empty_file, file_at, with_file, set_file, where_open}
 
 abbrev pub room_for : List ℕ → Files → Option File → Files
 room_for path files None = with_file path empty_file files

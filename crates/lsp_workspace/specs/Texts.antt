@@ -2,6 +2,7 @@
 use Rattle.std.specs.Prelude.{◌≡◌, ℕ, ℤ, List, [], ◌∷◌, Bool, if◌then◌else◌, Option, Some, None, is_some, option_and_then, fold, bytes_eq}
 use Rattle.std.specs.Map.{update}
 use Rattle.doc_text.specs.Edits.{ChangeData}
+use Rattle.doc_text.specs.declared.encoding.Encoding.{Encoding}
 use Rattle.piece_collector.specs.Events.{Event, SetText, Remove}
 use Rattle.piece_collector.specs.Views.{BoardView, known_text}
 use Rattle.work_index.specs.Workspace.{Workspace}
@@ -44,6 +45,7 @@ TextsChangeAt path text old new = (q : List ℕ) → text_at q new ≡ update by
 -- an open sets a text, changes and a close may, and a save changes none
 pub record TextsChangeAtOnePath : Type 0 where
   pub opened : (uri : List ℕ) (d : OpenDocument) (path : List ℕ) (files : Files) → TextsChangeAt path (Some d.text) files (opened_files uri d path files)
-  pub changed : (version : ℤ) (changes : List ChangeData) (path : List ℕ) (files : Files) → TextsChangeAt path (text_at path (changed_files version changes path files)) files (changed_files version changes path files)
+  pub changed : (version : ℤ) (encoding : Encoding) (changes : List ChangeData) (path : List ℕ) (files : Files)
+      → TextsChangeAt path (text_at path (changed_files version encoding changes path files)) files (changed_files version encoding changes path files)
   pub saved : (path : List ℕ) (files : Files) (q : List ℕ) → text_at q (saved_files path files) ≡ text_at q files
   pub closed : (path : List ℕ) (files : Files) → AreInPathOrder files → TextsChangeAt path (text_at path (closed_files path files)) files (closed_files path files)

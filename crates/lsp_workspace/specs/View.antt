@@ -10,7 +10,7 @@ abbrev pub document_view : Document → OpenDocument
 document_view d = record { version = d.version; text = d.text }
 
 abbrev pub file_view : FileEntry → File
-file_view f = record { document = option_map document_view f.document; kept = f.kept; uri = option_map string_bytes f.uri }
+file_view f = record { document = option_map document_view f.document; kept = f.kept; uri = option_map string_bytes f.uri; root = f.root }
 
 abbrev pub entry_view : String Global × FileEntry → List ℕ × File
 entry_view e = (string_bytes e.0, file_view e.1)

@@ -27,7 +27,9 @@ pub struct Document {
 pub struct Edits {
     /// The version that the document has then.
     pub version: i64,
-    /// The changes in order, each at places of the text that those before it leave; characters count in UTF-16 units.
+    /// In which units the characters of the changes' positions count.
+    pub encoding: Encoding,
+    /// The changes in order, each at places of the text that those before it leave.
     pub changes: Vec<Change>,
 }
 
@@ -40,6 +42,8 @@ pub struct FileEntry {
     pub kept: Option<SharedText>,
     /// The URI of the last open.
     pub uri: Option<String>,
+    /// The number of the root under which the file was found on disk at the start.
+    pub root: Option<usize>,
 }
 
 /// The files by their paths.
@@ -99,12 +103,13 @@ fn put(files: &mut Files, path: String, file: FileEntry) -> Result<(), AllocErro
 
 // Puts a file on disk under its path, in the place of one that is there.
 fn put_disk_file(alloc: Global, files: &mut Files, file: DiskFile) -> Result<(), AllocError>
-    ensures { OnOk result (files_view files.new.entries ≡ with_file (string_bytes file.path) (disk_file (string_bytes file.text)) (files_view files.old.entries)) }
+    ensures { OnOk result (files_view files.new.entries ≡ with_file (string_bytes file.path) (disk_file file.root (string_bytes file.text)) (files_view files.old.entries)) }
 {
     let entry = FileEntry {
         document: None,
         kept: Some(SharedText::shared(alloc, file.text)?),
         uri: None,
+        root: Some(file.root),
     };
     put(files, file.path, entry)
 }
@@ -165,6 +170,7 @@ pub fn make_room(alloc: Global, files: &mut Files, path: &str) -> Result<(), All
         document: None,
         kept: None,
         uri: None,
+        root: None,
     };
     put(files, String::from_str(alloc, path)?, entry)
 }
@@ -183,7 +189,7 @@ pub fn open(files: &mut Files, path: &str, uri: String, document: Document)
 
 // Opens a document of a file in the place of one that is open.
 fn reopen(file: &mut FileEntry, uri: String, document: Document)
-    ensures { file_view file.new ≡ opened_file (string_bytes uri) (document_view document) (file_view file.old).kept }
+    ensures { file_view file.new ≡ opened_file (string_bytes uri) (document_view document) (file_view file.old) }
 {
     file.document = Some(document);
     file.uri = Some(uri);
@@ -224,23 +230,23 @@ pub fn edited(
     edits: Edits,
 ) -> Result<Option<Document>, AllocError>
     ensures { IfOk result (λ document. option_map document_view document
-        ≡ option_map (λ d. record { version = edits.version; text = edited_all (map change_view edits.changes.items) d.text }) (open_document path.now (files_view files.now.entries))) }
+        ≡ option_map (λ d. record { version = edits.version; text = edited_all edits.encoding (map change_view edits.changes.items) d.text }) (open_document path.now (files_view files.now.entries))) }
 {
     let Some(text) = open_text(alloc, files, path)? else {
         return Ok(None);
     };
     let mut text = text;
-    edit(&mut text, edits.changes)?;
+    edit(&mut text, edits.encoding, edits.changes)?;
     let version = edits.version;
     Ok(Some(Document { version, text }))
 }
 
 // Applies the changes in order.
-fn edit(text: &mut Text, changes: Vec<Change>) -> Result<(), AllocError>
-    ensures { OnOk result (text.new ≡ edited_all (map change_view changes.items) text.old) }
+fn edit(text: &mut Text, encoding: Encoding, changes: Vec<Change>) -> Result<(), AllocError>
+    ensures { OnOk result (text.new ≡ edited_all encoding (map change_view changes.items) text.old) }
 {
     'changes: for change in changes {
-        text.apply(change, Encoding::Utf16)?;
+        text.apply(change, encoding)?;
     }
     Ok(())
 }

@@ -1,5 +1,6 @@
 // What the definitions of files say, beside what the code meets.
 ghost use Rattle.lsp_workspace.specs.Files.{TextsAreOfTheWorkspace, FilesStayInPathOrder, FilesInPathOrderAreApart};
+ghost use Rattle.lsp_workspace.specs.Roots.{RootsStay, FoundFilesStayKept};
 ghost use Rattle.lsp_workspace.specs.Texts.{TextsChangeAtOnePath};
 
 /// A law. Of files that have different paths the text at a path is that of the workspace's file there: what a request
@@ -23,4 +24,12 @@ pub fn files_in_path_order_are_apart()
 /// text, and a save changes none.
 pub fn documents_change_one_text()
     ensures { TextsChangeAtOnePath }
+{}
+
+/// A law. At the start the root of a path is that of the first file on disk there, and it stays: an open, changes and a save of a
+/// document change the root of no path, and a close doesn't if each file that was found under a root has a kept text. Files from disk have
+/// one, and an open, changes, a save and a close leave them one.
+pub fn roots_stay()
+    ensures roots { RootsStay }
+    ensures kept { FoundFilesStayKept }
 {}

@@ -157,7 +157,7 @@ impl Workspace {
     /// Makes these edits in the document that is open at a path, and gives it their version. Where none is open, nothing changes.
     /// Refused as [`open`](Workspace::open) is.
     pub fn change(&mut self, path: &str, edits: Edits) -> Result<(), BoardFault>
-        ensures files { OnOk result (self.new.files ≡ changed_files edits.version (map change_view edits.changes.items) path.now self.old.files) }
+        ensures files { OnOk result (self.new.files ≡ changed_files edits.version edits.encoding (map change_view edits.changes.items) path.now self.old.files) }
         ensures board { OnOk result ((opening : ℕ) (events : List Event) → IsAfter opening self.old.board events → IsAfter opening self.new.board (events_at path.now self.old.files self.new.files ++ events)) }
 
         // No stamp is left only where the last one was given.

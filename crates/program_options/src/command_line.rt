@@ -44,12 +44,23 @@ fn are_absolute(paths: &[&str]) -> bool
     paths.iter().all(|path| is_absolute(path))
 }
 
-// The folders that are given.
-fn given_dirs<'a>(alloc: Global, given: &ArgMatches<'a>) -> Result<Vec<&'a str>, AllocError> {
-    let mut dirs = Vec::new(alloc);
-    for dir in given.get_strs("root").unwrap_or(&[]) {
+// Adds the folders that an option gives, in their order.
+fn add_given<'a>(
+    dirs: &mut Vec<&'a str>,
+    given: &ArgMatches<'a>,
+    option: &str,
+) -> Result<(), AllocError> {
+    for dir in given.get_strs(option).unwrap_or(&[]) {
         dirs.push(*dir)?;
     }
+    Ok(())
+}
+
+// The folders that are given: that of `--root`, then those of `--proto-path`.
+fn given_dirs<'a>(alloc: Global, given: &ArgMatches<'a>) -> Result<Vec<&'a str>, AllocError> {
+    let mut dirs = Vec::new(alloc);
+    add_given(&mut dirs, given, "root")?;
+    add_given(&mut dirs, given, "proto-path")?;
     Ok(dirs)
 }
 
@@ -140,7 +151,7 @@ fn error_of(program: &mut Command<'_>, refusal: Refusal) -> Result<Error, AllocE
         Refusal::NoCommand => program.error(ErrorKind::MissingSubcommand, "a command is missing"),
         Refusal::RelativeFolder => program.error(
             ErrorKind::ValueValidation,
-            "the folder of '--root <DIR>' has to begin with '/'",
+            "each folder of '--root <DIR>' and '--proto-path <DIR>' has to begin with '/'",
         ),
         Refusal::SignedNumber => program.error(
             ErrorKind::ValueValidation,
@@ -152,7 +163,7 @@ fn error_of(program: &mut Command<'_>, refusal: Refusal) -> Result<Error, AllocE
 /// What the words ask for, the program's name first. The commands are `serve` and `check`.
 ///
 /// A wrong command line is an error whose text says what to do, and so is a call for help, whose text is the help:
-/// `exit_code` and `use_stderr` of the error tell them apart. Each option may be given once.
+/// `exit_code` and `use_stderr` of the error tell them apart. Each option but `--proto-path` may be given once.
 pub fn options<'a>(alloc: Global, words: &'a [String]) -> Result<Options<'a>, Error>
     ensures workers { IfOk result (λ options. (1 ≤ options.workers) × (options.workers ≤ 64)) }
     // The folders of `serve` are told by their whole paths.

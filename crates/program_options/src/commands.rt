@@ -9,20 +9,24 @@ use std::alloc::{AllocError, Global};
 const VERSION: &str = "1 (rattle-kit-13f logic dac8208d650f15bf)";
 
 // How the program is called. Each message on a wrong command line shows it.
-const USAGE: &str = "protols serve [--root DIR] [--workers N] [--stdio] [--clientProcessId ID]
-       protols check [--root DIR] [--workers N]";
+const USAGE: &str = "\
+protols serve [--root DIR] [--proto-path DIR]... [--workers N]
+                     [--stdio] [--clientProcessId ID]
+       protols check [--root DIR] [--proto-path DIR]... [--workers N]";
 
-const SERVE_USAGE: &str =
-    "protols serve [--root DIR] [--workers N] [--stdio] [--clientProcessId ID]";
+const SERVE_USAGE: &str = "\
+protols serve [--root DIR] [--proto-path DIR]... [--workers N]
+                     [--stdio] [--clientProcessId ID]";
 
-const CHECK_USAGE: &str = "protols check [--root DIR] [--workers N]";
+const CHECK_USAGE: &str = "protols check [--root DIR] [--proto-path DIR]... [--workers N]";
 
 const PROGRAM_HELP: &str = "\
 Example, for an editor whose .proto files lie in /home/ann/protos:
   protols serve --stdio --root /home/ann/protos
 
-Example, for a build that checks its .proto files:
-  protols check --root protos
+Example, for a build that checks its .proto files, some of which import files
+of /usr/include, as google/protobuf/any.proto:
+  protols check --root protos --proto-path /usr/include
 
 `protols serve --help` and `protols check --help` say what each option means.
 
@@ -32,7 +36,7 @@ Exit status:
   1  the editor sent `exit` without `shutdown`, the input ended, or an error
      was found in the files
   2  the command line is wrong
-  3  the folder can't be read (`protols: folder` on standard error), or the
+  3  a folder can't be read (`protols: folder` on standard error), or the
      input shows a bad frame or something failed (`protols: fault` and its number)";
 
 const SERVE_HELP: &str = "\
@@ -40,29 +44,51 @@ An editor starts this command and talks to it by the Language Server Protocol,
 over standard input and output.
 
 Example, for an editor whose .proto files lie in /home/ann/protos:
-  protols serve --stdio --root /home/ann/protos";
+  protols serve --stdio --root /home/ann/protos
+
+Example, where some of them import files of /usr/include too, as
+google/protobuf/any.proto:
+  protols serve --stdio --root /home/ann/protos --proto-path /usr/include";
 
 const ROOT_HELP: &str = "\
 The folder of the .proto files: they are read at the start, those of{n}\
 its subfolders too, and imports name them by their paths below it.{n}\
 DIR begins with `/`. Names that begin with `.` and symbolic links are{n}\
-skipped [default: none; no file is read, and paths begin at `/`]";
+skipped [default: none; without `--proto-path` too, no file is read,{n}\
+and paths begin at `/`]";
+
+const PROTO_PATH_HELP: &str = "\
+A further folder of .proto files, which are read in the same way. The{n}\
+option may be given again. An import names a file of any folder: of{n}\
+two files with the same path, the one of the folder that is given{n}\
+first, `--root` before all. DIR begins with `/` [default: none]";
 
 const CHECK_HELP: &str = "\
 Each fault is a line on standard output, as
   shop/order.proto:7:3: 401 unresolved name
-with the path below the folder, the line and the column from 1 (columns in
+with the path below its folder, the line and the column from 1 (columns in
 UTF-16 units), the number of the fault and what it says. The lines come by
 path. The exit status is 1 where a fault is an error: all are but 317, a file
 that isn't proto3.
 
 Example, for a build whose .proto files lie in protos:
-  protols check --root protos";
+  protols check --root protos
+
+Example, where some of them import files of /usr/include too, as
+google/protobuf/any.proto:
+  protols check --root protos --proto-path /usr/include";
 
 const CHECK_ROOT_HELP: &str = "\
 The folder of the .proto files: they are read with those of its{n}\
 subfolders, and imports name them by their paths below it. Names{n}\
-that begin with `.` and symbolic links are skipped [default: .]";
+that begin with `.` and symbolic links are skipped [default: .{n}\
+without `--proto-path`, else none]";
+
+const CHECK_PROTO_PATH_HELP: &str = "\
+A further folder of .proto files, which are read and checked in the{n}\
+same way. The option may be given again. An import names a file of{n}\
+any folder: of two files with the same path, the one of the folder{n}\
+that is given first, `--root` before all [default: none]";
 
 const WORKERS_HELP: &str = "\
 How many threads work on the files, from 1 to 64. The output is the{n}\
@@ -76,12 +102,21 @@ const CLIENT_HELP: &str = "\
 The number of the editor's process; any text is taken. Editors pass{n}\
 it; it changes nothing [default: none]";
 
-// The option that names a folder.
+// The option that names the first folder.
 fn root_option<'a>(alloc: Global, help: &'a str) -> Arg<'a> {
     Arg::new(alloc, "root")
         .long("root")
         .value_name("DIR")
         .action(ArgAction::Set)
+        .help(help)
+}
+
+// The option that names a further folder each time it is given.
+fn proto_path_option<'a>(alloc: Global, help: &'a str) -> Arg<'a> {
+    Arg::new(alloc, "proto-path")
+        .long("proto-path")
+        .value_name("DIR")
+        .action(ArgAction::Append)
         .help(help)
 }
 
@@ -124,6 +159,7 @@ fn plain_serve<'a>(alloc: Global) -> Command<'a> {
 // `protols serve`, with its options.
 fn serve_command<'a>(alloc: Global) -> Result<Command<'a>, AllocError> {
     let serve = plain_serve(alloc).arg(root_option(alloc, ROOT_HELP))?;
+    let serve = serve.arg(proto_path_option(alloc, PROTO_PATH_HELP))?;
     let serve = serve.arg(workers_option(alloc))?;
     let serve = serve.arg(stdio_option(alloc))?;
     serve.arg(client_option(alloc))
@@ -132,7 +168,7 @@ fn serve_command<'a>(alloc: Global) -> Result<Command<'a>, AllocError> {
 // `protols check`, without its options.
 fn plain_check<'a>(alloc: Global) -> Command<'a> {
     Command::new(alloc, "check")
-        .about("Check a folder of .proto files and list what is wrong in them")
+        .about("Check folders of .proto files and list what is wrong in them")
         .override_usage(CHECK_USAGE)
         .after_help(CHECK_HELP)
 }
@@ -140,6 +176,7 @@ fn plain_check<'a>(alloc: Global) -> Command<'a> {
 // `protols check`, with its options.
 fn check_command<'a>(alloc: Global) -> Result<Command<'a>, AllocError> {
     let check = plain_check(alloc).arg(root_option(alloc, CHECK_ROOT_HELP))?;
+    let check = check.arg(proto_path_option(alloc, CHECK_PROTO_PATH_HELP))?;
     check.arg(workers_option(alloc))
 }
 

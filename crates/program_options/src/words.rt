@@ -5,7 +5,8 @@
 pub struct Options<'a> {
     /// Whether the command is `check`; else it is `serve`.
     pub check: bool,
-    /// The folders that are given by `--root`, in their order.
+    /// The folders that are given: that of `--root` if there is one, then those of `--proto-path` in their order. Some may
+    /// be the same, or lie in one another.
     pub dirs: Vec<&'a str>,
     /// How many workers there are, from 1 to 64.
     pub workers: u8,

@@ -1,37 +1,45 @@
-// Why a folder can't be read.
+// Why folders can't be read.
 
 use std::alloc::{AllocError, AllocFailed};
 use std::io;
 use thiserror::Error;
 
-/// Why a folder wasn't read.
+/// Why no folder was read. `dir` is the path of the one where it was met, as it was given.
 #[derive(Debug, Drop, Error)]
-pub enum FolderFault {
+pub enum FolderFault<'d> {
     /// The folder itself can't be listed.
-    #[error("can't be listed: {error}")]
+    #[error("{dir}: can't be listed: {error}")]
     Unlisted {
+        /// The folder.
+        dir: &'d str,
         /// What the system says.
         error: io::Error,
     },
     /// More than 64 folders stand in one another below it.
-    #[error("more than 64 folders stand in one another")]
-    TooDeep,
-    /// It has more than 100,000 entries, those of its subfolders and those that are skipped included.
-    #[error("more than 100,000 entries")]
-    TooManyEntries,
+    #[error("{dir}: more than 64 folders stand in one another")]
+    TooDeep {
+        /// The folder.
+        dir: &'d str,
+    },
+    /// All folders together have more than 100,000 entries, those of their subfolders and those that are skipped included.
+    #[error("{dir}: more than 100,000 entries in all")]
+    TooManyEntries {
+        /// The folder that was read when there were more.
+        dir: &'d str,
+    },
     /// Memory was refused.
     #[error("out of memory")]
     Memory,
 }
 
-impl From<AllocError> for FolderFault {
-    fn from(_error: AllocError) -> FolderFault {
+impl<'d> From<AllocError> for FolderFault<'d> {
+    fn from(_error: AllocError) -> FolderFault<'d> {
         FolderFault::Memory
     }
 }
 
-impl<T: Drop> From<AllocFailed<T>> for FolderFault {
-    fn from(_error: AllocFailed<T>) -> FolderFault {
+impl<'d, T: Drop> From<AllocFailed<T>> for FolderFault<'d> {
+    fn from(_error: AllocFailed<T>) -> FolderFault<'d> {
         FolderFault::Memory
     }
 }

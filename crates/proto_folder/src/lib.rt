@@ -1,4 +1,4 @@
-//! The `.proto` files of a folder and of the folders below it, as the file system has them.
+//! The `.proto` files of folders and of the folders below them, as the file system has them.
 #![tactic(auto)]
 
 mod fault;
@@ -13,4 +13,4 @@ mod walk;
 pub use fault::FolderFault;
 pub use found::FoundFile;
 pub use reader::FolderReader;
-pub use walk::read_folder;
+pub use walk::read_folders;

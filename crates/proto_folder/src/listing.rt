@@ -10,78 +10,93 @@ use std::fs::Metadata;
 use std::io::{self, ErrorKind};
 use std::str;
 
-// How many folders may stand in one another below the root.
+// How many folders may stand in one another below a root.
 pub(crate) const MAX_DEPTH: u32 = 64;
 
-// How many entries may be listed in all, those that are skipped included.
+// How many entries may be listed in all roots together, those that are skipped included.
 pub(crate) const MAX_ENTRIES: u32 = 100_000;
 
-// What was found in folders below the folder `dir`, and what ended that, if anything did.
+// What was found in folders, and what ended that, if anything did.
 #[derive(Drop)]
 pub(crate) struct Listing<'d> {
     alloc: Global,
-    dir: &'d str,
+    // The root of the folder that was listed last; empty before the first.
+    pub(crate) dir: &'d str,
     // The files that were read.
     pub(crate) files: Vec<FoundFile>,
     // What was met since the queue took over last, to be read by any thread.
-    pub(crate) met: Vec<Met>,
+    pub(crate) met: Vec<Met<'d>>,
     pub(crate) skipped: Vec<Skipped>,
     // How many entries were met since then.
     pub(crate) entries: u32,
-    pub(crate) fault: Option<FolderFault>,
+    pub(crate) fault: Option<FolderFault<'d>>,
 }
 
-// Leaves a folder out that can't be listed; the root has to be.
-fn skip_unlisted(
-    listing: &mut Listing<'_>,
-    folder: &Folder,
+// Leaves a folder out that can't be listed; a root has to be.
+fn skip_unlisted<'d>(
+    listing: &mut Listing<'d>,
+    folder: &Folder<'d>,
     error: io::Error,
-) -> Result<(), FolderFault> {
+) -> Result<(), FolderFault<'d>> {
     if folder.depth == 0 && error.kind() != ErrorKind::OutOfMemory {
-        return Err(FolderFault::Unlisted { error });
+        return Err(FolderFault::Unlisted {
+            dir: folder.root.dir,
+            error,
+        });
     }
     skip_unread(listing, folder.path.as_str(), &error)
 }
 
 // Leaves out the entry at a path that can't be read.
-fn skip_unread(
-    listing: &mut Listing<'_>,
+fn skip_unread<'d>(
+    listing: &mut Listing<'d>,
     path: &str,
     error: &io::Error,
-) -> Result<(), FolderFault> {
+) -> Result<(), FolderFault<'d>> {
     let skipped = Skipped::unread(listing.alloc, path, error)?;
     Ok(listing.skipped.push(skipped)?)
 }
 
 // Leaves out the entry at a path for a reason.
-fn skip(listing: &mut Listing<'_>, path: &str, reason: &str) -> Result<(), FolderFault> {
+fn skip<'d>(listing: &mut Listing<'d>, path: &str, reason: &str) -> Result<(), FolderFault<'d>> {
     let skipped = Skipped::of(listing.alloc, path, reason)?;
     Ok(listing.skipped.push(skipped)?)
 }
 
 // Leaves out the entry of a folder whose name isn't UTF-8.
-fn skip_named(listing: &mut Listing<'_>, folder: &Folder, name: &[u8]) -> Result<(), FolderFault> {
+fn skip_named<'d>(
+    listing: &mut Listing<'d>,
+    folder: &Folder<'d>,
+    name: &[u8],
+) -> Result<(), FolderFault<'d>> {
     let skipped = Skipped::named(listing.alloc, folder.path.as_str(), name)?;
     Ok(listing.skipped.push(skipped)?)
 }
 
 // Keeps a folder, to be listed later.
-fn add_folder(listing: &mut Listing<'_>, holder: &Folder, path: String) -> Result<(), FolderFault> {
+fn add_folder<'d>(
+    listing: &mut Listing<'d>,
+    holder: &Folder<'d>,
+    path: String,
+) -> Result<(), FolderFault<'d>> {
     if holder.depth >= MAX_DEPTH {
-        return Err(FolderFault::TooDeep);
+        return Err(FolderFault::TooDeep {
+            dir: holder.root.dir,
+        });
     }
+    let root = holder.root;
     let depth = holder.depth + 1;
-    Ok(listing.met.push(Met::Folder(Folder { path, depth }))?)
+    Ok(listing.met.push(Met::Folder(Folder { root, path, depth }))?)
 }
 
 // Keeps what was met at a path, if it is a folder or a `.proto` file. Symbolic links aren't followed. What ends in `.proto` and is neither
 // a file nor a folder, as a pipe or a socket, can't be read.
-fn add_found(
-    listing: &mut Listing<'_>,
-    folder: &Folder,
+fn add_found<'d>(
+    listing: &mut Listing<'d>,
+    folder: &Folder<'d>,
     path: String,
     found: &Metadata,
-) -> Result<(), FolderFault> {
+) -> Result<(), FolderFault<'d>> {
     if found.is_dir() {
         return add_folder(listing, folder, path);
     }
@@ -91,19 +106,20 @@ fn add_found(
     if !found.is_file() {
         return skip(listing, path.as_str(), "neither a file nor a folder");
     }
+    let root = folder.root;
     let length = found.len();
-    Ok(listing.met.push(Met::File(MetFile { path, length }))?)
+    Ok(listing.met.push(Met::File(MetFile { root, path, length }))?)
 }
 
 // Looks at the entry of a folder that has this name.
-fn add_named<F: FolderReader>(
+fn add_named<'d, F: FolderReader>(
     reader: &F,
-    listing: &mut Listing<'_>,
-    folder: &Folder,
+    listing: &mut Listing<'d>,
+    folder: &Folder<'d>,
     name: &str,
-) -> Result<(), FolderFault> {
+) -> Result<(), FolderFault<'d>> {
     let path = path_in(listing.alloc, folder.path.as_str(), name)?;
-    let place = path_in(listing.alloc, listing.dir, path.as_str())?;
+    let place = path_in(listing.alloc, folder.root.dir, path.as_str())?;
     match reader.look_at(place.as_str()) {
         Ok(found) => add_found(listing, folder, path, &found),
         Err(error) => skip_unread(listing, path.as_str(), &error),
@@ -112,14 +128,16 @@ fn add_named<F: FolderReader>(
 
 // Counts an entry of a folder, and looks at it unless its name begins with `.`. A name that isn't UTF-8 can't be in a
 // path, so nothing more can be known of its entry.
-fn add_entry<F: FolderReader>(
+fn add_entry<'d, F: FolderReader>(
     reader: &F,
-    listing: &mut Listing<'_>,
-    folder: &Folder,
+    listing: &mut Listing<'d>,
+    folder: &Folder<'d>,
     name: &[u8],
-) -> Result<(), FolderFault> {
+) -> Result<(), FolderFault<'d>> {
     if listing.entries >= MAX_ENTRIES {
-        return Err(FolderFault::TooManyEntries);
+        return Err(FolderFault::TooManyEntries {
+            dir: folder.root.dir,
+        });
     }
     listing.entries += 1;
     if name.starts_with(b".") {
@@ -138,12 +156,12 @@ fn is_entry(name: &[u8]) -> bool {
 }
 
 // Takes the entries of a listing. The names are read as bytes, since not each of them has to be UTF-8.
-fn add_entries<F: FolderReader>(
+fn add_entries<'d, F: FolderReader>(
     reader: &F,
-    listing: &mut Listing<'_>,
-    folder: &Folder,
+    listing: &mut Listing<'d>,
+    folder: &Folder<'d>,
     names: &[u8],
-) -> Result<(), FolderFault> {
+) -> Result<(), FolderFault<'d>> {
     for name in names.split(|byte| *byte == 0) {
         if is_entry(name) {
             add_entry(reader, listing, folder, name)?;
@@ -153,13 +171,14 @@ fn add_entries<F: FolderReader>(
 }
 
 // Lists a folder.
-fn list<F: FolderReader>(
+fn list<'d, F: FolderReader>(
     reader: &F,
-    listing: &mut Listing<'_>,
-    folder: &Folder,
-) -> Result<(), FolderFault> {
-    // The root's place ends with a slash, so that a symbolic link is followed there, and only there.
-    let place = path_in(listing.alloc, listing.dir, folder.path.as_str())?;
+    listing: &mut Listing<'d>,
+    folder: &Folder<'d>,
+) -> Result<(), FolderFault<'d>> {
+    listing.dir = folder.root.dir;
+    // A root's place ends with a slash, so that a symbolic link is followed there, and only there.
+    let place = path_in(listing.alloc, folder.root.dir, folder.path.as_str())?;
     let mut names = Vec::new(listing.alloc);
     let ended = reader.add_names(place.as_str(), &mut names);
     add_entries(reader, listing, folder, names.as_slice())?;
@@ -170,27 +189,28 @@ fn list<F: FolderReader>(
 }
 
 // Reads a file. One that can't be read is left out.
-fn read<F: FolderReader>(
+fn read<'d, F: FolderReader>(
     reader: &F,
-    listing: &mut Listing<'_>,
-    file: MetFile,
-) -> Result<(), FolderFault> {
-    let MetFile { path, length } = file;
-    let place = path_in(listing.alloc, listing.dir, path.as_str())?;
+    listing: &mut Listing<'d>,
+    file: MetFile<'d>,
+) -> Result<(), FolderFault<'d>> {
+    let MetFile { root, path, length } = file;
+    let place = path_in(listing.alloc, root.dir, path.as_str())?;
     match reader.read_text(place.as_str(), length) {
         Ok(text) => {
             make_room(listing.alloc, listing.files.len());
-            Ok(listing.files.push(FoundFile { path, text })?)
+            let root = root.number;
+            Ok(listing.files.push(FoundFile { root, path, text })?)
         }
         Err(error) => skip_unread(listing, path.as_str(), &error),
     }
 }
 
-fn read_each<F: FolderReader>(
+fn read_each<'d, F: FolderReader>(
     reader: &F,
-    listing: &mut Listing<'_>,
-    met: Vec<Met>,
-) -> Result<(), FolderFault> {
+    listing: &mut Listing<'d>,
+    met: Vec<Met<'d>>,
+) -> Result<(), FolderFault<'d>> {
     for one in met {
         match one {
             Met::Folder(folder) => list(reader, listing, &folder)?,
@@ -202,10 +222,10 @@ fn read_each<F: FolderReader>(
 
 impl<'d> Listing<'d> {
     // Nothing yet.
-    pub(crate) fn new(alloc: Global, dir: &'d str) -> Listing<'d> {
+    pub(crate) fn new(alloc: Global) -> Listing<'d> {
         Listing {
             alloc,
-            dir,
+            dir: "",
             files: Vec::new(alloc),
             met: Vec::new(alloc),
             skipped: Vec::new(alloc),
@@ -215,13 +235,13 @@ impl<'d> Listing<'d> {
     }
 
     // Lists these folders and reads these files. A fault ends it.
-    pub(crate) fn read<F: FolderReader>(&mut self, reader: &F, met: Vec<Met>) {
+    pub(crate) fn read<F: FolderReader>(&mut self, reader: &F, met: Vec<Met<'d>>) {
         let ended = read_each(reader, self, met);
         self.fault = ended.err();
     }
 
     // Adds the files that another thread has read, and what it left out.
-    pub(crate) fn add(&mut self, other: Listing<'_>) -> Result<(), AllocError> {
+    pub(crate) fn add(&mut self, other: Listing<'d>) -> Result<(), AllocError> {
         let Listing {
             mut files,
             mut skipped,

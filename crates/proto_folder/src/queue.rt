@@ -1,7 +1,7 @@
-// What waits to be read below a folder, for threads that take it.
+// What waits to be read below the roots, for threads that take it.
 
 use crate::fault::FolderFault;
-use crate::found::{Folder, Met};
+use crate::found::{Folder, Met, Root};
 use crate::listing::{Listing, MAX_ENTRIES};
 use std::alloc::{AllocError, Global};
 use std::sync::{Condvar, Mutex, Wait};
@@ -10,9 +10,9 @@ use std::sync::{Condvar, Mutex, Wait};
 const MOST_TAKEN: usize = 8;
 
 #[derive(Drop)]
-struct Waiting {
+struct Waiting<'d> {
     // What was met and nobody has taken yet.
-    met: Vec<Met>,
+    met: Vec<Met<'d>>,
     // How many threads there will be.
     threads: usize,
     // How many threads read what they took, and may meet more.
@@ -20,17 +20,17 @@ struct Waiting {
     // How many entries were met.
     entries: u32,
     // What ended the walk, if anything did.
-    fault: Option<FolderFault>,
+    fault: Option<FolderFault<'d>>,
 }
 
-impl Waiting {
+impl<'d> Waiting<'d> {
     // Whether nothing can be taken now, but perhaps later.
     fn is_awaited(&self) -> bool {
         self.met.is_empty() && self.busy != 0 && self.fault.is_none()
     }
 
     // Takes the part of a thread, what was met last. `None` if nothing waits, if so much does, or if the walk has ended.
-    fn take(&mut self, enough: usize) -> Result<Option<Vec<Met>>, AllocError> {
+    fn take(&mut self, enough: usize) -> Result<Option<Vec<Met<'d>>>, AllocError> {
         let waiting = self.met.len();
         if waiting == 0 || waiting >= enough || self.fault.is_some() {
             return Ok(None);
@@ -43,41 +43,50 @@ impl Waiting {
     }
 
     // Takes over what a thread met, which isn't busy any more. An `Err` is what ends the walk: the thread's fault, or too many entries.
-    fn bring(&mut self, listing: &mut Listing<'_>) -> Result<(), FolderFault> {
+    fn bring(&mut self, listing: &mut Listing<'d>) -> Result<(), FolderFault<'d>> {
         self.busy = self.busy.saturating_sub(1);
         self.entries = self.entries.saturating_add(listing.entries);
         listing.entries = 0;
         self.met.append(&mut listing.met)?;
         match listing.fault.take() {
             Some(fault) => Err(fault),
-            None if self.entries > MAX_ENTRIES => Err(FolderFault::TooManyEntries),
+            None if self.entries > MAX_ENTRIES => {
+                Err(FolderFault::TooManyEntries { dir: listing.dir })
+            }
             None => Ok(()),
         }
     }
 
     // Ends the walk. The first fault stays.
-    fn end(&mut self, fault: FolderFault) {
+    fn end(&mut self, fault: FolderFault<'d>) {
         if self.fault.is_none() {
             self.fault = Some(fault);
         }
     }
 }
 
-// What was met below a folder and isn't read yet.
+// What was met below the roots and isn't read yet.
 #[derive(Drop)]
-pub(crate) struct Queue {
-    waiting: Mutex<Waiting>,
+pub(crate) struct Queue<'d> {
+    waiting: Mutex<Waiting<'d>>,
     changed: Condvar,
 }
 
-impl Queue {
-    // The folder itself, to be listed, for so many threads.
-    pub(crate) fn of_root(alloc: Global, threads: usize) -> Result<Queue, AllocError> {
-        let mut met = Vec::new(alloc);
-        met.push(Met::Folder(Folder {
-            path: String::new(alloc),
-            depth: 0,
-        }))?;
+impl<'d> Queue<'d> {
+    // The roots themselves, to be listed, for so many threads.
+    pub(crate) fn of_roots(
+        alloc: Global,
+        dirs: &[&'d str],
+        threads: usize,
+    ) -> Result<Queue<'d>, AllocError> {
+        let mut met = Vec::with_capacity(alloc, dirs.len())?;
+        for (number, dir) in dirs.iter().enumerate() {
+            met.push(Met::Folder(Folder {
+                root: Root { number, dir },
+                path: String::new(alloc),
+                depth: 0,
+            }))?;
+        }
         Ok(Queue {
             waiting: Mutex::new(Waiting {
                 met,
@@ -97,7 +106,7 @@ impl Queue {
     }
 
     // Takes some of what waits, unless so much does. If nothing does, but another thread may meet more, it waits for that.
-    pub(crate) fn take<R: Wait>(&self, rt: &R, enough: usize) -> Option<Vec<Met>> {
+    pub(crate) fn take<R: Wait>(&self, rt: &R, enough: usize) -> Option<Vec<Met<'d>>> {
         let mut waiting = self
             .changed
             .wait_while(rt, self.waiting.lock(rt), |it| it.is_awaited());
@@ -112,7 +121,7 @@ impl Queue {
     }
 
     // Takes over what a thread met while it read what it took.
-    pub(crate) fn bring<R: Wait>(&self, rt: &R, listing: &mut Listing<'_>) {
+    pub(crate) fn bring<R: Wait>(&self, rt: &R, listing: &mut Listing<'d>) {
         let mut waiting = self.waiting.lock(rt);
         if let Err(fault) = waiting.bring(listing) {
             waiting.end(fault);
@@ -122,7 +131,7 @@ impl Queue {
     }
 
     // What ended the walk, if anything did.
-    pub(crate) fn into_fault(self) -> Option<FolderFault> {
+    pub(crate) fn into_fault(self) -> Option<FolderFault<'d>> {
         self.waiting.into_inner().fault
     }
 }

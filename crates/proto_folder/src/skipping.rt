@@ -1,10 +1,9 @@
 // What is left out. Standard error says so; where it is closed that changes nothing.
 
-use crate::fault::FolderFault;
 use std::alloc::{AllocError, Global};
 use std::io::{self, ErrorKind};
 
-// An entry that is left out: its path below the folder, and why.
+// An entry that is left out: its path below its root, and why.
 #[derive(Drop)]
 pub(crate) struct Skipped {
     path: String,
@@ -35,9 +34,9 @@ impl Skipped {
         alloc: Global,
         path: &str,
         error: &io::Error,
-    ) -> Result<Skipped, FolderFault> {
+    ) -> Result<Skipped, AllocError> {
         if error.kind() == ErrorKind::OutOfMemory {
-            return Err(FolderFault::Memory);
+            return Err(AllocError);
         }
         Ok(Skipped {
             path: String::from_str(alloc, path)?,

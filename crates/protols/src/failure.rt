@@ -7,18 +7,17 @@ use std::alloc::AllocError;
 // Why the program ended before its session or its check did.
 #[derive(Debug, Drop)]
 pub(crate) enum Failure<'d> {
-    // The folder at this path can't be read.
-    Folder { dir: &'d str, fault: FolderFault },
+    // A folder can't be read.
+    Folder(FolderFault<'d>),
     // The fault with this number.
     Fault(u32),
 }
 
-impl<'d> Failure<'d> {
-    // What it means that the folder at a path wasn't read.
-    pub(crate) fn of_folder(dir: &'d str, fault: FolderFault) -> Failure<'d> {
+impl<'d> From<FolderFault<'d>> for Failure<'d> {
+    fn from(fault: FolderFault<'d>) -> Failure<'d> {
         match fault {
             FolderFault::Memory => Failure::from(ServeFault::Memory),
-            fault => Failure::Folder { dir, fault },
+            fault => Failure::Folder(fault),
         }
     }
 }

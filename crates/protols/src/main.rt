@@ -1,5 +1,5 @@
 //! `protols`, a language server and checker for proto3: `protols serve` serves an editor on standard input and output,
-//! `protols check` lists what is wrong in a folder of files.
+//! `protols check` lists what is wrong in folders of files.
 #![tactic(auto)]
 
 mod failure;
@@ -23,8 +23,9 @@ use std::thread::Threads;
 
 const NOT_UTF8: &str = "error: a word of the command line isn't UTF-8
 
-Usage: protols serve [--root DIR] [--workers N] [--stdio] [--clientProcessId ID]
-       protols check [--root DIR] [--workers N]
+Usage: protols serve [--root DIR] [--proto-path DIR]... [--workers N]
+                     [--stdio] [--clientProcessId ID]
+       protols check [--root DIR] [--proto-path DIR]... [--workers N]
 
 For more information, try '--help'.";
 
@@ -92,13 +93,12 @@ fn check_with<R: Threads + Wait + Clone + Send + Drop + Print + AllocGlobal + 's
     check(rt, alloc, &mut writer, &gate, config, usize::from(workers))
 }
 
-// Checks the files of the folder. With no folder it is the current one.
+// Checks the files of these folders, or of the current one if there are none.
 fn check_files<
     'd,
     R: Threads + Wait + Clone + Send + Drop + FolderReader + Print + Eprint + AllocGlobal + 'static,
 >(rt: &R, dirs: &[&'d str], workers: u8) -> Result<bool, Failure<'d>> {
-    let dir = dirs.first().copied().unwrap_or(".");
-    let config = files_of(rt, dir, workers)?;
+    let config = files_of(rt, dirs, workers)?;
     Ok(check_with(rt, config, workers)?)
 }
 

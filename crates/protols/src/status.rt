@@ -12,17 +12,17 @@ pub(crate) fn fail(rt: &impl Eprint, fault: u32) -> ExitCode {
     ExitCode::from(3)
 }
 
-// Says that the folder at a path can't be read, and why.
-fn fail_folder(rt: &impl Eprint, dir: &str, fault: &FolderFault) -> ExitCode {
+// Says that a folder can't be read, which and why.
+fn fail_folder(rt: &impl Eprint, fault: &FolderFault<'_>) -> ExitCode {
     let _told = eprintln!(rt; "protols: folder");
-    let _explained = eprintln!(rt; "protols: folder {dir}: {fault}");
+    let _explained = eprintln!(rt; "protols: folder {fault}");
     ExitCode::from(3)
 }
 
 // The status that says why nothing else came of it.
 fn failed(rt: &impl Eprint, failure: &Failure<'_>) -> ExitCode {
     match failure {
-        Failure::Folder { dir, fault } => fail_folder(rt, dir, fault),
+        Failure::Folder(fault) => fail_folder(rt, fault),
         Failure::Fault(code) => fail(rt, *code),
     }
 }

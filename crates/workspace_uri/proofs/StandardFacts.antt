@@ -5,7 +5,7 @@ use Rattle.std.proofs.lemmas.Bool.{agree_below, agree_below_at}
 use Rattle.percent_encoding.specs.AsciiSet.{should_percent_encode}
 use Rattle.percent_encoding.specs.Percent.{encode_byte, percent_encode, percent_encode_byte}
 use Rattle.workspace_uri.specs.Uri.{is_kept, escaped_byte, escaped}
-use Rattle.workspace_uri.specs.declared.root.TheConstants.{ESCAPED}
+use Rattle.workspace_uri.specs.declared.url_text.TheConstants.{ESCAPED}
 
 escaped_below : agree_below (should_percent_encode ESCAPED) (λ b. not (is_kept b)) 256 ≡ true
 unfolding should_percent_encode

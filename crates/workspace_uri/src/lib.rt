@@ -1,11 +1,16 @@
 //! The files of a workspace by their paths and by the URIs of an editor.
 //!
-//! A [`Root`] is the folder that a workspace stands in. It gives a URI's document its path, in the workspace or
-//! outside it, and a file of the workspace its URI. Nothing here looks at a disk.
+//! The [`Roots`] are the folders that a workspace stands in. They tell where a URI's document is, below one of them or
+//! outside, and give a file of the workspace its URI. Nothing here looks at a disk.
 #![tactic(auto)]
 
 mod path;
 mod root;
+mod roots;
+mod uri_place;
+mod url_text;
 
 pub use path::is_workspace_path;
-pub use root::{Root, escape_path};
+pub use roots::Roots;
+pub use uri_place::UriPlace;
+pub use url_text::escape_path;

@@ -7,4 +7,4 @@ use Rattle.lsp_workspace.specs.Disk.{disk_view}
 use Rattle.lsp_config.proofs.config.first_bad.Goals as goal
 
 pub returns : goal.returns
-returns c = position_from_yields_List (λ f. not (is_good_file 1 (disk_view f))) _ _ c.position.result c.position.ensures.ran (YieldsList-from_slice _ c.iter.ensures.rest) (λ x b q k. search (rules, tests))
+returns c = position_from_yields_List (λ f. not (is_good_file c.args.roots (disk_view f))) _ _ c.position.result c.position.ensures.ran (YieldsList-from_slice _ c.iter.ensures.rest) (λ x b q k. search (rules, tests))

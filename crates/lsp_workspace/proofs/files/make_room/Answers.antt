@@ -1,6 +1,5 @@
 use Rattle.std.proofs.Common.{◌≡◌, None, ap, sym, subst, ◌∙◌}
-use Rattle.lsp_workspace.specs.Files.{AreInPathOrder, text_at, file_at, with_file}
-use Rattle.lsp_workspace.specs.Steps.{empty_file}
+use Rattle.lsp_workspace.specs.Files.{AreInPathOrder, empty_file, text_at, file_at, with_file}
 use Rattle.lsp_workspace.specs.View.{file_view, files_view}
 use Rattle.lsp_workspace.proofs.DocumentLemmas.{room_texts}
 use Rattle.lsp_workspace.proofs.Keeps.{none_of, either}

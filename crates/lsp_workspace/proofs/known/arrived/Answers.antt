@@ -1,5 +1,4 @@
-use Rattle.std.proofs.Common.{◌≡◌, ◌∙◌, sym, subst, Option, Some, rules}
-use Rattle.lsp_workspace.specs.declared.known.Known.{Known}
+use Rattle.std.proofs.Common.{◌≡◌, Some, rules}
 use Rattle.lsp_workspace.proofs.OneMore.{arrived_piece}
 use Rattle.lsp_workspace.proofs.known.arrived.Goals as goal
 

@@ -1,4 +1,4 @@
-use Rattle.std.proofs.Common.{List, ℕ, ◌≡◌, ◌∙◌, sym, subst}
+use Rattle.std.proofs.Common.{List, ℕ, ◌∙◌, sym, subst}
 use Rattle.work_index.specs.Arrivals.{NoneImports}
 use Rattle.work_index.specs.Workspace.{AnalysisData}
 use Rattle.lsp_workspace.proofs.OneMore.{none_of_none}

@@ -1,6 +1,5 @@
 use Rattle.std.proofs.Common.{◌≡◌, ◌∙◌, ap, sym, subst}
 use Rattle.lsp_workspace.specs.Files.{AreInPathOrder, text_at, saved_files}
-use Rattle.lsp_workspace.specs.Steps.{with_kept_at}
 use Rattle.lsp_workspace.specs.View.{files_view}
 use Rattle.lsp_workspace.proofs.DocumentLemmas.{kept_text}
 use Rattle.lsp_workspace.proofs.Keeps.{keeps_same}

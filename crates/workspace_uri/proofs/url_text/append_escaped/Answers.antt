@@ -1,7 +1,7 @@
 use Rattle.std.proofs.Common.{rules, ◌<◌, arith}
 use Rattle.std.proofs.lemmas.List.Elements.{All-from_get_or}
 use Rattle.workspace_uri.proofs.StandardFacts.{encoded}
-use Rattle.workspace_uri.proofs.root.append_escaped.Goals as goal
+use Rattle.workspace_uri.proofs.url_text.append_escaped.Goals as goal
 
 pub returns : goal.returns
 returns c =
