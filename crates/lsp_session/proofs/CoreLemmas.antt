@@ -1,6 +1,6 @@
 -- A core against the session of the messages that it was given.
-use Rattle.std.proofs.Common.{◌≡◌, ℕ, zero, suc, ◌+◌, ◌-◌, ◌<◌, ◌≤◌, List, [], ◌∷◌, ◌++◌, Bool, true, false, map, length, replicate, fold, take, drop, get_or, refl, sym, ap, ap₂, subst, ◌∙◌, arith, append_assoc, append-nil, length-drop, length-append, Option, Some, None, Result, Ok, Err, ⊎_elim, inl, inr}
-use Rattle.std.proofs.lemmas.List.{append_cancel_left, drop_all, take_all, take-append-le, take_more, length-map}
+use Rattle.std.proofs.Common.{◌≡◌, ℕ, zero, suc, ◌+◌, ◌-◌, ◌<◌, ◌≤◌, List, [], ◌∷◌, ◌++◌, Bool, true, false, map, length, fold, take, drop, get_or, refl, sym, ap, ap₂, subst, ◌∙◌, arith, append_assoc, append-nil, length-drop, length-append, Option, Some, None, Result, Ok, Err, ⊎_elim, inl, inr}
+use Rattle.std.proofs.lemmas.List.{append_cancel_left, take_all, take-append-le, drop-append-le, length-map, map-append}
 use Rattle.std.proofs.lemmas.List.Sums.{fold-append}
 use Rattle.std.specs.Option.{option_to_list}
 use Rattle.serde_json.specs.Written.{compact_text}
@@ -17,20 +17,21 @@ use Rattle.lsp_rpc.specs.Message.{MessageData, notification, message_of}
 use Rattle.lsp_rpc.specs.Params.{opened_of, changed_of}
 use Rattle.lsp_rpc.specs.declared.method.Method.{Method}
 use Rattle.lsp_rpc.specs.declared.method.Method.TheVariants.{DidOpen, DidChange, DidClose}
-use Rattle.workspace_uri.specs.Uri.{path_of}
 use Rattle.work_index.specs.declared.done.Done.{Done}
 use Rattle.work_index.specs.declared.done.Done.TheVariants as job
 use Rattle.lsp_workspace.specs.Files.{Files, text_at, workspace}
 use Rattle.work_index.specs.Workspace.{Workspace}
 use Rattle.lsp_workspace.specs.Texts.{text_event, event_at, is_open, events_at}
 use Rattle.lsp_config.specs.Configuration.{Configuration, files_of}
-use Rattle.lsp_session.specs.Core.{Event, Arrive, Process, Give, Offer, Fail, messages, processed, done, waiting, next_body, state_after, board_events, MayProcess, IsSettled, CoreState, IsAfter, Processes, Advances}
+use Rattle.lsp_session.specs.Core.{Event, Arrive, Advance, Give, Offer, Fail, messages, processed, has_begun, begun, done, waiting, next_body, state_after, beginning, pending_after, board_events, MayBegin, MayFinish, IsLegal, IsSettled, CoreState, IsAfter, Replied, Steps, Advances}
 use Rattle.lsp_session.specs.Run.{event_of}
-use Rattle.lsp_session.specs.Session.{State, start, turn, path_in, next, session}
-use Rattle.lsp_session.specs.Steps.{right_work, with_round, with_rounds, IsWorked, HasWorked, Knows, Awaits, WorksOn, Progresses, replies_to}
-use Rattle.lsp_session.specs.Working.{events_for_path, events_by_method, events_in_phase, events_of, board_events_of, waits}
+use Rattle.lsp_session.specs.Session.{State, Pending, start, turn, path_of, path_in, replies_of, replies_to, waits, next, session}
+use Rattle.lsp_session.specs.Steps.{unprocessed, right_work, with_round, with_rounds, IsWorked, HasWorked, Knows, Awaits, WorksOn, Progresses, replies_after}
+use Rattle.lsp_session.specs.Working.{events_for_path, events_by_method, events_in_phase, events_of, board_events_of}
 use Rattle.lsp_session.specs.declared.phase.Phase.{Phase}
 use Rattle.lsp_session.specs.declared.phase.Phase.TheVariants.{Running}
+use Rattle.lsp_session.specs.declared.step.Step.{Step}
+use Rattle.lsp_session.specs.declared.step.Step.TheVariants.{Begin, Finish}
 
 -- ---- what a clause says only of a good result
 
@@ -55,7 +56,7 @@ session-append config xs ys = fold-append next _ xs ys
 pub session-snoc : (config : Configuration) (bodies : List (List ℕ)) (body : List ℕ) → session config (bodies ++ body ∷ []) ≡ next (session config bodies) body
 session-snoc config bodies body = session-append config bodies (body ∷ [])
 
--- ---- one message more, and one message less to process
+-- ---- lists of messages
 
 -- what is behind the messages that are processed
 split : (bodies : List (List ℕ)) (n : ℕ) → n < length bodies → drop n bodies ≡ get_or bodies n [] ∷ drop (suc n) bodies
@@ -63,97 +64,221 @@ split [] n there = absurd (omega (arith, there))
 split (body ∷ bodies) zero there = refl
 split (body ∷ bodies) (suc n) there = split bodies n (omega (arith, there))
 
-pub waiting-first : (h : List Event) → processed h < length (messages h) → map message_of (waiting h) ≡ message_of (next_body h) ∷ map message_of (drop (suc (processed h)) (messages h))
-waiting-first h there = ap (map message_of) (split (messages h) (processed h) there)
+take-more : (bodies : List (List ℕ)) (n : ℕ) → n < length bodies → take (suc n) bodies ≡ take n bodies ++ get_or bodies n [] ∷ []
+take-more [] n there = absurd (omega (arith, there))
+take-more (body ∷ bodies) zero there = refl
+take-more (body ∷ bodies) (suc n) there = ap (λ l. body ∷ l) (take-more bodies n (omega (arith, there)))
 
-some-waiting : (n : ℕ) (bodies : List (List ℕ)) (m : MessageData) (ms : List MessageData) → map message_of (drop n bodies) ≡ m ∷ ms → n < length bodies
-some-waiting n [] m ms some = let none : map message_of (drop n []) ≡ [] = ap (map message_of) (drop_all n [] (omega arith)) in let no : [] ≡ m ∷ ms = sym none ∙ some in cc
-some-waiting zero (body ∷ bodies) m ms some = omega arith
-some-waiting (suc n) (body ∷ bodies) m ms some = let behind = some-waiting n bodies m ms some in omega (arith, behind)
+get-arrived : (bodies : List (List ℕ)) (n : ℕ) (body : List ℕ) → n < length bodies → get_or (bodies ++ body ∷ []) n [] ≡ get_or bodies n []
+get-arrived [] n body there = absurd (omega (arith, there))
+get-arrived (first ∷ bodies) zero body there = refl
+get-arrived (first ∷ bodies) (suc n) body there = get-arrived bodies n body (omega (arith, there))
 
--- the bodies of the messages that are processed, with one more
-done-more : (h : List Event) → processed h < length (messages h) → done (Process ∷ h) ≡ done h ++ next_body h ∷ []
-done-more h there = take_more (messages h) (processed h) [] there
+-- ---- how many have begun
 
-pub session-more : (config : Configuration) (h : List Event) → processed h < length (messages h) → session config (done (Process ∷ h)) ≡ next (session config (done h)) (next_body h)
-session-more config h there = ap (session config) (done-more h there) ∙ session-snoc config (done h) (next_body h)
+begun-idle : (h : List Event) → has_begun h ≡ false → begun h ≡ processed h
+begun-idle h idle = rw idle refl
+
+pub begun-more : (h : List Event) → has_begun h ≡ true → begun h ≡ suc (processed h)
+begun-more h more = rw more refl
 
 module _ (o : ℕ) (config : Configuration) where
-  -- no message is queued where all are processed
-  pub settled-none : (core : CoreState) (h : List Event) → IsAfter o config core h → ¬ (0 < length core.queue) → IsSettled o config h
-  settled-none core h after none =
-      let queued : length core.queue ≡ length (messages h) - processed h = ap length after.queue ∙ length-map (waiting h) message_of ∙ length-drop (processed h) (messages h) in
-      inl (omega (arith, after.known, queued, none))
+  -- all that have begun are there
+  pub known : (h : List Event) → IsLegal o config h → begun h ≤ length (messages h)
+  known [] legal = omega arith
+  known (Arrive body ∷ h) legal = let before = known h legal in omega (arith, before, length-append (messages h) (body ∷ []))
+  known (Advance Begin ∷ h) legal = let may = legal.0 in omega (arith, may.there)
+  known (Advance Finish ∷ h) legal = let may = legal.0 in let before = known h legal.1 in omega (arith, before, begun-more h may.begun)
+  known (Give ∷ h) legal = known h legal
+  known (Offer path stamp text ∷ h) legal = known h legal
+  known (Fail path stamp ∷ h) legal = known h legal
 
-  -- the first that is queued is the first that isn't processed
-  pub first_there : (core : CoreState) (h : List Event) (m : MessageData) (ms : List MessageData) → IsAfter o config core h → core.queue ≡ m ∷ ms → processed h < length (messages h)
-  first_there core h m ms after some = some-waiting (processed h) (messages h) m ms (sym after.queue ∙ some)
+  pub there-begun : (h : List Event) → IsLegal o config h → has_begun h ≡ true → processed h < length (messages h)
+  there-begun h legal more = let all = known h legal in omega (arith, all, begun-more h more)
 
-  pub first_is : (core : CoreState) (h : List Event) (m : MessageData) (ms : List MessageData) → IsAfter o config core h → core.queue ≡ m ∷ ms → m ≡ message_of (next_body h)
-  first_is core h m ms after some =
-      let both : m ∷ ms ≡ message_of (next_body h) ∷ map message_of (drop (suc (processed h)) (messages h)) = sym some ∙ after.queue ∙ waiting-first h (first_there core h m ms after some) in
-      cc
+  processed-at-most : (h : List Event) (b : Bool) → IsLegal o config h → has_begun h ≡ b → processed h ≤ length (messages h)
+  processed-at-most h true legal is = let there = there-begun h legal is in omega (arith, there)
+  processed-at-most h false legal is = let all = known h legal in omega (arith, all, begun-idle h is)
 
-  pub others_are : (core : CoreState) (h : List Event) (m : MessageData) (ms : List MessageData) → IsAfter o config core h → core.queue ≡ m ∷ ms → ms ≡ map message_of (waiting (Process ∷ h))
-  others_are core h m ms after some =
-      let both : m ∷ ms ≡ message_of (next_body h) ∷ map message_of (drop (suc (processed h)) (messages h)) = sym some ∙ after.queue ∙ waiting-first h (first_there core h m ms after some) in
-      let same : ms ≡ map message_of (drop (suc (processed h)) (messages h)) = cc in
-      let count : suc (processed h) ≡ processed h + 1 = omega arith in
-      same ∙ ap (λ n. map message_of (drop n (messages h))) count
+  pub processed-known : (h : List Event) → IsLegal o config h → processed h ≤ length (messages h)
+  processed-known h legal = processed-at-most h (has_begun h) legal refl
 
-  -- it waits where the state says so
-  pub waits_is : (core : CoreState) (h : List Event) (m : MessageData) (ms : List MessageData) → IsAfter o config core h → core.queue ≡ m ∷ ms → waits core.state m ≡ waits (state_after config h) (message_of (next_body h))
-  waits_is core h m ms after some = ap (λ s. waits s m) after.state ∙ ap (waits (state_after config h)) (first_is core h m ms after some)
+-- ---- the states of the session
 
-  -- it is held up where it waits for a board that isn't complete
-  pub settled-held : (core : CoreState) (h : List Event) (m : MessageData) (ms : List MessageData) → IsAfter o config core h → core.queue ≡ m ∷ ms → waits core.state m ≡ true → ¬ IsComplete o (board_events config h) → IsSettled o config h
-  settled-held core h m ms after some held incomplete = inr (record { there = first_there core h m ms after some; waits = sym (waits_is core h m ms after some) ∙ held; incomplete = incomplete })
+-- the bodies of the messages that are processed, with one more
+pub session-more : (config : Configuration) (h : List Event) → processed h < length (messages h) → session config (take (suc (processed h)) (messages h)) ≡ next (session config (done h)) (next_body h)
+session-more config h there = ap (session config) (take-more (messages h) (processed h) there) ∙ session-snoc config (done h) (next_body h)
 
-  -- the next message is processed
-  pub processed-next : (old new : CoreState) (h : List Event) (m : MessageData) (ms : List MessageData) → IsAfter o config old h → MayProcess o config h → old.queue ≡ m ∷ ms → new.queue ≡ ms → new.state ≡ (turn old.state m).state
-      → ((events : List work.Event) → board.IsAfter o old.board events → board.IsAfter o new.board (board_events_of old.state m ++ events)) → IsAfter o config new (Process ∷ h)
-  processed-next old new h m ms after may some queue state told_board =
-      let first : m ≡ message_of (next_body h) = first_is old h m ms after some in
-      let more = session-more config h may.there in
-      let same : board_events_of old.state m ≡ board_events_of (state_after config h) (message_of (next_body h)) = ap (λ s. board_events_of s m) after.state ∙ ap (board_events_of (state_after config h)) first in
+pub state-idle : (config : Configuration) (h : List Event) → has_begun h ≡ false → state_after config h ≡ (session config (done h)).state
+state-idle config h idle = ap (λ n. (session config (take n (messages h))).state) (begun-idle h idle)
+
+pub state-begun : (o : ℕ) (config : Configuration) (h : List Event) → IsLegal o config h → has_begun h ≡ true → state_after config h ≡ (beginning config h).state
+state-begun o config h legal more = ap (λ n. (session config (take n (messages h))).state) (begun-more h more) ∙ ap (λ r. r.state) (session-more config h (there-begun o config h legal more))
+
+-- the state that the beginning of a message leaves
+pub state-begins : (config : Configuration) (h : List Event) → processed h < length (messages h) → state_after config (Advance Begin ∷ h) ≡ (beginning config h).state
+state-begins config h there = ap (λ r. r.state) (session-more config h there)
+
+module _ (o : ℕ) (config : Configuration) where
+  -- ---- a message arrives
+
+  beginning-arrived : (h : List Event) (body : List ℕ) → processed h < length (messages h) → beginning config (Arrive body ∷ h) ≡ beginning config h
+  beginning-arrived h body there =
+      ap₂ (λ bodies first. turn (session config bodies).state (message_of first)) (take-append-le (processed h) (messages h) (body ∷ []) (omega (arith, there))) (get-arrived (messages h) (processed h) body there)
+
+  pending-arrived : (h : List Event) (body : List ℕ) (b : Bool) → IsLegal o config h → has_begun h ≡ b → pending_after config h ≡ pending_after config (Arrive body ∷ h)
+  pending-arrived h body true legal is = let same = beginning-arrived h body (there-begun o config h legal is) in rw is (ap (λ t. Some t.pending) (sym same))
+  pending-arrived h body false legal is = rw is refl
+
+  pub state-arrived : (h : List Event) (body : List ℕ) → IsLegal o config h → state_after config (Arrive body ∷ h) ≡ state_after config h
+  state-arrived h body legal = ap (λ bodies. (session config bodies).state) (take-append-le (begun h) (messages h) (body ∷ []) (known o config h legal))
+
+  waiting-arrived : (h : List Event) (body : List ℕ) → IsLegal o config h → map message_of (waiting (Arrive body ∷ h)) ≡ map message_of (waiting h) ++ message_of body ∷ []
+  waiting-arrived h body legal = ap (map message_of) (drop-append-le (begun h) (messages h) (body ∷ []) (known o config h legal)) ∙ map-append message_of (waiting h) (body ∷ [])
+
+  pub arrived : (old new : CoreState) (h : List Event) (body : List ℕ) → IsAfter o config old h → new.state ≡ old.state → new.queue ≡ old.queue ++ message_of body ∷ [] → new.pending ≡ old.pending → new.board ≡ old.board
+      → IsAfter o config new (Arrive body ∷ h)
+  arrived old new h body after state queue pending same = record {
+    legal = after.legal;
+    state = state ∙ after.state ∙ sym (state-arrived h body after.legal);
+    queue = queue ∙ ap (λ q. q ++ message_of body ∷ []) after.queue ∙ sym (waiting-arrived h body after.legal);
+    pending = pending ∙ after.pending ∙ pending-arrived h body (has_begun h) after.legal refl;
+    board = subst (λ b. board.IsAfter o b (board_events config h)) (sym same) after.board;
+  }
+
+  -- ---- the first message begins
+
+  first-is : (old : CoreState) (h : List Event) (m : MessageData) (ms : List MessageData) → IsAfter o config old h → MayBegin h → old.queue ≡ m ∷ ms → m ∷ ms ≡ message_of (next_body h) ∷ map message_of (drop (suc (processed h)) (messages h))
+  first-is old h m ms after may some =
+      sym some ∙ after.queue ∙ ap (λ n. map message_of (drop n (messages h))) (begun-idle h may.idle) ∙ ap (map message_of) (split (messages h) (processed h) may.there)
+
+  pub begins : (old new : CoreState) (h : List Event) (m : MessageData) (ms : List MessageData) → IsAfter o config old h → MayBegin h → old.queue ≡ m ∷ ms → new.queue ≡ ms → new.state ≡ (turn old.state m).state → new.pending ≡ Some (turn old.state m).pending
+      → ((events : List work.Event) → board.IsAfter o old.board events → board.IsAfter o new.board (board_events_of old.state m ++ events)) → IsAfter o config new (Advance Begin ∷ h)
+  begins old new h m ms after may some queue state pending told_board =
+      let both = first-is old h m ms after may some in
+      let first : m ≡ message_of (next_body h) = cc in
+      let others : ms ≡ map message_of (drop (suc (processed h)) (messages h)) = cc in
+      let before : old.state ≡ (session config (done h)).state = after.state ∙ state-idle config h may.idle in
+      let same : turn old.state m ≡ beginning config h = ap₂ turn before first in
+      let events : board_events_of old.state m ≡ board_events_of (session config (done h)).state (message_of (next_body h)) = ap₂ board_events_of before first in
       record {
-        known = omega (arith, may.there);
         legal = (may, after.legal);
-        state = state ∙ ap (λ s. (turn s m).state) after.state ∙ ap (λ n. (turn (state_after config h) n).state) first ∙ sym (ap (λ r. r.state) more);
-        queue = queue ∙ others_are old h m ms after some;
-        board = subst (λ events. board.IsAfter o new.board (events ++ board_events config h)) same (told_board (board_events config h) after.board);
+        state = state ∙ ap (λ t. t.state) same ∙ sym (state-begins config h may.there);
+        queue = queue ∙ others;
+        pending = pending ∙ ap (λ t. Some t.pending) same;
+        board = subst (λ es. board.IsAfter o new.board (es ++ board_events config h)) events (told_board (board_events config h) after.board);
       }
 
-  pub replied-next : (old : CoreState) (h : List Event) (m : MessageData) (ms : List MessageData) (replies : List (List ℕ)) → IsAfter o config old h → old.queue ≡ m ∷ ms → replies ≡ map compact_text (turn old.state m).replies
-      → (session config (done (Process ∷ h))).replies ≡ (session config (done h)).replies ++ replies
-  replied-next old h m ms replies after some replied =
-      let there = first_there old h m ms after some in
-      let same : map compact_text (turn old.state m).replies ≡ map compact_text (turn (state_after config h) (message_of (next_body h))).replies =
-      ap (λ s. map compact_text (turn s m).replies) after.state ∙ ap (λ n. map compact_text (turn (state_after config h) n).replies) (first_is old h m ms after some) in
-      ap (λ r. r.replies) (session-more config h there) ∙ ap (λ l. (session config (done h)).replies ++ l) (sym (replied ∙ same))
+  -- ---- it finishes
 
-  -- ---- advances
-
-  pub processes-none : (core : CoreState) (h : List Event) → IsAfter o config core h → Processes o config core h []
-  processes-none core h after = record { count = 0; is_after = after; replied = sym (append-nil (session config (done h)).replies) }
-
-  pub processes-more : (old new : CoreState) (h : List Event) (replies later all : List (List ℕ)) → (p : Processes o config old h replies) → IsAfter o config new (Process ∷ replicate p.count Process ++ h)
-      → (session config (done (Process ∷ replicate p.count Process ++ h))).replies ≡ (session config (done (replicate p.count Process ++ h))).replies ++ later → all ≡ replies ++ later → Processes o config new h all
-  processes-more old new h replies later all p after replied is = record {
-    count = suc p.count;
-    is_after = after;
-    replied = replied ∙ ap (λ l. l ++ later) p.replied ∙ append_assoc (session config (done h)).replies replies later ∙ ap (λ l. (session config (done h)).replies ++ l) (sym is);
+  pub finishes : (old new : CoreState) (h : List Event) → IsAfter o config old h → MayFinish o config h → new ≡ record old { pending = None } → IsAfter o config new (Advance Finish ∷ h)
+  finishes old new h after may is = record {
+    legal = (may, after.legal);
+    state = ap (λ c. c.state) is ∙ after.state ∙ ap (λ n. (session config (take n (messages h))).state) (begun-more h may.begun);
+    queue = ap (λ c. c.queue) is ∙ after.queue ∙ ap (λ n. map message_of (drop n (messages h))) (begun-more h may.begun);
+    pending = ap (λ c. c.pending) is;
+    board = subst (λ b. board.IsAfter o b (board_events config h)) (sym (ap (λ c. c.board) is)) after.board;
   }
+
+  some-is : (p q : Pending) → Some p ≡ Some q → p ≡ q
+  some-is p q e = cc
+
+  pub pending-is : (core : CoreState) (h : List Event) (p : Pending) → IsAfter o config core h → has_begun h ≡ true → core.pending ≡ Some p → p ≡ (beginning config h).pending
+  pending-is core h p after more some = some-is _ _ (sym some ∙ after.pending ∙ rw more refl)
+
+  pub replied-finish : (core : CoreState) (h : List Event) (p : Pending) (first old new : List (List ℕ)) → IsAfter o config core h → MayFinish o config h → core.pending ≡ Some p → new ≡ old ++ map compact_text (replies_of core.state p)
+      → Replied config h first old → Replied config (Advance Finish ∷ h) first new
+  replied-finish core h p first old new after may some is replied =
+      let left = pending-is core h p after may.begun some in
+      let said : map compact_text (replies_of core.state p) ≡ map compact_text (replies_to (session config (done h)).state (message_of (next_body h))) =
+      ap₂ (λ s q. map compact_text (replies_of s q)) (after.state ∙ state-begun o config h after.legal may.begun) left in
+      ap (λ r. r.replies) (session-more config h (there-begun o config h after.legal may.begun))
+      ∙ ap₂ (λ a b. a ++ b) replied (sym said) ∙ append_assoc first old _ ∙ ap (λ l. first ++ l) (sym is)
+
+  -- ---- which step may come
+
+  idle-by : (core : CoreState) (h : List Event) (b : Bool) → IsAfter o config core h → core.pending ≡ None → has_begun h ≡ b → has_begun h ≡ false
+  idle-by core h true after none is = let no : None ≡ Some (beginning config h).pending = sym none ∙ after.pending ∙ rw is refl in cc
+  idle-by core h false after none is = is
+
+  pub is-idle : (core : CoreState) (h : List Event) → IsAfter o config core h → core.pending ≡ None → has_begun h ≡ false
+  is-idle core h after none = idle-by core h (has_begun h) after none refl
+
+  begun-by : (core : CoreState) (h : List Event) (p : Pending) (b : Bool) → IsAfter o config core h → core.pending ≡ Some p → has_begun h ≡ b → has_begun h ≡ true
+  begun-by core h p true after some is = is
+  begun-by core h p false after some is = let no : None ≡ Some p = sym (after.pending ∙ rw is refl) ∙ some in cc
+
+  pub is-begun : (core : CoreState) (h : List Event) (p : Pending) → IsAfter o config core h → core.pending ≡ Some p → has_begun h ≡ true
+  is-begun core h p after some = begun-by core h p (has_begun h) after some refl
+
+  queued-is : (core : CoreState) (h : List Event) → IsAfter o config core h → length core.queue ≡ length (messages h) - begun h
+  queued-is core h after = ap length after.queue ∙ length-map (waiting h) message_of ∙ length-drop (begun h) (messages h)
+
+  -- no message is left where none has begun and none is queued
+  pub settled-none : (core : CoreState) (h : List Event) → IsAfter o config core h → core.pending ≡ None → length core.queue ≡ 0 → IsSettled o config h
+  settled-none core h after none empty =
+      let queued = queued-is core h after in
+      let all = known o config h after.legal in
+      inl (omega (arith, queued, empty, all, begun-idle h (is-idle core h after none)))
+
+  -- one is held up where it waits for a board that isn't complete
+  pub settled-held : (core : CoreState) (h : List Event) (p : Pending) → IsAfter o config core h → core.pending ≡ Some p → waits p ≡ true → ¬ IsComplete o (board_events config h) → IsSettled o config h
+  settled-held core h p after some wait incomplete =
+      let more = is-begun core h p after some in
+      inr (record { begun = more; waits = sym (ap waits (pending-is core h p after more some)) ∙ wait; incomplete = incomplete })
+
+  pub may-begin : (core : CoreState) (h : List Event) → IsAfter o config core h → core.pending ≡ None → 0 < length core.queue → MayBegin h
+  may-begin core h after none some =
+      let queued = queued-is core h after in
+      let idle = is-idle core h after none in
+      record { idle = idle; there = omega (arith, queued, some, begun-idle h idle) }
+
+  pub may-finish : (core : CoreState) (h : List Event) (p : Pending) → IsAfter o config core h → core.pending ≡ Some p → (waits p ≡ true → IsComplete o (board_events config h)) → MayFinish o config h
+  may-finish core h p after some ready =
+      let more = is-begun core h p after some in
+      record { begun = more; ready = λ wait. ready (ap waits (pending-is core h p after more some) ∙ wait) }
+
+  -- how many messages aren't processed
+  unprocessed-by : (core : CoreState) (h : List Event) (p : Option Pending) → IsAfter o config core h → core.pending ≡ p → unprocessed core ≡ length (messages h) - processed h
+  unprocessed-by core h None after is =
+      let queued = queued-is core h after in
+      let idle = begun-idle h (is-idle core h after is) in
+      rw is (omega (arith, queued, idle))
+  unprocessed-by core h (Some p) after is =
+      let queued = queued-is core h after in
+      let more = is-begun core h p after is in
+      let there = there-begun o config h after.legal more in
+      rw is (omega (arith, queued, begun-more h more, there))
+
+  pub unprocessed-is : (core : CoreState) (h : List Event) → IsAfter o config core h → unprocessed core ≡ length (messages h) - processed h
+  unprocessed-is core h after = unprocessed-by core h core.pending after refl
+
+  -- ---- steps
+
+  pub steps-none : (core : CoreState) (h : List Event) → IsAfter o config core h → Steps o config core h []
+  steps-none core h after = record { steps = []; is_after = after; replied = sym (append-nil (session config (done h)).replies) }
 
 -- ---- histories
 
-pub messages-processed : (n : ℕ) (h : List Event) → messages (replicate n Process ++ h) ≡ messages h
-messages-processed zero h = refl
-messages-processed (suc n) h = messages-processed n h
+pub messages-steps : (steps : List Step) (h : List Event) → messages (map Advance steps ++ h) ≡ messages h
+messages-steps [] h = refl
+messages-steps (step ∷ steps) h = messages-steps steps h
 
-pub processed-processed : (n : ℕ) (h : List Event) → processed (replicate n Process ++ h) ≡ processed h + n
-processed-processed zero h = omega arith
-processed-processed (suc n) h = let behind = processed-processed n h in omega (arith, behind)
+pub processed-steps : (steps : List Step) (h : List Event) → processed h ≤ processed (map Advance steps ++ h)
+processed-steps [] h = omega arith
+processed-steps (Begin ∷ steps) h = processed-steps steps h
+processed-steps (Finish ∷ steps) h = let behind = processed-steps steps h in omega (arith, behind)
+
+-- without a message that finishes no step may come behind one that has begun
+pub no-steps : (o : ℕ) (config : Configuration) (steps : List Step) (h : List Event) → IsLegal o config (map Advance steps ++ h) → has_begun h ≡ true → processed (map Advance steps ++ h) ≡ processed h → steps ≡ []
+no-steps o config [] h legal more same = refl
+no-steps o config (Begin ∷ steps) h legal more same =
+    let may = legal.0 in
+    let none = no-steps o config steps h legal.1 more same in
+    let idle : has_begun h ≡ false = subst (λ before. has_begun (map Advance before ++ h) ≡ false) none may.idle in
+    let no : true ≡ false = sym more ∙ idle in
+    absurd (cc (no))
+no-steps o config (Finish ∷ steps) h legal more same = let behind = processed-steps steps h in absurd (omega (arith, behind, same))
 
 -- nothing waits where all messages are processed
 pub done-all : (h : List Event) → processed h ≡ length (messages h) → done h ≡ messages h
@@ -188,8 +313,8 @@ module _ (o : ℕ) (only : OnlyJobsMakePathsOut) (events : List work.Event) (non
   told-opened old files (Some path) = told-where path files (is_open path old)
 
   told-by : (s : State) (method : Option Method) (params : Data) (files : Files) → NoneIsOut o (events_by_method s method params files ++ events)
-  told-by s (Some DidOpen) params files = told-open files (option_and_then (λ d. path_of s.roots d.uri) (opened_of params))
-  told-by s (Some DidChange) params files = told-opened s.files files (option_and_then (λ c. path_of s.roots c.document.uri) (changed_of params))
+  told-by s (Some DidOpen) params files = told-open files (option_and_then (λ d. path_of s d.uri) (opened_of params))
+  told-by s (Some DidChange) params files = told-opened s.files files (option_and_then (λ c. path_of s c.document.uri) (changed_of params))
   told-by s (Some DidClose) params files = told-opened s.files files (path_in s params)
   told-by s _ params files = none
 
@@ -201,12 +326,14 @@ module _ (o : ℕ) (only : OnlyJobsMakePathsOut) (events : List work.Event) (non
   told-none s (notification method params) files = told-in s.phase s method params files
   told-none s _ files = none
 
-pub none-out-processed : (o : ℕ) (config : Configuration) → OnlyJobsMakePathsOut → (n : ℕ) (h : List Event) → NoneIsOut o (board_events config h) → NoneIsOut o (board_events config (replicate n Process ++ h))
-none-out-processed o config only zero h none = none
-none-out-processed o config only (suc n) h none =
-    let before = replicate n Process ++ h in
+pub none-out-steps : (o : ℕ) (config : Configuration) → OnlyJobsMakePathsOut → (steps : List Step) (h : List Event) → NoneIsOut o (board_events config h) → NoneIsOut o (board_events config (map Advance steps ++ h))
+none-out-steps o config only [] h none = none
+none-out-steps o config only (Begin ∷ steps) h none =
+    let before = map Advance steps ++ h in
+    let s = (session config (done before)).state in
     let m = message_of (next_body before) in
-    told-none o only (board_events config before) (none-out-processed o config only n h none) (state_after config before) m (turn (state_after config before) m).state.files
+    told-none o only (board_events config before) (none-out-steps o config only steps h none) s m (turn s m).state.files
+none-out-steps o config only (Finish ∷ steps) h none = none-out-steps o config only steps h none
 
 -- ---- rounds of work
 
@@ -252,6 +379,9 @@ module _ (o : ℕ) (config : Configuration) where
 
   pub messages-rounds : (n : ℕ) (h : List Event) → messages (with_rounds n o config h) ≡ messages h
   messages-rounds = same-rounds messages (λ h. refl) (λ p s t h. refl)
+
+  pub begun-rounds : (n : ℕ) (h : List Event) → has_begun (with_rounds n o config h) ≡ has_begun h
+  begun-rounds = same-rounds has_begun (λ h. refl) (λ p s t h. refl)
 
   pub processed-rounds : (n : ℕ) (h : List Event) → processed (with_rounds n o config h) ≡ processed h
   processed-rounds = same-rounds processed (λ h. refl) (λ p s t h. refl)
@@ -307,8 +437,18 @@ module _ (o : ℕ) (config : Configuration) where
 pub knows-none : (config : Configuration) (core : CoreState) → IsAfter 0 config core [] → Knows config core []
 knows-none config core after = record { history = []; is_after = after; came = refl; idle = refl }
 
+-- none has begun where all are processed
+none-begun-by : (o : ℕ) (config : Configuration) (h : List Event) (b : Bool) → IsLegal o config h → processed h ≡ length (messages h) → has_begun h ≡ b → has_begun h ≡ false
+none-begun-by o config h true legal all is = let there = there-begun o config h legal is in absurd (omega (arith, there, all))
+none-begun-by o config h false legal all is = is
+
+pub none-begun : (o : ℕ) (config : Configuration) (h : List Event) → IsLegal o config h → processed h ≡ length (messages h) → has_begun h ≡ false
+none-begun o config h legal all = none-begun-by o config h (has_begun h) legal all refl
+
 pub knows-state : (config : Configuration) (core : CoreState) (bodies : List (List ℕ)) → Knows config core bodies → core.state ≡ (session config bodies).state
-knows-state config core bodies k = k.is_after.state ∙ ap (λ b. (session config b).state) (done-all k.history k.idle ∙ k.came)
+knows-state config core bodies k =
+    let h = k.history in
+    k.is_after.state ∙ state-idle config h (none-begun 0 config h k.is_after.legal k.idle) ∙ ap (λ b. (session config b).state) (done-all h k.idle ∙ k.came)
 
 -- ---- work that comes behind a history
 
@@ -352,9 +492,9 @@ done-before : (bodies : List (List ℕ)) (body : List ℕ) (h : List Event) → 
 done-before bodies body h came count = ap₂ take count came ∙ take-append-le (length bodies) bodies (body ∷ []) (omega arith) ∙ take_all (length bodies) bodies (omega arith)
 
 -- its replies
-replies-are : (config : Configuration) (bodies : List (List ℕ)) (body : List ℕ) (replies : List (List ℕ)) → (session config (bodies ++ body ∷ [])).replies ≡ (session config bodies).replies ++ replies → replies ≡ replies_to config bodies body
+replies-are : (config : Configuration) (bodies : List (List ℕ)) (body : List ℕ) (replies : List (List ℕ)) → (session config (bodies ++ body ∷ [])).replies ≡ (session config bodies).replies ++ replies → replies ≡ replies_after config bodies body
 replies-are config bodies body replies replied =
-    append_cancel_left (session config bodies).replies replies (replies_to config bodies body) (sym replied ∙ ap (λ r. r.replies) (session-snoc config bodies body))
+    append_cancel_left (session config bodies).replies replies (replies_after config bodies body) (sym replied ∙ ap (λ r. r.replies) (session-snoc config bodies body))
 
 -- an advance processed it, or it is held up
 pub progresses : (config : Configuration) (old new : CoreState) (bodies : List (List ℕ)) (body : List ℕ) (replies : List (List ℕ)) → Awaits config old bodies body → ((h : List Event) → IsAfter 0 config old h → Advances 0 config new h replies)
@@ -362,24 +502,26 @@ pub progresses : (config : Configuration) (old new : CoreState) (bodies : List (
 progresses config old new bodies body replies w advances =
     let h = w.history in
     let a = advances h w.is_after in
-    let n = a.processes.count in
-    let later = replicate n Process ++ h in
-    let came : messages later ≡ bodies ++ body ∷ [] = messages-processed n h ∙ w.came in
+    let steps = a.taken.steps in
+    let later = map Advance steps ++ h in
+    let came : messages later ≡ bodies ++ body ∷ [] = messages-steps steps h ∙ w.came in
     let size : length (messages later) ≡ length bodies + 1 = ap length came ∙ length-append bodies (body ∷ []) in
     let first : done h ≡ bodies = done-before bodies body h w.came w.count in
     ⊎_elim
     (λ all.
     let whole : done later ≡ bodies ++ body ∷ [] = done-all later all ∙ came in
     inl (
-      record { history = later; is_after = a.processes.is_after; came = came; idle = all },
-      replies-are config bodies body replies (ap (λ b. (session config b).replies) (sym whole) ∙ a.processes.replied ∙ ap (λ b. (session config b).replies ++ replies) first),
+      record { history = later; is_after = a.taken.is_after; came = came; idle = all },
+      replies-are config bodies body replies (ap (λ b. (session config b).replies) (sym whole) ∙ a.taken.replied ∙ ap (λ b. (session config b).replies ++ replies) first),
     ))
-    (λ held. inr (record { history = later; is_after = a.processes.is_after; came = came; count = omega (arith, held.there, size, processed-processed n h, w.count) }))
+    (λ held.
+    let there = there-begun 0 config later a.taken.is_after.legal held.begun in
+    inr (record { history = later; is_after = a.taken.is_after; came = came; count = omega (arith, there, size, processed-steps steps h, w.count) }))
     a.settled
 
 module _ (config : Configuration) (core : CoreState) (bodies : List (List ℕ)) (body : List ℕ) (replies : List (List ℕ)) where
   -- it is processed where no message waits
-  pub has-answered : Progresses config core bodies body replies → ((h : List Event) → IsAfter 0 config core h → ¬ (processed h < length (messages h))) → Knows config core (bodies ++ body ∷ []) × (replies ≡ replies_to config bodies body)
+  pub has-answered : Progresses config core bodies body replies → ((h : List Event) → IsAfter 0 config core h → ¬ (processed h < length (messages h))) → Knows config core (bodies ++ body ∷ []) × (replies ≡ replies_after config bodies body)
   has-answered (inl known) idle = known
   has-answered (inr w) idle =
       let size : length (messages w.history) ≡ length bodies + 1 = ap length w.came ∙ length-append bodies (body ∷ []) in

@@ -7,7 +7,6 @@ use Rattle.work_index.specs.declared.fault.AnalyseFault.TheVariants as analysis
 use Rattle.worker_pool.specs.declared.fault.PoolFault.{PoolFault}
 use Rattle.worker_pool.specs.declared.fault.PoolFault.TheVariants as pool
 use Rattle.lsp_config.specs.Fault.{core_fault_of, fault_of_analysis, fault_of_pool, ComesWithoutThreads, IsOfCore}
-use Rattle.lsp_config.specs.declared.fault.CoreFault.{CoreFault}
 use Rattle.lsp_config.specs.declared.fault.CoreFault.TheVariants as core
 
 -- a board asks for no thread

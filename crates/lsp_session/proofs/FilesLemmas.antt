@@ -3,16 +3,12 @@ use Rattle.std.proofs.Common.{◌≡◌, ℕ, List, [], ◌∷◌, Bool, true, f
 use Rattle.serde_json.specs.Data.{Data}
 use Rattle.lsp_rpc.specs.Message.{IdData, MessageData, parse_error, invalid_request, response, request, notification, message_of}
 use Rattle.lsp_rpc.specs.Params.{OpenedDocument, ChangedDocument, opened_of, changed_of}
-use Rattle.std.specs.Prelude.{option_and_then}
-use Rattle.lsp_rpc.specs.RequestParams.{ReferenceData, RenameData, query_of, place_of, reference_of, rename_of}
-use Rattle.lsp_session.specs.Answers.{DocumentPlaceData}
 use Rattle.lsp_rpc.specs.declared.method.Method.{Method}
 use Rattle.lsp_rpc.specs.declared.method.Method.TheVariants.{Initialize, Shutdown, Exit, DidOpen, DidChange, DidSave, DidClose, DocumentDiagnostic, WorkspaceDiagnostic, WorkspaceSymbol, Definition, References, Rename}
-use Rattle.workspace_uri.specs.Uri.{path_of}
 use Rattle.lsp_workspace.specs.Files.{OpenDocument, Files, AreInPathOrder, KeepsPathOrder, opened_files, changed_files, saved_files, closed_files}
 use Rattle.lsp_workspace.proofs.PathOrder.{from_disk-order, opened_files-order, changed_files-order, saved_files-order, closed_files-order}
 use Rattle.lsp_config.specs.Configuration.{Configuration, in_root_order}
-use Rattle.lsp_session.specs.Session.{State, Run, at_path, path_in, opened, changed, document_in, diagnosed, place_in, searched, defined, referred, referred_by, renamed, renamed_by, running_request, first_request, requested, exits, running_notification, notified, received, turn_in, start, next, session}
+use Rattle.lsp_session.specs.Session.{State, Run, at_path, path_of, path_in, opened, changed, running_request, first_request, requested, exits, running_notification, notified, received, turn_in, start, next, session}
 use Rattle.lsp_session.specs.declared.phase.Phase.{Phase}
 use Rattle.lsp_session.specs.declared.phase.Phase.TheVariants.{Uninitialized, Running, Shut, Exited}
 
@@ -29,59 +25,31 @@ opened-order : (s : State) (o : Option OpenedDocument) → IsOrdered s → IsOrd
 opened-order s None order = order
 opened-order s (Some o) order =
     let d : OpenDocument = record { version = o.version; text = o.text } in
-    at_path-order (opened_files o.uri d) (opened_files-order o.uri d) s (path_of s.roots o.uri) order
+    at_path-order (opened_files o.uri d) (opened_files-order o.uri d) s (path_of s o.uri) order
 
 changed-order : (s : State) (c : Option ChangedDocument) → IsOrdered s → IsOrdered (changed s c)
 changed-order s None order = order
-changed-order s (Some c) order = at_path-order (changed_files c.document.version c.changes) (changed_files-order c.document.version c.changes) s (path_of s.roots c.document.uri) order
+changed-order s (Some c) order = at_path-order (changed_files c.document.version s.client.encoding c.changes) (changed_files-order c.document.version s.client.encoding c.changes) s (path_of s c.document.uri) order
 
 -- ---- requests change no file
 
-diagnosed-files : (s : State) (id : IdData) (document : Option (List ℕ × List ℕ)) → (diagnosed s id document).state.files ≡ s.files
-diagnosed-files s id None = refl
-diagnosed-files s id (Some document) = refl
-
-searched-files : (s : State) (id : IdData) (query : Option (List ℕ)) → (searched s id query).state.files ≡ s.files
-searched-files s id None = refl
-searched-files s id (Some query) = refl
-
-defined-files : (s : State) (id : IdData) (at : Option DocumentPlaceData) → (defined s id at).state.files ≡ s.files
-defined-files s id None = refl
-defined-files s id (Some at) = refl
-
-referred-files : (s : State) (id : IdData) (include : Bool) (at : Option DocumentPlaceData) → (referred s id include at).state.files ≡ s.files
-referred-files s id include None = refl
-referred-files s id include (Some at) = refl
-
-referred_by-files : (s : State) (id : IdData) (r : Option ReferenceData) → (referred_by s id r).state.files ≡ s.files
-referred_by-files s id None = refl
-referred_by-files s id (Some r) = referred-files s id r.include_declaration (place_in s r.place)
-
-renamed-files : (s : State) (id : IdData) (new_name : List ℕ) (at : Option DocumentPlaceData) → (renamed s id new_name at).state.files ≡ s.files
-renamed-files s id new_name None = refl
-renamed-files s id new_name (Some at) = refl
-
-renamed_by-files : (s : State) (id : IdData) (r : Option RenameData) → (renamed_by s id r).state.files ≡ s.files
-renamed_by-files s id None = refl
-renamed_by-files s id (Some r) = renamed-files s id r.new_name (place_in s r.place)
-
 running_request-files : (s : State) (id : IdData) (method : Option Method) (params : Data) → (running_request s id method params).state.files ≡ s.files
-running_request-files s id (Some DocumentDiagnostic) params = diagnosed-files s id (document_in s params)
-running_request-files s id (Some WorkspaceSymbol) params = searched-files s id (query_of params)
-running_request-files s id (Some Definition) params = defined-files s id (option_and_then (place_in s) (place_of params))
-running_request-files s id (Some References) params = referred_by-files s id (reference_of params)
-running_request-files s id (Some Rename) params = renamed_by-files s id (rename_of params)
 running_request-files s id (Some Initialize) params = refl
 running_request-files s id (Some Shutdown) params = refl
+running_request-files s id (Some DocumentDiagnostic) params = refl
 running_request-files s id (Some WorkspaceDiagnostic) params = refl
+running_request-files s id (Some WorkspaceSymbol) params = refl
+running_request-files s id (Some Definition) params = refl
+running_request-files s id (Some References) params = refl
+running_request-files s id (Some Rename) params = refl
 running_request-files s id _ params = refl
 
-first_request-files : (s : State) (id : IdData) (method : Option Method) → (first_request s id method).state.files ≡ s.files
-first_request-files s id (Some Initialize) = refl
-first_request-files s id _ = refl
+first_request-files : (s : State) (id : IdData) (method : Option Method) (params : Data) → (first_request s id method params).state.files ≡ s.files
+first_request-files s id (Some Initialize) params = refl
+first_request-files s id _ params = refl
 
 pub requested-files : (phase : Phase) (s : State) (id : IdData) (method : Option Method) (params : Data) → (requested phase s id method params).state.files ≡ s.files
-requested-files Uninitialized s id method params = first_request-files s id method
+requested-files Uninitialized s id method params = first_request-files s id method params
 requested-files Running s id method params = running_request-files s id method params
 requested-files Shut s id method params = refl
 requested-files (Exited after_shutdown) s id method params = refl

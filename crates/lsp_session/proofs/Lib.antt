@@ -1,10 +1,6 @@
 pub mod CoreLemmas
 mod FaultLemmas
 mod RunLemmas
-mod DiagnosticsLemmas
-mod ReportsLemmas
 pub mod FilesLemmas
+mod ClientLemmas
 mod ServingLemmas
-mod AnswersLemmas
-mod KnownLemmas
-mod ByFileLemmas

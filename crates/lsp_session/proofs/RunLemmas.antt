@@ -1,14 +1,14 @@
 -- Runs of a core, event by event.
-use Rattle.std.proofs.Common.{◌≡◌, ℕ, suc, Bool, true, false, cond, ◌+◌, ◌-◌, ◌≤◌, List, [], ◌∷◌, ◌++◌, length, map, filter, replicate, refl, sym, ap, subst, ◌∙◌, arith, append-nil, append_assoc, length-append, length-drop, take, ap₂}
+use Rattle.std.proofs.Common.{◌≡◌, ℕ, suc, Bool, true, false, cond, ◌+◌, ◌≤◌, List, [], ◌∷◌, ◌++◌, length, map, filter, refl, sym, ap, subst, ◌∙◌, arith, append-nil, append_assoc, length-append, take, ap₂}
 use Rattle.piece_collector.specs.declared.verdict.Verdict.{Verdict}
-use Rattle.lsp_rpc.specs.Message.{message_of}
-use Rattle.std.proofs.lemmas.List.{length-map, take-append-le}
+use Rattle.std.proofs.lemmas.List.{take-append-le}
 use Rattle.lsp_config.specs.Configuration.{Configuration}
-use Rattle.lsp_session.specs.Core.{Event, Process, messages, processed, done, waiting, CoreState, IsAfter, Advances}
+use Rattle.lsp_session.specs.Core.{Event, Advance, messages, processed, done, CoreState, IsAfter, Advances}
 use Rattle.lsp_session.specs.Run.{Incoming, Message, Made, Failed, Work, incoming_of, is_message, verdicts_of, Comes, Follows, Runs, HasRun, HasCome, HasFollowed}
 use Rattle.lsp_session.specs.Session.{session}
+use Rattle.lsp_session.specs.Steps.{unprocessed}
 use Rattle.lsp_session.specs.declared.run.CoreEvent.{CoreEvent}
-use Rattle.lsp_session.proofs.CoreLemmas.{session-none, messages-processed, messages-rounds, processed-rounds}
+use Rattle.lsp_session.proofs.CoreLemmas.{session-none, processed-known, unprocessed-is, messages-steps, messages-rounds, processed-rounds}
 
 -- ---- one event, and then an advance
 
@@ -24,10 +24,10 @@ pub followed : (o : ℕ) (config : Configuration) (old mid new : CoreState) (e :
 followed o config old mid new e h replies later more verdicts told judged before come advances answered pushed appended =
     let a = advances come.after come.is_after in
     record {
-      next = replicate a.processes.count Process ++ come.after;
-      follows = record { after = come.after; comes = come.comes; count = a.processes.count; is = refl; legal = a.processes.is_after.legal; settled = a.settled };
-      is_after = a.processes.is_after;
-      replied = λ same. appended ∙ ap (λ l. l ++ later) (same ∙ ap (λ b. (session config b).replies) (sym (done-comes o config e h come.after come.comes before.known))) ∙ sym a.processes.replied;
+      next = map Advance a.taken.steps ++ come.after;
+      follows = record { after = come.after; comes = come.comes; steps = a.taken.steps; is = refl; legal = a.taken.is_after.legal; settled = a.settled };
+      is_after = a.taken.is_after;
+      replied = λ same. appended ∙ ap (λ l. l ++ later) (same ∙ ap (λ b. (session config b).replies) (sym (done-comes o config e h come.after come.comes (processed-known o config h before.legal)))) ∙ sym a.taken.replied;
       judged = pushed ∙ ap (λ l. verdicts ++ l) answered;
     }
 
@@ -72,16 +72,16 @@ run_more config old new es e replies more verdicts judged r f =
 -- ---- how many messages came
 
 messages-follow : (o : ℕ) (config : Configuration) (e : Incoming) (h last : List Event) → Follows o config e h last → length (messages last) ≡ length (messages h) + length (filter is_message (e ∷ []))
-messages-follow o config (Message body) h last f = ap length (ap messages f.is ∙ messages-processed f.count f.after ∙ ap messages f.comes) ∙ length-append (messages h) (body ∷ [])
-messages-follow o config (Made path stamp text) h last f = ap length (ap messages f.is ∙ messages-processed f.count f.after ∙ ap messages f.comes) ∙ plus_none (length (messages h))
+messages-follow o config (Message body) h last f = ap length (ap messages f.is ∙ messages-steps f.steps f.after ∙ ap messages f.comes) ∙ length-append (messages h) (body ∷ [])
+messages-follow o config (Made path stamp text) h last f = ap length (ap messages f.is ∙ messages-steps f.steps f.after ∙ ap messages f.comes) ∙ plus_none (length (messages h))
   where
     plus_none : (n : ℕ) → n ≡ n + 0
     plus_none n = omega arith
-messages-follow o config (Failed path stamp) h last f = ap length (ap messages f.is ∙ messages-processed f.count f.after ∙ ap messages f.comes) ∙ plus_none (length (messages h))
+messages-follow o config (Failed path stamp) h last f = ap length (ap messages f.is ∙ messages-steps f.steps f.after ∙ ap messages f.comes) ∙ plus_none (length (messages h))
   where
     plus_none : (n : ℕ) → n ≡ n + 0
     plus_none n = omega arith
-messages-follow o config Work h last f = ap length (ap messages f.is ∙ messages-processed f.count f.after ∙ ap messages f.comes.is ∙ messages-rounds o config f.comes.rounds h) ∙ plus_none (length (messages h))
+messages-follow o config Work h last f = ap length (ap messages f.is ∙ messages-steps f.steps f.after ∙ ap messages f.comes.is ∙ messages-rounds o config f.comes.rounds h) ∙ plus_none (length (messages h))
   where
     plus_none : (n : ℕ) → n ≡ n + 0
     plus_none n = omega arith
@@ -99,13 +99,14 @@ messages-run o config (e ∷ es) h last verdicts runs =
     let later = messages-run o config es runs.0 last runs.2.0 runs.2.2 in
     omega (arith, first, later, one-more e es)
 
--- those that are queued aren't processed
+-- those that are left aren't processed
 pub run_counted : (config : Configuration) (core : CoreState) (es : List Incoming) (replies : List (List ℕ)) (verdicts : List Verdict) → (r : HasRunTo config core es replies verdicts)
-    → length (filter is_message es) ≡ processed r.history + length core.queue
+    → length (filter is_message es) ≡ processed r.history + unprocessed core
 run_counted config core es replies verdicts r =
     let came = messages-run 0 config es [] r.history verdicts r.runs in
-    let queued : length core.queue ≡ length (messages r.history) - processed r.history = ap length r.is_after.queue ∙ length-map (waiting r.history) message_of ∙ length-drop (processed r.history) (messages r.history) in
-    omega (arith, came, queued, r.is_after.known)
+    let left = unprocessed-is 0 config core r.history r.is_after in
+    let known = processed-known 0 config r.history r.is_after.legal in
+    omega (arith, came, left, known)
 
 pub has_run : (config : Configuration) (core : CoreState) (es : List Incoming) (replies : List (List ℕ)) (verdicts : List Verdict) (count : ℕ) → (r : HasRunTo config core es replies verdicts) → count ≡ processed r.history → HasRun config es replies verdicts count
 has_run config core es replies verdicts count r counted = record { history = r.history; runs = r.runs; replied = r.replied; counted = counted }

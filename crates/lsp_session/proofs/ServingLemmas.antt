@@ -29,9 +29,9 @@ use Rattle.lsp_config.specs.declared.fault.CoreFault.TheVariants as core_fault
 use Rattle.lsp_config.specs.declared.fault.ServeFault.{ServeFault}
 use Rattle.lsp_config.specs.declared.fault.ServeFault.TheVariants as served
 use Rattle.lsp_session.specs.Core.{Event, CoreState, IsAfter}
-use Rattle.lsp_session.specs.Session.{State, Run, turn, turn_in, next, start, session}
+use Rattle.lsp_session.specs.Session.{State, Run, turn, turn_in, replies_of, replies_to, next, start, session}
 use Rattle.lsp_session.specs.Serving.{Calls, IsCaused, Serves, Serving, Ends, Finishes, Fails, Served, Comes, exit_in, end_by}
-use Rattle.lsp_session.specs.Steps.{Knows, WorksOn, replies_to}
+use Rattle.lsp_session.specs.Steps.{Knows, WorksOn, replies_after}
 use Rattle.lsp_session.specs.Stream.{IsExit, HasFrameCode, LeavesReader, Answered, frames_of, output, ended, ended_in, exit_of, is_exited, taken_from, behind_first, behind_frames, behind_exit}
 use Rattle.lsp_session.specs.declared.ended.Ended.{Ended}
 use Rattle.lsp_session.specs.declared.ended.Ended.TheVariants as how
@@ -77,7 +77,7 @@ taken-open : (s : State) (body : List ℕ) (later : List (List ℕ)) → is_exit
 taken-open s body later open_still = rw open_still refl
 
 pub serving-more : (config : Configuration) (a b c v w x : Option (List ℕ)) (old new : CoreState) (body : List ℕ) → Serving config a b old v w → is_exited old.state.phase ≡ false → IfSome b (λ rest. TakesFrame rest c body)
-    → ((bodies : List (List ℕ)) → Knows config old bodies → Knows config new (bodies ++ body ∷ [])) → ((bodies : List (List ℕ)) → Knows config old bodies → Appends w x (frames_of (replies_to config bodies body)))
+    → ((bodies : List (List ℕ)) → Knows config old bodies → Knows config new (bodies ++ body ∷ [])) → ((bodies : List (List ℕ)) → Knows config old bodies → Appends w x (frames_of (replies_after config bodies body)))
     → Serving config a c new v x
 serving-more config None b c v w x old new body s open_still t knows wrote = tt
 serving-more config (Some bytes) None c v w x old new body s open_still t knows wrote = absurd s
@@ -101,7 +101,7 @@ serving-more config (Some bytes) (Some rest) (Some left) v w x old new body s op
           ap (λ l. (frames l).bodies) (append_assoc s.front begin.frame behind) ∙ s.whatever (begin.frame ++ behind) ∙ ap (λ f. bodies ++ f.bodies) (frames-whole (begin.frame ++ behind) body behind (begin.whatever behind))
           ∙ sym (append_assoc bodies (body ∷ []) (frames behind).bodies);
       same_end = sym (ap (λ f. f.end) split) ∙ s.same_end;
-      wrote = rw (ap (λ r. frames_of r.replies) after ∙ flat_map-append frame_of first.replies (replies_to config bodies body)) (Appends-trans v w x (frames_of first.replies) (frames_of (replies_to config bodies body)) s.wrote (wrote bodies s.knows));
+      wrote = rw (ap (λ r. frames_of r.replies) after ∙ flat_map-append frame_of first.replies (replies_after config bodies body)) (Appends-trans v w x (frames_of first.replies) (frames_of (replies_after config bodies body)) s.wrote (wrote bodies s.knows));
       behind = same ∙ sym (ap (λ n. behind_frames n bytes) size ∙ behind_frames-snoc (length bodies) bytes ∙ ap (λ l. behind_first l (first_frame l)) (sym s.behind) ∙ ap (behind_first rest) t.first);
       taken = λ later.
           let counted : taken_from old.state (body ∷ later) ≡ suc (taken_from new.state later) = taken-open old.state body later open_still ∙ ap (λ u. suc (taken_from u later)) state in
@@ -141,7 +141,7 @@ ends_with_input phase e = (ended_in-open phase e).0
 silent-next : (r : Run) (phase : Phase) (body : List ℕ) → r.state.phase ≡ phase → is_exited phase ≡ true → next r body ≡ r
 silent-next r (Exited after_shutdown) body e h =
     let t = λ (p : Phase). turn_in p r.state (message_of body) in
-    let one : next r body ≡ record { state = r.state; replies = r.replies ++ [] } = ap (λ p. record { state = (t p).state; replies = r.replies ++ map compact_text (t p).replies }) e in
+    let one : next r body ≡ record { state = r.state; replies = r.replies ++ [] } = ap (λ p. record { state = (t p).state; replies = r.replies ++ map compact_text (replies_of (t p).state (t p).pending) }) e in
     one ∙ ap (λ l. record { state = r.state; replies = l }) (append-nil r.replies)
 silent-next r Uninitialized body e h = cc
 silent-next r Running body e h = cc
@@ -189,7 +189,7 @@ exits_at config (Some bytes) (Some rest) v w core after_shutdown s e =
 replies-more : (r : Run) (bodies : List (List ℕ)) → (more : List (List ℕ)) × ((fold next r bodies).replies ≡ r.replies ++ more)
 replies-more r [] = ([], sym (append-nil r.replies))
 replies-more r (body ∷ bodies) =
-    let here = map compact_text (turn r.state (message_of body)).replies in
+    let here = map compact_text (replies_to r.state (message_of body)) in
     let behind = replies-more (next r body) bodies in
     (here ++ behind.0, behind.1 ∙ append_assoc r.replies here behind.0)
 
@@ -208,13 +208,13 @@ stops config (Some bytes) (Some rest) v w core s =
 
 -- the writer failed within the replies to a message
 pub stops_within : (config : Configuration) (a b c v w x : Option (List ℕ)) (core : CoreState) (body : List ℕ) → Serving config a b core v w → IfSome b (λ rest. TakesFrame rest c body)
-    → ((bodies : List (List ℕ)) → Knows config core bodies → SendsPrefix w x (frames_of (replies_to config bodies body))) → IfSome a (λ bytes. SendsPrefix v x (output config bytes))
+    → ((bodies : List (List ℕ)) → Knows config core bodies → SendsPrefix w x (frames_of (replies_after config bodies body))) → IfSome a (λ bytes. SendsPrefix v x (output config bytes))
 stops_within config None b c v w x core body s t sent = tt
 stops_within config (Some bytes) None c v w x core body s t sent = absurd s
 stops_within config (Some bytes) (Some rest) c v w x core body s t sent =
     let bodies = s.bodies in
     let first = session config bodies in
-    let new = replies_to config bodies body in
+    let new = replies_after config bodies body in
     let later = (frames t.rest).bodies in
     let more = output-more config (bodies ++ body ∷ []) later in
     let all : (frames bytes).bodies ≡ (bodies ++ body ∷ []) ++ later = came s ∙ ap (λ f. bodies ++ f.bodies) t.others ∙ sym (append_assoc bodies (body ∷ []) later) in

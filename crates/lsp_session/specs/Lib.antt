@@ -1,7 +1,3 @@
-pub mod Diagnostics
-pub mod Reports
-pub mod Answers
-pub mod AnswerViews
 pub mod Session
 pub mod Working
 pub mod Stream

@@ -1,14 +1,15 @@
 -- A core over a list of events, each followed by an advance.
-use Rattle.std.specs.Prelude.{◌≡◌, ℕ, List, [], ◌∷◌, ◌++◌, Bool, true, false, replicate, string_bytes}
+use Rattle.std.specs.Prelude.{◌≡◌, ℕ, List, [], ◌∷◌, ◌++◌, Bool, true, false, map, string_bytes}
 use Rattle.piece_collector.specs.History.{answer}
 use Rattle.piece_collector.specs.Events as work
 use Rattle.piece_collector.specs.declared.verdict.Verdict.{Verdict}
 use Rattle.work_index.specs.declared.done.Done.{Done}
 use Rattle.work_index.specs.declared.done.Done.TheVariants as job
 use Rattle.lsp_config.specs.Configuration.{Configuration}
-use Rattle.lsp_session.specs.Core.{Event, Arrive, Process, Offer, Fail, processed, done, board_events, CoreState, IsAfter, IsLegal, IsSettled}
+use Rattle.lsp_session.specs.Core.{Event, Arrive, Advance, Offer, Fail, processed, done, board_events, CoreState, IsAfter, IsLegal, IsSettled}
 use Rattle.lsp_session.specs.Session.{session}
 use Rattle.lsp_session.specs.Steps.{IsWorked}
+use Rattle.lsp_session.specs.declared.step.Step.{Step}
 use Rattle.lsp_session.specs.declared.run.CoreEvent.{CoreEvent}
 use Rattle.lsp_session.specs.declared.run.CoreEvent.TheVariants as listed
 
@@ -52,12 +53,12 @@ verdicts_of opening config h (Made path stamp text) = answer opening (board_even
 verdicts_of opening config h (Failed path stamp) = answer opening (board_events config h) (work.Fail path stamp)
 verdicts_of opening config h Work = []
 
--- it came, and then as many messages were processed as could be
+-- it came, and then as many steps were taken as could be
 pub record Follows (opening : ℕ) (config : Configuration) (e : Incoming) (h next : List Event) : Type 0 where
   pub after : List Event
   pub comes : Comes opening config e h after
-  pub count : ℕ
-  pub is : next ≡ replicate count Process ++ after
+  pub steps : List Step
+  pub is : next ≡ map Advance steps ++ after
   pub legal : IsLegal opening config next
   pub settled : IsSettled opening config next
 

@@ -1,73 +1,82 @@
 -- The sequential session (Language Server Protocol 3.17): what each message changes, and what is replied to it.
-use Rattle.std.specs.Prelude.{ℕ, List, [], ◌∷◌, ◌++◌, Bool, true, false, Option, Some, None, option_and_then, option_map, map, fold}
-use Rattle.std.specs.Option.{option_to_list}
+use Rattle.std.specs.Prelude.{◌≡◌, ℕ, List, [], ◌∷◌, ◌++◌, Bool, true, false, Option, Some, None, option_and_then, option_map, map, fold}
 use Rattle.doc_text.specs.Positions.{offset_of}
-use Rattle.doc_text.specs.declared.encoding.Encoding.TheVariants.{Utf16}
 use Rattle.serde_json.specs.Data.{Data, null}
 use Rattle.serde_json.specs.Written.{compact_text}
-use Rattle.lsp_rpc.specs.Diagnostic.{report_value}
-use Rattle.lsp_rpc.specs.Workspace.{workspace_value}
+use Rattle.lsp_rpc.specs.ClientCapabilities.{ClientData, client_of, default_client}
 use Rattle.lsp_rpc.specs.Initialize.{initialize_result}
 use Rattle.lsp_rpc.specs.Message.{IdData, MessageData, parse_error, invalid_request, response, request, notification, message_of}
 use Rattle.lsp_rpc.specs.Params.{OpenedDocument, ChangedDocument, opened_of, changed_of, uri_of}
-use Rattle.lsp_rpc.specs.RequestParams.{PlaceData, ReferenceData, RenameData, query_of, place_of, reference_of, rename_of}
-use Rattle.lsp_rpc.specs.Location.{locations_or_null}
-use Rattle.lsp_rpc.specs.Symbol.{symbols_value}
+use Rattle.lsp_rpc.specs.RequestParams.{PlaceData, query_of, place_of, reference_of, rename_of}
 use Rattle.lsp_rpc.specs.Reply.{result_reply, error_reply}
 use Rattle.lsp_rpc.specs.declared.error_code.ErrorCode.{ErrorCode}
 use Rattle.lsp_rpc.specs.declared.error_code.ErrorCode.TheVariants.{ParseError, InvalidRequest, MethodNotFound, InvalidParams, ServerNotInitialized}
 use Rattle.lsp_rpc.specs.declared.method.Method.{Method}
 use Rattle.lsp_rpc.specs.declared.method.Method.TheVariants.{Initialize, Shutdown, Exit, DidOpen, DidChange, DidSave, DidClose, DocumentDiagnostic, WorkspaceDiagnostic, WorkspaceSymbol, Definition, References, Rename}
-use Rattle.workspace_uri.specs.Uri.{path_of}
+use Rattle.workspace_uri.specs.Uri as uri
 use Rattle.lsp_config.specs.Configuration.{Configuration, files_of}
-use Rattle.lsp_session.specs.Reports.{document_diagnostics, workspace_reports, ReportsAreOfDocuments}
-use Rattle.lsp_workspace.specs.Files.{Files, workspace, opened_files, changed_files, saved_files, closed_files, text_at, AreInPathOrder, HasTextsOfWorkspace}
-use Rattle.lsp_session.specs.Answers.{DocumentPlaceData, definition_at, references_at, symbols_for, edits_at, rename_reply}
+use Rattle.lsp_workspace.specs.Files.{Files, workspace, opened_files, changed_files, saved_files, closed_files, root_at, text_at, AreInPathOrder, HasTextsOfWorkspace}
+use Rattle.lsp_answers.specs.Context.{Context}
+use Rattle.lsp_answers.specs.Questions as questions
+use Rattle.lsp_answers.specs.Questions.{DocumentPlaceData, QuestionData}
+use Rattle.lsp_answers.specs.Reports.{ReportsAreOfDocuments}
 use Rattle.lsp_session.specs.declared.phase.Phase.{Phase}
 use Rattle.lsp_session.specs.declared.phase.Phase.TheVariants.{Uninitialized, Running, Shut, Exited}
 
--- the texts of the roots, how far the session has come, and the files that it knows
+-- the texts of the roots, what the client can do, how far the session has come, and the files that it knows
 pub record State : Type 0 where
   pub roots : List (List ℕ)
+  pub client : ClientData
   pub phase : Phase
   pub files : Files
 
--- what follows a message: the state, and the replies to it
+-- what is still to be answered to a message that has begun: replies that are known at once, or a question about the files that the
+-- message leaves
+pub data Pending : Type 0 where
+  Now : List Data → Pending
+  Ask : IdData → QuestionData → Pending
+
+-- what a message changes at once, and what is still to be answered to it
 pub record Turn : Type 0 where
   pub state : State
-  pub replies : List Data
+  pub pending : Pending
 
 abbrev pub silent : State → Turn
-silent s = record { state = s; replies = [] }
+silent s = record { state = s; pending = Now [] }
 
 abbrev pub answer : State → IdData → Data → Turn
-answer s id result = record { state = s; replies = result_reply id result ∷ [] }
+answer s id result = record { state = s; pending = Now (result_reply id result ∷ []) }
 
 abbrev pub refuse : State → Option IdData → ErrorCode → Turn
-refuse s id code = record { state = s; replies = error_reply id code ∷ [] }
+refuse s id code = record { state = s; pending = Now (error_reply id code ∷ []) }
 
 abbrev pub enter : Phase → State → State
 enter phase s = record s { phase = phase }
 
 -- ---- documents
 
+-- the path of the document with a URI, which may depend on the root under which a file was found; what is no URL has none
+abbrev pub path_of : State → List ℕ → Option (List ℕ)
+path_of s text = uri.path_of (root_at s.files) s.roots text
+
+-- the path of the document that the params name
+abbrev pub path_in : State → Data → Option (List ℕ)
+path_in s params = option_and_then (path_of s) (uri_of params)
+
 -- what becomes of the files of a state at a path; without one nothing changes
 abbrev pub at_path : (List ℕ → Files → Files) → State → Option (List ℕ) → State
 at_path become s None = s
 at_path become s (Some path) = record s { files = become path s.files }
 
--- the path of the document that the params name
-abbrev pub path_in : State → Data → Option (List ℕ)
-path_in s params = option_and_then (path_of s.roots) (uri_of params)
-
 -- bad params change nothing, and neither does a URI that is no URL
 abbrev pub opened : State → Option OpenedDocument → State
 opened s None = s
-opened s (Some o) = at_path (opened_files o.uri (record { version = o.version; text = o.text })) s (path_of s.roots o.uri)
+opened s (Some o) = at_path (opened_files o.uri (record { version = o.version; text = o.text })) s (path_of s o.uri)
 
+-- the places of changes count characters as the client does
 abbrev pub changed : State → Option ChangedDocument → State
 changed s None = s
-changed s (Some c) = at_path (changed_files c.document.version c.changes) s (path_of s.roots c.document.uri)
+changed s (Some c) = at_path (changed_files c.document.version s.client.encoding c.changes) s (path_of s c.document.uri)
 
 abbrev pub saved : State → Data → State
 saved s params = at_path saved_files s (path_in s params)
@@ -77,81 +86,61 @@ closed s params = at_path closed_files s (path_in s params)
 
 -- ---- requests
 
--- the path and the text of the document that the params name, where it is one of the workspace
+-- the path and the text of the document at a path, if it is one of the workspace
 abbrev pub document_at : List ℕ → Files → Option (List ℕ × List ℕ)
 document_at path files = option_map (λ text. (path, text)) (text_at path files)
 
-abbrev pub document_in : State → Data → Option (List ℕ × List ℕ)
-document_in s params = option_and_then (λ path. document_at path s.files) (path_in s params)
+-- the path of the document that the params name, if it is one of the workspace
+abbrev pub document_in : State → Data → Option (List ℕ)
+document_in s params = option_map (λ document. document.0) (option_and_then (λ path. document_at path s.files) (path_in s params))
 
--- what is wrong in a document of the workspace
-abbrev pub diagnosed : State → IdData → Option (List ℕ × List ℕ) → Turn
-diagnosed s id None = refuse s (Some id) InvalidParams
-diagnosed s id (Some document) = answer s id (report_value (document_diagnostics s.files document.0 document.1))
-
--- the path of a document of the workspace, and the offset of a position in it
+-- the path of a document of the workspace, and the offset of a position in it, which counts characters as the client does
 abbrev pub place_in : State → PlaceData → Option DocumentPlaceData
 place_in s p =
-    option_map (λ document. record { path = document.0; offset = offset_of Utf16 p.position document.1 })
-    (option_and_then (λ path. document_at path s.files) (path_of s.roots p.uri))
+    option_map (λ document. record { path = document.0; offset = offset_of s.client.encoding p.position document.1 })
+    (option_and_then (λ path. document_at path s.files) (path_of s p.uri))
 
--- the one root
-abbrev pub root_of : List (List ℕ) → List ℕ
-root_of [] = []
-root_of (root ∷ more) = root
+-- what a request asks, if it is one of the six that ask for an analysis, its params are good, and the document that it names is in
+-- the workspace
+abbrev pub question : State → Method → Data → Option QuestionData
+question s DocumentDiagnostic params = option_map questions.Diagnostics (document_in s params)
+question s WorkspaceDiagnostic params = Some questions.AllDiagnostics
+question s WorkspaceSymbol params = option_map questions.Symbols (query_of params)
+question s Definition params = option_map questions.Definition (option_and_then (place_in s) (place_of params))
+question s References params = option_and_then (λ r. option_map (λ at. questions.References at r.include_declaration) (place_in s r.place)) (reference_of params)
+question s Rename params = option_and_then (λ r. option_map (λ at. questions.Rename at r.new_name) (place_in s r.place)) (rename_of params)
+question s _ params = None
 
--- what is wrong in all files of the workspace
-abbrev pub all_diagnosed : State → IdData → Turn
-all_diagnosed s id = answer s id (workspace_value (workspace_reports (root_of s.roots) s.files))
+-- params that ask nothing are bad
+abbrev pub asked : IdData → Option QuestionData → Pending
+asked id None = Now (error_reply (Some id) InvalidParams ∷ [])
+asked id (Some question) = Ask id question
 
--- the declarations whose full name contains the query
-abbrev pub searched : State → IdData → Option (List ℕ) → Turn
-searched s id None = refuse s (Some id) InvalidParams
-searched s id (Some query) = answer s id (symbols_value (symbols_for (root_of s.roots) s.files (workspace s.files) query))
-
--- the declaration that the name at a place stands for
-abbrev pub defined : State → IdData → Option DocumentPlaceData → Turn
-defined s id None = refuse s (Some id) InvalidParams
-defined s id (Some at) = answer s id (locations_or_null (definition_at (root_of s.roots) s.files (workspace s.files) at))
-
--- where it is used
-abbrev pub referred : State → IdData → Bool → Option DocumentPlaceData → Turn
-referred s id include None = refuse s (Some id) InvalidParams
-referred s id include (Some at) = answer s id (locations_or_null (references_at (root_of s.roots) s.files (workspace s.files) at include))
-
-abbrev pub referred_by : State → IdData → Option ReferenceData → Turn
-referred_by s id None = refuse s (Some id) InvalidParams
-referred_by s id (Some r) = referred s id r.include_declaration (place_in s r.place)
-
--- another name for what the name at a place stands for
-abbrev pub renamed : State → IdData → List ℕ → Option DocumentPlaceData → Turn
-renamed s id new_name None = refuse s (Some id) InvalidParams
-renamed s id new_name (Some at) = record {
-  state = s;
-  replies = option_to_list (rename_reply id new_name (edits_at (root_of s.roots) s.files (workspace s.files) at new_name));
-}
-
-abbrev pub renamed_by : State → IdData → Option RenameData → Turn
-renamed_by s id None = refuse s (Some id) InvalidParams
-renamed_by s id (Some r) = renamed s id r.new_name (place_in s r.place)
+abbrev pub ask : State → IdData → Method → Data → Turn
+ask s id method params = record { state = s; pending = asked id (question s method params) }
 
 abbrev pub running_request : State → IdData → Option Method → Data → Turn
 running_request s id (Some Initialize) params = refuse s (Some id) InvalidRequest
 running_request s id (Some Shutdown) params = answer (enter Shut s) id null
-running_request s id (Some DocumentDiagnostic) params = diagnosed s id (document_in s params)
-running_request s id (Some WorkspaceDiagnostic) params = all_diagnosed s id
-running_request s id (Some WorkspaceSymbol) params = searched s id (query_of params)
-running_request s id (Some Definition) params = defined s id (option_and_then (place_in s) (place_of params))
-running_request s id (Some References) params = referred_by s id (reference_of params)
-running_request s id (Some Rename) params = renamed_by s id (rename_of params)
+running_request s id (Some DocumentDiagnostic) params = ask s id DocumentDiagnostic params
+running_request s id (Some WorkspaceDiagnostic) params = ask s id WorkspaceDiagnostic params
+running_request s id (Some WorkspaceSymbol) params = ask s id WorkspaceSymbol params
+running_request s id (Some Definition) params = ask s id Definition params
+running_request s id (Some References) params = ask s id References params
+running_request s id (Some Rename) params = ask s id Rename params
 running_request s id _ params = refuse s (Some id) MethodNotFound
 
-abbrev pub first_request : State → IdData → Option Method → Turn
-first_request s id (Some Initialize) = answer (enter Running s) id initialize_result
-first_request s id _ = refuse s (Some id) ServerNotInitialized
+-- the server runs, for this client
+abbrev pub initialized : ClientData → State → State
+initialized client s = record s { client = client; phase = Running }
+
+-- the first request that counts is `initialize`; its reply names the encoding
+abbrev pub first_request : State → IdData → Option Method → Data → Turn
+first_request s id (Some Initialize) params = answer (initialized (client_of params) s) id (initialize_result (client_of params).encoding)
+first_request s id _ params = refuse s (Some id) ServerNotInitialized
 
 abbrev pub requested : Phase → State → IdData → Option Method → Data → Turn
-requested Uninitialized s id method params = first_request s id method
+requested Uninitialized s id method params = first_request s id method params
 requested Running s id method params = running_request s id method params
 requested Shut s id method params = refuse s (Some id) InvalidRequest
 requested (Exited after_shutdown) s id method params = silent s
@@ -177,7 +166,7 @@ notified Running s method params = running_notification s method params
 notified Shut s method params = exits true s method
 notified (Exited after_shutdown) s method params = s
 
--- ---- the session
+-- ---- the turns of messages
 
 abbrev pub received : State → MessageData → Turn
 received s parse_error = refuse s None ParseError
@@ -194,9 +183,31 @@ turn_in _ s m = received s m
 abbrev pub turn : State → MessageData → Turn
 turn s m = turn_in s.phase s m
 
--- the state before the first message: no document is open, and the texts of the files on disk are kept
+-- the state before the first message: nothing is known of the client, no document is open, and the texts of the files on disk are kept
 abbrev pub start : Configuration → State
-start config = record { roots = config.roots; phase = Uninitialized; files = files_of config }
+start config = record { roots = config.roots; client = default_client; phase = Uninitialized; files = files_of config }
+
+-- ---- replies
+
+-- what answers are made from: the files as they are, and the encoding of the client
+abbrev pub context_of : State → Context
+context_of s = record { roots = s.roots; encoding = s.client.encoding; files = s.files; workspace = workspace s.files }
+
+-- the replies that were left to be given, in the state that the message leaves
+abbrev pub replies_of : State → Pending → List Data
+replies_of s (Now replies) = replies
+replies_of s (Ask id question) = questions.answer (context_of s) id question
+
+-- the replies to a message
+abbrev pub replies_to : State → MessageData → List Data
+replies_to s m = let t = turn s m in replies_of t.state t.pending
+
+-- whether the replies have to wait until the work on each text is there
+abbrev pub waits : Pending → Bool
+waits (Now replies) = false
+waits _ = true
+
+-- ---- the session
 
 -- the state after some messages, and the bodies of the replies to them
 pub record Run : Type 0 where
@@ -206,12 +217,18 @@ pub record Run : Type 0 where
 abbrev pub next : Run → List ℕ → Run
 next r body = record {
   state = (turn r.state (message_of body)).state;
-  replies = r.replies ++ map compact_text (turn r.state (message_of body)).replies;
+  replies = r.replies ++ map compact_text (replies_to r.state (message_of body));
 }
 
 -- the session after the messages with these bodies
 unfoldable pub session : Configuration → List (List ℕ) → Run
 session config bodies = fold next (record { state = start config; replies = [] }) bodies
+
+-- ---- the client of a session
+
+-- once the session isn't uninitialized any more, no message changes what is known of the client
+abbrev pub ClientStays : Type 0
+ClientStays = (config : Configuration) (bodies later : List (List ℕ)) → ¬ ((session config bodies).state.phase ≡ Uninitialized) → (session config (bodies ++ later)).state.client ≡ (session config bodies).state.client
 
 -- ---- the files of a session, whatever messages came
 
@@ -225,4 +242,4 @@ DocumentsAreOfTheWorkspace = (config : Configuration) (bodies : List (List ℕ))
 
 -- the reports of all documents have the diagnostics that the report of each one has
 abbrev pub ReportsAgree : Type 0
-ReportsAgree = (config : Configuration) (bodies : List (List ℕ)) (root : List ℕ) → ReportsAreOfDocuments root (session config bodies).state.files
+ReportsAgree = (config : Configuration) (bodies : List (List ℕ)) → ReportsAreOfDocuments (context_of (session config bodies).state)

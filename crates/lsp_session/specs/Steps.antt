@@ -1,28 +1,35 @@
--- What a core does in steps: the messages that it may process, rounds of work, and the messages of a stream.
-use Rattle.std.specs.Prelude.{◌≡◌, ◌⊎◌, ℕ, zero, suc, ◌++◌, List, [], ◌∷◌, Bool, Option, None, option_map, option_and_then, length, map, true}
+-- What a core does in steps: the steps of messages, rounds of work, and the messages of a stream.
+use Rattle.std.specs.Prelude.{◌≡◌, ◌⊎◌, ℕ, zero, suc, ◌+◌, ◌<◌, ◌++◌, List, [], ◌∷◌, Bool, true, if◌then◌else◌, Option, None, IsSome, IfSome, is_some, option_map, option_and_then, length, map}
 use Rattle.std.specs.Option.{option_to_list}
 use Rattle.serde_json.specs.Written.{compact_text}
 use Rattle.piece_collector.specs.Board.{IsFull, IsFirstWanted}
 use Rattle.piece_collector.specs.History.{first_wanted, history, stands_at}
-use Rattle.lsp_rpc.specs.Message.{MessageData, message_of}
+use Rattle.lsp_rpc.specs.Message.{message_of}
 use Rattle.lsp_config.specs.Configuration.{Configuration}
 use Rattle.lsp_session.specs.Core.{Event, Give, Offer, messages, processed, CoreState, IsAfter, board_events}
-use Rattle.lsp_session.specs.Session.{turn, session}
-use Rattle.lsp_session.specs.Working.{waits}
+use Rattle.lsp_session.specs.Session.{replies_to, waits, session}
+use Rattle.lsp_session.specs.declared.step.Step.{Step}
+use Rattle.lsp_session.specs.declared.step.Step.TheVariants.{Begin, Finish}
 
--- a message is queued, and the board is complete if that message waits
-pub record CanProcess (core : CoreState) : Type 0 where
-  pub first : MessageData
-  pub others : List MessageData
-  pub queue : core.queue ≡ first ∷ others
-  pub ready : waits core.state first ≡ true → IsFull core.board
+-- the board is complete, if what is left to be answered waits for it
+abbrev pub IsReady : CoreState → Type 0
+IsReady core = IfSome core.pending (λ p. waits p ≡ true → IsFull core.board)
 
--- a message is queued, and the files are analysed if that message waits
-pub record IsPrepared (core : CoreState) (is_analysed : Bool) : Type 0 where
-  pub first : MessageData
-  pub others : List MessageData
-  pub queue : core.queue ≡ first ∷ others
-  pub ready : waits core.state first ≡ true → is_analysed ≡ true
+-- the files are analysed, if what is left to be answered asks for it
+abbrev pub IsPrepared : CoreState → Bool → Type 0
+IsPrepared core is_analysed = IfSome core.pending (λ p. waits p ≡ true → is_analysed ≡ true)
+
+-- a step can be taken
+abbrev pub CanStep : CoreState → Step → Type 0
+CanStep core Begin = (core.pending ≡ None) × (0 < length core.queue)
+CanStep core Finish = IsSome core.pending
+
+-- how many messages aren't processed, and how many steps are left at most
+abbrev pub unprocessed : CoreState → ℕ
+unprocessed core = length core.queue + (if is_some core.pending then 1 else 0)
+
+abbrev pub steps_left : CoreState → ℕ
+steps_left core = length core.queue + unprocessed core
 
 -- ---- rounds of work
 
@@ -74,9 +81,9 @@ pub record WorksOn (opening : ℕ) (config : Configuration) (core : CoreState) (
   pub count : processed after ≡ processed h
 
 -- the bodies of the replies to one more message
-abbrev pub replies_to : Configuration → List (List ℕ) → List ℕ → List (List ℕ)
-replies_to config bodies body = map compact_text (turn (session config bodies).state (message_of body)).replies
+abbrev pub replies_after : Configuration → List (List ℕ) → List ℕ → List (List ℕ)
+replies_after config bodies body = map compact_text (replies_to (session config bodies).state (message_of body))
 
 -- the core has processed the message with this body too, with these replies, or still awaits it; then nothing is said of the replies
 abbrev pub Progresses : Configuration → CoreState → List (List ℕ) → List ℕ → List (List ℕ) → Type 0
-Progresses config core bodies body replies = (Knows config core (bodies ++ body ∷ []) × (replies ≡ replies_to config bodies body)) ⊎ Awaits config core bodies body
+Progresses config core bodies body replies = (Knows config core (bodies ++ body ∷ []) × (replies ≡ replies_after config bodies body)) ⊎ Awaits config core bodies body

@@ -1,20 +1,16 @@
--- What a message does to the board of the texts, and whether it waits for the board.
-use Rattle.std.specs.Prelude.{ℕ, List, [], ◌∷◌, Bool, true, false, Option, Some, None, is_some, option_and_then}
+-- What a message does to the board of the texts.
+use Rattle.std.specs.Prelude.{ℕ, List, [], ◌∷◌, Option, Some, None, option_and_then}
 use Rattle.piece_collector.specs.Events.{Event}
 use Rattle.serde_json.specs.Data.{Data}
-use Rattle.lsp_rpc.specs.Message.{MessageData, request, notification}
+use Rattle.lsp_rpc.specs.Message.{MessageData, notification}
 use Rattle.lsp_rpc.specs.Params.{opened_of, changed_of}
-use Rattle.lsp_rpc.specs.RequestParams.{query_of, place_of, reference_of, rename_of}
 use Rattle.lsp_rpc.specs.declared.method.Method.{Method}
-use Rattle.lsp_rpc.specs.declared.method.Method.TheVariants.{DidOpen, DidChange, DidClose, DocumentDiagnostic, WorkspaceDiagnostic, WorkspaceSymbol, Definition, References, Rename}
-use Rattle.workspace_uri.specs.Uri.{path_of}
+use Rattle.lsp_rpc.specs.declared.method.Method.TheVariants.{DidOpen, DidChange, DidClose}
 use Rattle.lsp_workspace.specs.Files.{Files}
 use Rattle.lsp_workspace.specs.Texts.{event_at, events_at}
-use Rattle.lsp_session.specs.Session.{State, turn, path_in, document_in, place_in}
+use Rattle.lsp_session.specs.Session.{State, turn, path_of, path_in}
 use Rattle.lsp_session.specs.declared.phase.Phase.{Phase}
 use Rattle.lsp_session.specs.declared.phase.Phase.TheVariants.{Running}
-
--- ---- what is done to the board
 
 -- nothing is done without a path
 abbrev pub events_for_path : (List ℕ → List Event) → Option (List ℕ) → List Event
@@ -24,8 +20,8 @@ events_for_path events (Some path) = events path
 -- An open sets the text of its path. A change of an open document sets it too, once for the whole list of changes, and a close of
 -- one sets the kept text, or removes the path where none is kept. The files are those after the message.
 abbrev pub events_by_method : State → Option Method → Data → Files → List Event
-events_by_method s (Some DidOpen) params files = events_for_path (λ path. event_at path files ∷ []) (option_and_then (λ o. path_of s.roots o.uri) (opened_of params))
-events_by_method s (Some DidChange) params files = events_for_path (λ path. events_at path s.files files) (option_and_then (λ c. path_of s.roots c.document.uri) (changed_of params))
+events_by_method s (Some DidOpen) params files = events_for_path (λ path. event_at path files ∷ []) (option_and_then (λ o. path_of s o.uri) (opened_of params))
+events_by_method s (Some DidChange) params files = events_for_path (λ path. events_at path s.files files) (option_and_then (λ c. path_of s c.document.uri) (changed_of params))
 events_by_method s (Some DidClose) params files = events_for_path (λ path. events_at path s.files files) (path_in s params)
 events_by_method s _ params files = []
 
@@ -41,24 +37,3 @@ events_of s _ files = []
 
 abbrev pub board_events_of : State → MessageData → List Event
 board_events_of s m = events_of s m (turn s m).state.files
-
--- ---- whether it waits
-
--- it is one of the six requests for an analysis, its params are good, and the document that it names is in the workspace
-abbrev pub asks_for_analysis : State → Option Method → Data → Bool
-asks_for_analysis s (Some DocumentDiagnostic) params = is_some (document_in s params)
-asks_for_analysis s (Some WorkspaceDiagnostic) params = true
-asks_for_analysis s (Some WorkspaceSymbol) params = is_some (query_of params)
-asks_for_analysis s (Some Definition) params = is_some (option_and_then (place_in s) (place_of params))
-asks_for_analysis s (Some References) params = is_some (option_and_then (λ r. place_in s r.place) (reference_of params))
-asks_for_analysis s (Some Rename) params = is_some (option_and_then (λ r. place_in s r.place) (rename_of params))
-asks_for_analysis s _ params = false
-
-abbrev pub waits_in : Phase → State → Option Method → Data → Bool
-waits_in Running s method params = asks_for_analysis s method params
-waits_in _ s method params = false
-
--- the message can't be processed before the board is complete
-abbrev pub waits : State → MessageData → Bool
-waits s (request id method params) = waits_in s.phase s method params
-waits s _ = false

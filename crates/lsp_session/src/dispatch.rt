@@ -4,7 +4,7 @@ ghost use Rattle.lsp_config.specs.Configuration.{Configuration};
 ghost use Rattle.lsp_config.specs.Fault.{IsOfCore};
 ghost use Rattle.lsp_session.specs.Core.{Event, IsAfter, Advances};
 ghost use Rattle.lsp_session.specs.Run.{has_failed, incoming_of_done, verdicts_of};
-ghost use Rattle.lsp_session.specs.Steps.{Knows, Awaits, WorksOn, Progresses, replies_to};
+ghost use Rattle.lsp_session.specs.Steps.{Knows, Awaits, WorksOn, Progresses, replies_after};
 ghost use Rattle.lsp_session.specs.View.{core_state};
 
 use crate::reply::Reply;
@@ -127,7 +127,7 @@ fn await_replies<R: Threads + Wait, G: Gate>(
     pool: &mut Pool,
 ) -> Result<Vec<Reply>, ServeFault>
     ensures answers { IfOk result (λ replies. (config : Configuration) (bodies : List (List ℕ)) (body : List ℕ) → Awaits config (core_state core.old) bodies body
-        → Knows config (core_state core.new) (bodies ++ body ∷ []) × (replies.items ≡ replies_to config bodies body)) }
+        → Knows config (core_state core.new) (bodies ++ body ∷ []) × (replies.items ≡ replies_after config bodies body)) }
     ensures fault { IfErr result IsOfCore }
 {
     for _result in threading.rt.forever() {
@@ -166,7 +166,7 @@ pub fn answer<R: Threads + Wait, G: Gate>(
     body: &[u8],
 ) -> Result<Vec<Reply>, ServeFault>
     ensures answers { IfOk result (λ replies. (config : Configuration) (bodies : List (List ℕ)) → Knows config (core_state core.old) bodies
-        → Knows config (core_state core.new) (bodies ++ body.now ∷ []) × (replies.items ≡ replies_to config bodies body.now)) }
+        → Knows config (core_state core.new) (bodies ++ body.now ∷ []) × (replies.items ≡ replies_after config bodies body.now)) }
     ensures fault { IfErr result IsOfCore }
 {
     let replies = begin(threading, core, body)?;

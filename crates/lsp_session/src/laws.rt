@@ -1,11 +1,17 @@
 // What the definitions of the session say, beside what the code meets.
-ghost use Rattle.lsp_session.specs.Reports.{ReportsAgreeWithDocuments};
-ghost use Rattle.lsp_session.specs.Session.{FilesAreInPathOrder, DocumentsAreOfTheWorkspace, ReportsAgree};
+ghost use Rattle.lsp_session.specs.Session.{ClientStays, FilesAreInPathOrder, DocumentsAreOfTheWorkspace, ReportsAgree};
 ghost use Rattle.lsp_session.specs.Stream.{NothingFollowsAnExit};
+
+use lsp_answers::reports_agree_with_documents;
 
 /// A law. After an exit the session stays as it is: later messages change nothing and get no reply.
 pub fn nothing_follows_an_exit()
     ensures { NothingFollowsAnExit }
+{}
+
+/// A law. Once an `initialize` was answered, no later message changes what is known of the client.
+pub fn client_stays()
+    ensures { ClientStays }
 {}
 
 /// A law. Whatever messages came, the paths of the files that the session knows ascend, so that none comes twice.
@@ -19,14 +25,10 @@ pub fn documents_are_of_the_workspace()
     ensures { DocumentsAreOfTheWorkspace }
 {}
 
-/// A law. Of files whose paths ascend, the report of each one in the reports of all has the diagnostics that a request
-/// for its document gets.
-pub fn reports_agree_with_documents()
-    ensures { ReportsAgreeWithDocuments }
-{}
-
 /// A law. Whatever messages came, the reports of all documents have, by path, the diagnostics that a request for the document
 /// at that path gets.
 pub fn reports_agree()
     ensures { ReportsAgree }
-{}
+{
+    reports_agree_with_documents();
+}

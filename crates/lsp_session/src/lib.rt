@@ -7,27 +7,27 @@
 //! in the files of a configuration, without an editor.
 #![tactic(auto)]
 
-mod answers;
-mod diagnostics;
 mod dispatch;
 mod ended;
 mod laws;
+mod pending;
 mod phase;
 mod reply;
-mod reports;
 mod run;
 mod serving;
 mod session;
 mod session_core;
+mod step;
 mod taking;
 mod threading;
 mod working;
 
 pub use ended::Ended;
 pub use laws::{
-    documents_are_of_the_workspace, files_are_in_path_order, nothing_follows_an_exit,
-    reports_agree, reports_agree_with_documents,
+    client_stays, documents_are_of_the_workspace, files_are_in_path_order, nothing_follows_an_exit,
+    reports_agree,
 };
+pub use lsp_answers::reports_agree_with_documents;
 pub use lsp_check::check;
 pub use lsp_config::{Config, CoreFault, DiskFile, ServeFault};
 pub use piece_collector::{Job, Piece, Verdict};

@@ -1,6 +1,7 @@
 // What the server says to the editor.
-ghost use Rattle.std.specs.Prelude.{◌≡◌};
+ghost use Rattle.std.specs.Prelude.{◌≡◌, ◌++◌, [], ◌∷◌, OnOk};
 
+use std::alloc::AllocError;
 use std::marker::Model;
 
 /// The body of a message to the editor, which contracts see as the list of its bytes.
@@ -31,4 +32,12 @@ impl Reply {
     {
         self.body.as_slice()
     }
+}
+
+/// Adds the reply with this body.
+pub fn push(replies: &mut Vec<Reply>, body: Vec<u8>) -> Result<(), AllocError>
+    ensures { OnOk result (replies.new.items ≡ replies.old.items ++ body.items ∷ []) }
+{
+    replies.push(Reply::new(body))?;
+    Ok(())
 }

@@ -116,7 +116,7 @@ pub fn run_core(alloc: Global, config: Config, events: Vec<CoreEvent>) -> Result
     for event in events {
         handle(&mut core, event, &mut replies, &mut verdicts)?;
     }
-    let processed = arrived - core.queued();
+    let processed = arrived - core.unprocessed();
     Ok(CoreRun {
         replies,
         verdicts,

@@ -1,22 +1,23 @@
 // The core: messages and work in, replies and jobs out, and nothing of streams.
 ghost use Rattle.std.specs.Prelude.{◌≡◌, ◌↔◌, ◌<◌, ◌++◌, ℕ, List, [], ◌∷◌, length, option_map, Some, None, Err, IfOk, IfErr, IfSome, OnOk, IsTrue, true, false};
-ghost use Rattle.std.specs.Option.{option_to_list};
 ghost use Rattle.piece_collector.specs.Board.{IsFirstWanted, IsFull, current_text};
 ghost use Rattle.piece_collector.specs.History.{stands_at};
 ghost use Rattle.lsp_config.specs.Configuration.{Configuration};
 ghost use Rattle.lsp_config.specs.Fault.{ComesWithoutThreads};
-ghost use Rattle.lsp_session.specs.Core.{Event, Arrive, Process, Give, messages, processed, done, board_events, IsAfter, MayProcess, IsSettled, Processes, Advances};
+ghost use Rattle.lsp_session.specs.Core.{Event, Arrive, Advance, Give, messages, processed, board_events, IsAfter, MayStep, IsSettled, Replied, Advances};
 ghost use Rattle.lsp_session.specs.Run.{event_of, incoming_of_done, verdicts_of};
-ghost use Rattle.lsp_session.specs.Session.{session};
-ghost use Rattle.lsp_session.specs.Steps.{CanProcess, IsPrepared};
+ghost use Rattle.lsp_session.specs.Steps.{CanStep, IsPrepared, IsReady, steps_left, unprocessed};
 ghost use Rattle.lsp_session.specs.Stream.{exit_of};
 ghost use Rattle.lsp_session.specs.View.{core_state};
 
+use crate::pending::Pending;
 use crate::phase::Phase;
 use crate::reply::Reply;
 use crate::session::Session;
+use crate::step::Step;
 use lsp_config::{Config, CoreFault};
 use lsp_rpc::Message;
+use lsp_workspace::Workspace;
 use piece_collector::{BoardFault, Job, Verdict};
 use std::alloc::{AllocError, Global};
 use std::collections::VecDeque;
@@ -33,22 +34,15 @@ use work_index::{AnalyseFault, Done, Gate};
 pub struct Core {
     alloc: Global,
     session: Session,
+    workspace: Workspace,
     queue: VecDeque<Message>,
+    /// What is left to be answered to the message that has begun.
+    pending: Option<Pending>,
     fault: Option<CoreFault>,
 }
 
-// Adds a reply, if there is one.
-fn push_reply(replies: &mut Vec<Reply>, reply: Option<Reply>) -> Result<(), AllocError>
-    ensures { OnOk result (replies.new.items ≡ replies.old.items ++ option_to_list reply) }
-{
-    if let Some(reply) = reply {
-        replies.push(reply)?;
-    }
-    Ok(())
-}
-
 impl Core {
-    ghost use Rattle.lsp_session.specs.View.{last_fault, is_analysed, IsExhausted};
+    ghost use Rattle.lsp_session.specs.View.{last_fault, IsExhausted};
 
     /// The core of a session before its first message. The texts of the files on disk get the stamps from 1 on, in the order of
     /// their paths. `Memory` where memory is refused.
@@ -67,11 +61,14 @@ impl Core {
         ensures open { IfOk result (λ core. last_fault core ≡ None) }
         ensures threads { IfErr result ComesWithoutThreads }
     {
-        let session = Session::new(alloc, config, stamp)?;
+        let (roots, disk_files) = config.into_parts()?;
+        let workspace = Workspace::from_disk(alloc, disk_files, stamp)?;
         Ok(Core {
             alloc,
-            session,
+            session: Session::new(alloc, roots),
+            workspace,
             queue: VecDeque::new(alloc),
+            pending: None,
             fault: None,
         })
     }
@@ -141,7 +138,7 @@ impl Core {
         if let Some(fault) = self.fault {
             return Err(fault);
         }
-        match self.session.next_job() {
+        match self.workspace.next_job() {
             Ok(job) => Ok(job),
             Err(_) => Err(self.fail(CoreFault::Memory)),
         }
@@ -170,14 +167,14 @@ impl Core {
         ensures verdict { (opening : ℕ) (config : Configuration) (h : List Event) → IsAfter opening config (core_state self.old) h → result ∷ [] ≡ verdicts_of opening config h (incoming_of_done sent) }
     {
         match sent {
-            Done::Made(piece) => self.session.offer(piece),
-            Done::Failed { path, stamp } => self.session.fail(path.as_str(), stamp),
+            Done::Made(piece) => self.workspace.offer(piece),
+            Done::Failed { path, stamp } => self.workspace.fail(path.as_str(), stamp),
         }
     }
 
     // ---- advances
 
-    /// Processes the queued messages in order, and gives the replies to them in order. It stops before a request for an analysis as
+    /// Processes the queued messages in order, and gives the replies to them in order. It stops at a request for an analysis as
     /// long as the work on some text isn't there, and analyses the files on this thread. `Memory` where memory is refused, `Exhausted`
     /// where a text finds no stamp: then the replies of this call are lost.
     pub fn advance(&mut self) -> Result<Vec<Reply>, CoreFault>
@@ -194,7 +191,7 @@ impl Core {
         if let Some(fault) = self.fault {
             return Err(fault);
         }
-        match self.process_all() {
+        match self.take_steps() {
             Ok(replies) => Ok(replies),
             Err(fault) => Err(self.fail(CoreFault::from(fault))),
         }
@@ -225,103 +222,26 @@ impl Core {
         if let Some(fault) = self.fault {
             return Err(fault);
         }
-        match self.process_all_in_shares(rt, workers, gate) {
+        match self.take_steps_in_shares(rt, workers, gate) {
             Ok(replies) => Ok(replies),
             Err(fault) => Err(self.fail(fault)),
         }
     }
 
-    // Whether the next message can be processed: there is one, and it doesn't wait or the work on each text is there.
-    fn is_ready(&self) -> Result<bool, AllocError>
-        ensures ready { IfOk result (λ ready. ready ≡ true → CanProcess (core_state self.now)) }
-        ensures legal { IfOk result (λ ready. ready ≡ true → (opening : ℕ) (config : Configuration) (h : List Event) → IsAfter opening config (core_state self.now) h → MayProcess opening config h) }
-        ensures settled { IfOk result (λ ready. ready ≡ false → (opening : ℕ) (config : Configuration) (h : List Event) → IsAfter opening config (core_state self.now) h → IsSettled opening config h) }
-    {
-        let Some(message) = self.queue.front() else {
-            return Ok(false);
-        };
-        if self.session.is_complete() {
-            return Ok(true);
-        }
-        Ok(!self.session.waits(message)?)
-    }
-
-    // Whether the files have to be analysed before the next message is processed, which can be.
-    fn wants_analysis(&self) -> Result<bool, AllocError>
-        requires { CanProcess (core_state self.now) }
-        ensures full { IfOk result (λ wants. wants ≡ true → IsFull (core_state self.now).board) }
-        ensures prepared { IfOk result (λ wants. wants ≡ false → IsPrepared (core_state self.now) (is_analysed self.now.session)) }
-    {
-        if self.session.is_analysed() {
-            return Ok(false);
-        }
-        match self.queue.front() {
-            Some(message) => self.session.waits(message),
-            None => Ok(false),
-        }
-    }
-
-    // Analyses the files on this thread, if the next message waits for it.
-    fn prepare(&mut self) -> Result<(), AllocError>
-        requires { CanProcess (core_state self.old) }
-        ensures fault { last_fault self.new ≡ last_fault self.old }
-        ensures state { core_state self.new ≡ core_state self.old }
-        ensures prepared { OnOk result (IsPrepared (core_state self.new) (is_analysed self.new.session)) }
-    {
-        if self.wants_analysis()? {
-            self.session.analyse()?;
-        }
-        Ok(())
-    }
-
-    // Analyses the files by so many threads, if the next message waits for it.
-    fn prepare_in_shares<R: Threads + Wait, G: Gate>(
-        &mut self,
-        rt: &R,
-        workers: usize,
-        gate: &G,
-    ) -> Result<(), AnalyseFault>
-        requires { CanProcess (core_state self.old) }
-        ensures fault { last_fault self.new ≡ last_fault self.old }
-        ensures state { OnOk result (core_state self.new ≡ core_state self.old) }
-        ensures prepared { OnOk result (IsPrepared (core_state self.new) (is_analysed self.new.session)) }
-    {
-        if self.wants_analysis()? {
-            self.session.analyse_in_shares(rt, workers, gate)?;
-        }
-        Ok(())
-    }
-
-    // Processes the next message, and gives the reply to it, if there is one.
-    fn process(&mut self) -> Result<Option<Reply>, BoardFault>
-        requires { IsPrepared (core_state self.old) (is_analysed self.old.session) }
-        ensures fault { last_fault self.new ≡ last_fault self.old }
-        ensures processes { OnOk result ((opening : ℕ) (config : Configuration) (h : List Event) → IsAfter opening config (core_state self.old) h → MayProcess opening config h → IsAfter opening config (core_state self.new) (Process ∷ h)) }
-        ensures reply { IfOk result (λ reply. (opening : ℕ) (config : Configuration) (h : List Event) → IsAfter opening config (core_state self.old) h → (session config (done (Process ∷ h))).replies ≡ (session config (done h)).replies ++ option_to_list reply) }
-        ensures exhausted { result ≡ Err BoardFault.Exhausted → IsExhausted (core_state self.new).board }
-        ensures shorter { OnOk result (length (core_state self.new).queue < length (core_state self.old).queue) }
-    {
-        match self.queue.pop_front() {
-            Some(message) => self.session.turn(message),
-            None => Ok(None),
-        }
-    }
-
-    fn process_all(&mut self) -> Result<Vec<Reply>, BoardFault>
+    fn take_steps(&mut self) -> Result<Vec<Reply>, BoardFault>
         ensures fault { last_fault self.new ≡ last_fault self.old }
         ensures exhausted { result ≡ Err BoardFault.Exhausted → IsExhausted (core_state self.new).board }
         ensures advances { IfOk result (λ replies. (opening : ℕ) (config : Configuration) (h : List Event) → IsAfter opening config (core_state self.old) h → Advances opening config (core_state self.new) h replies.items) }
     {
         let mut replies = Vec::new(self.alloc);
-        'messages: while self.is_ready()? {
+        'steps: while let Some(step) = self.next_step() {
             self.prepare()?;
-            let reply = self.process()?;
-            push_reply(&mut replies, reply)?;
+            self.take_step(step, &mut replies)?;
         }
         Ok(replies)
     }
 
-    fn process_all_in_shares<R: Threads + Wait, G: Gate>(
+    fn take_steps_in_shares<R: Threads + Wait, G: Gate>(
         &mut self,
         rt: &R,
         workers: usize,
@@ -332,33 +252,139 @@ impl Core {
         ensures advances { IfOk result (λ replies. (opening : ℕ) (config : Configuration) (h : List Event) → IsAfter opening config (core_state self.old) h → Advances opening config (core_state self.new) h replies.items) }
     {
         let mut replies = Vec::new(self.alloc);
-        'messages: while self.is_ready()? {
+        'steps: while let Some(step) = self.next_step() {
             self.prepare_in_shares(rt, workers, gate)?;
-            let reply = self.process()?;
-            push_reply(&mut replies, reply)?;
+            self.take_step(step, &mut replies)?;
         }
         Ok(replies)
     }
 
-    /// Whether a message is queued that isn't processed.
+    // The step that may come, if one may.
+    fn next_step(&self) -> Option<Step>
+        ensures ready { IfSome result (λ step. IsReady (core_state self.now)) }
+        ensures can { IfSome result (λ step. CanStep (core_state self.now) step) }
+        ensures may { IfSome result (λ step. (opening : ℕ) (config : Configuration) (h : List Event) → IsAfter opening config (core_state self.now) h → MayStep opening config h step) }
+        ensures settled { result ≡ None → (opening : ℕ) (config : Configuration) (h : List Event) → IsAfter opening config (core_state self.now) h → IsSettled opening config h }
+    {
+        match &self.pending {
+            Some(pending) if pending.waits() && !self.workspace.is_complete() => None,
+            Some(_) => Some(Step::Finish),
+            None if self.queue.is_empty() => None,
+            None => Some(Step::Begin),
+        }
+    }
+
+    // Whether what is left to be answered asks for an analysis that isn't known.
+    fn wants_analysis(&self) -> bool
+        requires { IsReady (core_state self.now) }
+        ensures full { IsTrue result → IsFull (core_state self.now).board }
+        ensures prepared { result ≡ false → IsPrepared (core_state self.now) self.now.workspace.is_current }
+    {
+        match &self.pending {
+            Some(pending) => pending.waits() && !self.workspace.is_current(),
+            None => false,
+        }
+    }
+
+    // Analyses the files on this thread, if what is left to be answered asks for it.
+    fn prepare(&mut self) -> Result<(), AllocError>
+        requires { IsReady (core_state self.old) }
+        ensures fault { last_fault self.new ≡ last_fault self.old }
+        ensures state { core_state self.new ≡ core_state self.old }
+        ensures prepared { OnOk result (IsPrepared (core_state self.new) self.new.workspace.is_current) }
+    {
+        if self.wants_analysis() {
+            self.workspace.refresh()?;
+        }
+        Ok(())
+    }
+
+    // Analyses the files by so many threads, if what is left to be answered asks for it.
+    fn prepare_in_shares<R: Threads + Wait, G: Gate>(
+        &mut self,
+        rt: &R,
+        workers: usize,
+        gate: &G,
+    ) -> Result<(), AnalyseFault>
+        requires { IsReady (core_state self.old) }
+        ensures fault { last_fault self.new ≡ last_fault self.old }
+        ensures state { OnOk result (core_state self.new ≡ core_state self.old) }
+        ensures prepared { OnOk result (IsPrepared (core_state self.new) self.new.workspace.is_current) }
+    {
+        if self.wants_analysis() {
+            self.workspace.refresh_in_shares(rt, workers, gate)?;
+        }
+        Ok(())
+    }
+
+    fn take_step(&mut self, step: Step, replies: &mut Vec<Reply>) -> Result<(), BoardFault>
+        requires can { CanStep (core_state self.old) step }
+        requires prepared { IsPrepared (core_state self.old) self.old.workspace.is_current }
+        ensures fault { last_fault self.new ≡ last_fault self.old }
+        ensures exhausted { result ≡ Err BoardFault.Exhausted → IsExhausted (core_state self.new).board }
+        ensures shorter { OnOk result (steps_left (core_state self.new) < steps_left (core_state self.old)) }
+        ensures after { OnOk result ((opening : ℕ) (config : Configuration) (h : List Event) → IsAfter opening config (core_state self.old) h → MayStep opening config h step → IsAfter opening config (core_state self.new) (Advance step ∷ h)) }
+        ensures replied { OnOk result ((opening : ℕ) (config : Configuration) (h : List Event) (first : List (List ℕ)) → IsAfter opening config (core_state self.old) h → MayStep opening config h step → Replied config h first replies.old.items → Replied config (Advance step ∷ h) first replies.new.items) }
+    {
+        match step {
+            Step::Begin => self.begin(),
+            Step::Finish => Ok(self.finish(replies)?),
+        }
+    }
+
+    // The first message begins: the state and the board change.
+    fn begin(&mut self) -> Result<(), BoardFault>
+        requires { CanStep (core_state self.old) Step.Begin }
+        ensures fault { last_fault self.new ≡ last_fault self.old }
+        ensures exhausted { result ≡ Err BoardFault.Exhausted → IsExhausted (core_state self.new).board }
+        ensures shorter { OnOk result (steps_left (core_state self.new) < steps_left (core_state self.old)) }
+        ensures after { OnOk result ((opening : ℕ) (config : Configuration) (h : List Event) → IsAfter opening config (core_state self.old) h → MayStep opening config h Step.Begin → IsAfter opening config (core_state self.new) (Advance Step.Begin ∷ h)) }
+    {
+        let Some(message) = self.queue.pop_front() else {
+            return Ok(());
+        };
+        let pending = self.session.begin(&mut self.workspace, message)?;
+        self.pending = Some(pending);
+        Ok(())
+    }
+
+    // The message that has begun finishes: its replies are given.
+    fn finish(&mut self, replies: &mut Vec<Reply>) -> Result<(), AllocError>
+        requires can { CanStep (core_state self.old) Step.Finish }
+        requires prepared { IsPrepared (core_state self.old) self.old.workspace.is_current }
+        ensures fault { last_fault self.new ≡ last_fault self.old }
+        ensures shorter { OnOk result (steps_left (core_state self.new) < steps_left (core_state self.old)) }
+        ensures after { OnOk result ((opening : ℕ) (config : Configuration) (h : List Event) → IsAfter opening config (core_state self.old) h → MayStep opening config h Step.Finish → IsAfter opening config (core_state self.new) (Advance Step.Finish ∷ h)) }
+        ensures replied { OnOk result ((opening : ℕ) (config : Configuration) (h : List Event) (first : List (List ℕ)) → IsAfter opening config (core_state self.old) h → MayStep opening config h Step.Finish → Replied config h first replies.old.items → Replied config (Advance Step.Finish ∷ h) first replies.new.items) }
+    {
+        let Some(pending) = self.pending.take() else {
+            return Ok(());
+        };
+        self.session.finish(&self.workspace, pending, replies)
+    }
+
+    /// Whether a message came that isn't processed.
     pub fn waits(&self) -> bool
         ensures { (opening : ℕ) (config : Configuration) (h : List Event) → IsAfter opening config (core_state self.now) h → IsTrue result ↔ (processed h < length (messages h)) }
     {
-        !self.queue.is_empty()
+        self.unprocessed() > 0
     }
 
-    // How many messages are queued that aren't processed.
-    pub(crate) fn queued(&self) -> usize
-        ensures { result ≡ length (core_state self.now).queue }
+    // How many messages came that aren't processed.
+    pub(crate) fn unprocessed(&self) -> usize
+        ensures { result ≡ unprocessed (core_state self.now) }
     {
-        self.queue.len()
+        match &self.pending {
+            Some(_) => self.queue.len() + 1,
+            None => self.queue.len(),
+        }
     }
 
     // The last stamp that was given; before the first one, the stamp that the board counts from.
     pub(crate) fn last_stamp(&self) -> u64
         ensures { result ≡ (let board = (core_state self.now).board in board.last) }
     {
-        self.session.last_stamp()
+        self.workspace.last_stamp()
     }
 
     // The allocator that the core was made with.

@@ -8,7 +8,7 @@ ghost use Rattle.lsp_config.specs.Configuration.{Configuration};
 ghost use Rattle.lsp_config.specs.Fault.{IsWriteOrCore};
 ghost use Rattle.lsp_config.specs.Sending.{SendsPrefix};
 ghost use Rattle.lsp_session.specs.Serving.{Calls, IsCaused, Serving, Comes, exit_in, end_by};
-ghost use Rattle.lsp_session.specs.Steps.{Knows, replies_to};
+ghost use Rattle.lsp_session.specs.Steps.{Knows, replies_after};
 ghost use Rattle.lsp_session.specs.Stream.{frames_of, is_exited};
 ghost use Rattle.lsp_session.specs.View.{core_state};
 
@@ -50,8 +50,8 @@ fn reply_to<R: Threads + Wait, K: ByteSink, G: Gate>(
     body: &[u8],
 ) -> Result<(), ServeFault>
     ensures knows { OnOk result ((config : Configuration) (bodies : List (List ℕ)) → Knows config (core_state core.old) bodies → Knows config (core_state core.new) (bodies ++ body.now ∷ [])) }
-    ensures ok { OnOk result ((config : Configuration) (bodies : List (List ℕ)) → Knows config (core_state core.old) bodies → Appends (K.written writer.old) (K.written writer.new) (frames_of (replies_to config bodies body.now))) }
-    ensures err { OnErr result ((config : Configuration) (bodies : List (List ℕ)) → Knows config (core_state core.old) bodies → SendsPrefix (K.written writer.old) (K.written writer.new) (frames_of (replies_to config bodies body.now))) }
+    ensures ok { OnOk result ((config : Configuration) (bodies : List (List ℕ)) → Knows config (core_state core.old) bodies → Appends (K.written writer.old) (K.written writer.new) (frames_of (replies_after config bodies body.now))) }
+    ensures err { OnErr result ((config : Configuration) (bodies : List (List ℕ)) → Knows config (core_state core.old) bodies → SendsPrefix (K.written writer.old) (K.written writer.new) (frames_of (replies_after config bodies body.now))) }
     ensures fault { IfErr result (IsWriteOrCore (K.counts writer.old) (K.counts writer.new)) }
     ensures calls { Calls (K.counts writer.old) (K.counts writer.new) result }
 {

@@ -6,7 +6,7 @@ use Rattle.std.specs.Str.{IsCharBoundary}
 use Rattle.std.proofs.lemmas.Bool.{cases_lt}
 use Rattle.std.proofs.lemmas.List.{drop-take, drop_at, get_or-append-add, get_or-drop, get_or_append_left, get_or_past, take-append-le, take-take}
 use Rattle.std.proofs.lemmas.List.Elements.{All-head, All-tail}
-use Rattle.doc_text.specs.declared.encoding.Encoding.TheVariants.{Utf16}
+use Rattle.doc_text.specs.declared.encoding.Encoding.{Encoding}
 use Rattle.doc_text.specs.declared.position.Range.{Range}
 use Rattle.doc_text.specs.Edits.{replaced}
 use Rattle.doc_text.specs.Laws.{ChangesKeepUtf8, PositionsComeBack}
@@ -19,13 +19,13 @@ use Rattle.query_laws.proofs.Pairs.{pairs-head, pairs-tail}
 -- ---- one change
 
 -- what lies between the two offsets of a range is replaced
-pub replaced-between : (r : Range) (text new : List ℕ) (a b : ℕ) → offset_of Utf16 r.start text ≡ a → offset_of Utf16 r.end text ≡ b → a ≤ b
-    → replaced Utf16 (Some r) text new ≡ (take a text ++ new) ++ drop b text
+pub replaced-between : (e : Encoding) (r : Range) (text new : List ℕ) (a b : ℕ) → offset_of e r.start text ≡ a → offset_of e r.end text ≡ b → a ≤ b
+    → replaced e (Some r) text new ≡ (take a text ++ new) ++ drop b text
 unfolding replaced
-replaced-between r text new a b first second le =
+replaced-between e r text new a b first second le =
     let least : min a b ≡ a = omega arith in
     let most : max a b ≡ b = omega arith in
-    ap (λ n. take (min n (offset_of Utf16 r.end text)) text ++ new ++ drop (max n (offset_of Utf16 r.end text)) text) first
+    ap (λ n. take (min n (offset_of e r.end text)) text ++ new ++ drop (max n (offset_of e r.end text)) text) first
     ∙ ap (λ n. take (min a n) text ++ new ++ drop (max a n) text) second
     ∙ ap (λ n. take n text ++ new ++ drop (max a b) text) least
     ∙ ap (λ n. take a text ++ new ++ drop n text) most
@@ -77,13 +77,13 @@ abbrev StartFrom : ℕ → List Place → Type 0
 StartFrom at [] = Unit {0}
 StartFrom at (p ∷ more) = at ≤ p.start
 
-module _ (back : PositionsComeBack) (keep_utf8 : ChangesKeepUtf8) (text name : List ℕ) (utf8 : IsUtf8 text) (name_utf8 : IsUtf8 name) where
+module _ (e : Encoding) (back : PositionsComeBack) (keep_utf8 : ChangesKeepUtf8) (text name : List ℕ) (utf8 : IsUtf8 text) (name_utf8 : IsUtf8 name) where
   abbrev changed_at : List Place → List ℕ
-  changed_at places = changed_from_the_last (map (change_of name text) places) text
+  changed_at places = changed_from_the_last e (map (change_of e name text) places) text
 
   changed-utf8 : (places : List Place) → IsUtf8 (changed_at places)
   changed-utf8 [] = utf8
-  changed-utf8 (p ∷ more) = keep_utf8 Utf16 (Some (range_of text p)) (changed_at more) name (changed-utf8 more) name_utf8
+  changed-utf8 (p ∷ more) = keep_utf8 e (Some (range_of e text p)) (changed_at more) name (changed-utf8 more) name_utf8
 
   -- what stands behind an offset begins as the text does there
   first-same : (at : ℕ) (places : List Place) → at ≤ length text → All (IsCutOut text) places → All (λ q. at < q.start) places → get_or (respelled_from name text at places) 0 0 ≡ get_or text at 0
@@ -112,9 +112,9 @@ module _ (back : PositionsComeBack) (keep_utf8 : ChangesKeepUtf8) (text name : L
       let same : (n : ℕ) → n ≤ p.«end» → IsSameUpTo text other n = same-up_to text other rest p.«end» own.second.0 behind first in
       let cuts : (n : ℕ) → n ≤ p.«end» → IsCharBoundary text n → IsCharBoundary other n = cut-same text other rest p.«end» own.second.0 behind first in
       let also = changed-utf8 more in
-      let a = comes-back back Utf16 text other p.start utf8 also own.first (cuts p.start own.ordered own.first) (same p.start own.ordered) own.starts_outside in
-      let b = comes-back back Utf16 text other p.«end» utf8 also own.second (cuts p.«end» (omega arith) own.second) (same p.«end» (omega arith)) own.ends_outside in
-      replaced-between (range_of text p) other name p.start p.«end» a b own.ordered
+      let a = comes-back back e text other p.start utf8 also own.first (cuts p.start own.ordered own.first) (same p.start own.ordered) own.starts_outside in
+      let b = comes-back back e text other p.«end» utf8 also own.second (cuts p.«end» (omega arith) own.second) (same p.«end» (omega arith)) own.ends_outside in
+      replaced-between e (range_of e text p) other name p.start p.«end» a b own.ordered
       ∙ ap (λ l. (l ++ name) ++ drop p.«end» other) ((same p.start own.ordered).taken ∙ take-parts text at p.start start)
       ∙ ap (λ l. ((take at text ++ slice_range text at p.start) ++ name) ++ l) (ap (drop p.«end») behind ∙ drop_at (take p.«end» text) rest p.«end» (length-take-le p.«end» text own.second.0))
       ∙ append_assoc (take at text ++ slice_range text at p.start) name rest
@@ -125,7 +125,7 @@ module _ (back : PositionsComeBack) (keep_utf8 : ChangesKeepUtf8) (text name : L
       starts (q ∷ more) all = let lt = All-head (λ q. p.«end» < q.start) q more all in omega (arith, lt)
 
 pub edits-change : PositionsComeBack → ChangesKeepUtf8 → EditsChangeThePlaces
-edits-change back keep_utf8 text name places utf8 name_utf8 cut apart = all-edits back keep_utf8 text name utf8 name_utf8 0 places (omega arith) (start places) cut apart
+edits-change back keep_utf8 e text name places utf8 name_utf8 cut apart = all-edits e back keep_utf8 text name utf8 name_utf8 0 places (omega arith) (start places) cut apart
   where
     start : (places : List Place) → StartFrom 0 places
     start [] = tt

@@ -16,7 +16,7 @@ use Rattle.syntax_tree.specs.declared.node.Span.{Span}
 use Rattle.syntax_tree.specs.Identifiers.{IsIdentifier, IsIdentifierAt, NamesAreIdentifiers}
 use Rattle.syntax_tree.specs.Read.{empty_tree, read}
 use Rattle.doc_text.specs.Laws.{IsInsideLineEnd}
-use Rattle.proto_resolve.specs.declared.target.DeclRef.{DeclRef}
+use Rattle.proto_names.specs.declared.decl_ref.DeclRef.{DeclRef}
 use Rattle.work_index.specs.Workspace.{Workspace, analysis}
 use Rattle.lsp_queries.specs.Answers.{sites_of}
 use Rattle.lsp_queries.specs.Files.{place_of}
@@ -161,10 +161,10 @@ module _ (w : Workspace) (file : ℕ) where
       (AllPairs-filter IsApart is_here all (apart w r true))
 
 pub renames-change : EditsChangeThePlaces → IdentifierFormLaw → PlacesAreApart → NamesAreIdentifiers → read [] ≡ empty_tree → RenamesChangeTheNames
-renames-change edits form apart identifiers empty w asked offset new_name places file utf8 is =
+renames-change edits form apart identifiers empty e w asked offset new_name places file utf8 is =
     let text = text_in w file in
     let rename = renamed-places w (symbol_at (analysis w) asked offset) new_name places is in
     let text_is = text-utf8 w file utf8 in
-    edits text new_name (places_in file places) text_is (name-utf8 new_name ((form new_name).0 rename.0))
+    edits e text new_name (places_in file places) text_is (name-utf8 new_name ((form new_name).0 rename.0))
     (subst (λ all. All (IsCutOut text) (places_in file all)) rename.2 (places-cut w file empty identifiers text_is rename.1))
     (subst (λ all. AllPairs (λ p q. p.«end» < q.start) (places_in file all)) rename.2 (places-apart_here w file apart rename.1))

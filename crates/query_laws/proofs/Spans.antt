@@ -22,7 +22,7 @@ use Rattle.file_facts.specs.declared.stated.StatedSyntax.{StatedSyntax}
 use Rattle.file_facts.specs.Facts.{facts_at, facts_of, opaque, stated, package_name, first_package, packages}
 use Rattle.file_facts.specs.Text.{joined as scoped}
 use Rattle.facts_laws.proofs.Nesting.{all_left, all_right}
-use Rattle.import_graph.specs.declared.paths.NamedFacts.{NamedFacts}
+use Rattle.file_facts.specs.declared.named_facts.NamedFacts.{NamedFacts}
 use Rattle.import_graph.specs.Imports.{is_opaque}
 use Rattle.proto_resolve.specs.declared.site.Component.{Component}
 use Rattle.proto_resolve.specs.declared.site.NameSite.{NameSite}

@@ -1,7 +1,7 @@
 -- The laws of the places of a declaration: where its name stands, and where it is used.
 use Rattle.std.specs.Prelude.{◌≡◌, ◌⊎◌, ℕ, ◌<◌, ◌≤◌, List, [], Bool, All, IsUtf8, length, slice_index_or}
 use Rattle.std.specs.List.{AllPairs}
-use Rattle.proto_resolve.specs.declared.target.DeclRef.{DeclRef}
+use Rattle.proto_names.specs.declared.decl_ref.DeclRef.{DeclRef}
 use Rattle.work_index.specs.Workspace.{Workspace, analysis}
 use Rattle.lsp_queries.specs.Answers.{own_place, sites_of}
 use Rattle.lsp_queries.specs.declared.place.Place.{Place}

@@ -1,8 +1,7 @@
--- The board of a core has the texts of the workspace that the processed messages leave.
-use Rattle.std.proofs.Common.{◌≡◌, ℕ, ◌≤◌, List, [], ◌∷◌, ◌++◌, Bool, true, false, cond, Option, Some, None, is_some, length, refl, sym, ap, ◌∙◌, arith, length-append}
+-- The board of a core has the texts of the workspace that the messages leave that have begun.
+use Rattle.std.proofs.Common.{◌≡◌, ℕ, List, [], ◌∷◌, ◌++◌, Bool, true, false, cond, Option, Some, None, is_some, take, refl, sym, ap, ◌∙◌}
 use Rattle.std.specs.Prelude.{option_and_then, if◌then◌else◌, bytes_eq}
 use Rattle.std.specs.Map.{update}
-use Rattle.std.proofs.lemmas.List.{take-append-le}
 use Rattle.collector_laws.specs.TextLaws.{text_after, EachEventGivesTheTexts, EventsGiveTheTexts}
 use Rattle.piece_collector.specs.Events as work
 use Rattle.serde_json.specs.Data.{Data}
@@ -10,7 +9,6 @@ use Rattle.lsp_rpc.specs.Message.{MessageData, parse_error, invalid_request, res
 use Rattle.lsp_rpc.specs.Params.{OpenedDocument, ChangedDocument, opened_of, changed_of}
 use Rattle.lsp_rpc.specs.declared.method.Method.{Method}
 use Rattle.lsp_rpc.specs.declared.method.Method.TheVariants.{Exit, DidOpen, DidChange, DidSave, DidClose}
-use Rattle.workspace_uri.specs.Uri.{path_of}
 use Rattle.lsp_config.specs.Configuration.{Configuration, files_of, in_root_order}
 use Rattle.lsp_workspace.specs.Files.{OpenDocument, Files, set_file, text_at, changed_file, changed_files, saved_files, closed_at, closed_files, opened_files, AreInPathOrder}
 use Rattle.lsp_workspace.specs.Texts.{TextsChangeAt, TextsChangeAtOnePath, open_document, is_open, text_event, event_at, events_at}
@@ -18,12 +16,13 @@ use Rattle.lsp_workspace.proofs.DocumentLemmas.{none_open}
 use Rattle.lsp_workspace.proofs.FirstEvents.{texts_of_first}
 use Rattle.lsp_workspace.proofs.PathOrder.{from_disk-order}
 use Rattle.lsp_workspace.proofs.TextChanges.{by_own}
-use Rattle.lsp_session.specs.Core.{Event, Arrive, Process, Give, Offer, Fail, messages, processed, done, next_body, state_after, board_events, IsLegal}
-use Rattle.lsp_session.specs.Session.{State, at_path, path_in, opened, changed, running_notification, notified, received, turn_in, turn, session}
+use Rattle.lsp_session.specs.Core.{Event, Arrive, Advance, Give, Offer, Fail, messages, done, next_body, state_after, board_events, IsLegal}
+use Rattle.lsp_session.specs.Session.{State, at_path, path_of, path_in, opened, changed, running_notification, notified, received, turn_in, turn, session}
 use Rattle.lsp_session.specs.Working as working
 use Rattle.lsp_session.specs.declared.phase.Phase.{Phase}
 use Rattle.lsp_session.specs.declared.phase.Phase.TheVariants.{Uninitialized, Running, Shut, Exited}
-use Rattle.lsp_session.proofs.CoreLemmas.{session-none, session-more}
+use Rattle.lsp_session.specs.declared.step.Step.TheVariants.{Begin, Finish}
+use Rattle.lsp_session.proofs.CoreLemmas.{session-none, begun-more, state-idle, state-begins, state-arrived}
 use Rattle.lsp_session.proofs.FilesLemmas.{exits-files, requested-files, session-order}
 
 module _ (o : ℕ) (law : EachEventGivesTheTexts) (one : TextsChangeAtOnePath) (events : List work.Event) where
@@ -47,9 +46,9 @@ module _ (o : ℕ) (law : EachEventGivesTheTexts) (one : TextsChangeAtOnePath) (
   none-is None e = refl
   none-is (Some d) e = cc
 
-  follow-opened : (s : State) (d : Option OpenedDocument) → Follow [] s.files → Follow (working.events_for_path (λ path. event_at path (opened s d).files ∷ []) (option_and_then (λ d. path_of s.roots d.uri) d)) (opened s d).files
+  follow-opened : (s : State) (d : Option OpenedDocument) → Follow [] s.files → Follow (working.events_for_path (λ path. event_at path (opened s d).files ∷ []) (option_and_then (λ d. path_of s d.uri) d)) (opened s d).files
   follow-opened s None before = before
-  follow-opened s (Some d) before = by (path_of s.roots d.uri)
+  follow-opened s (Some d) before = by (path_of s d.uri)
     where
       document : OpenDocument
       document = record { version = d.version; text = d.text }
@@ -58,19 +57,19 @@ module _ (o : ℕ) (law : EachEventGivesTheTexts) (one : TextsChangeAtOnePath) (
       by None = before
       by (Some path) = follow-event path s.files (opened_files d.uri document path s.files) before (by_own path (Some d.text) s.files (opened_files d.uri document path s.files) (one.opened d.uri document path s.files))
 
-  follow-changed : (s : State) (c : Option ChangedDocument) → Follow [] s.files → Follow (working.events_for_path (λ path. events_at path s.files (changed s c).files) (option_and_then (λ c. path_of s.roots c.document.uri) c)) (changed s c).files
+  follow-changed : (s : State) (c : Option ChangedDocument) → Follow [] s.files → Follow (working.events_for_path (λ path. events_at path s.files (changed s c).files) (option_and_then (λ c. path_of s c.document.uri) c)) (changed s c).files
   follow-changed s None before = before
-  follow-changed s (Some c) before = by (path_of s.roots c.document.uri)
+  follow-changed s (Some c) before = by (path_of s c.document.uri)
     where
       become : List ℕ → Files → Files
-      become = changed_files c.document.version c.changes
+      become = changed_files c.document.version s.client.encoding c.changes
 
-      by : (path : Option (List ℕ)) → Follow (working.events_for_path (λ p. events_at p s.files (at_path (changed_files c.document.version c.changes) s path).files) path) (at_path (changed_files c.document.version c.changes) s path).files
+      by : (path : Option (List ℕ)) → Follow (working.events_for_path (λ p. events_at p s.files (at_path (changed_files c.document.version s.client.encoding c.changes) s path).files) path) (at_path (changed_files c.document.version s.client.encoding c.changes) s path).files
       by None = before
       by (Some path) =
-          let new = changed_files c.document.version c.changes path s.files in
-          some-open s.files path (is_open path s.files) new before (one.changed c.document.version c.changes path s.files)
-          (λ e. none_open path s.files (λ f d. set_file path (changed_file c.document.version c.changes f d) s.files) (none-is (open_document path s.files) e))
+          let new = changed_files c.document.version s.client.encoding c.changes path s.files in
+          some-open s.files path (is_open path s.files) new before (one.changed c.document.version s.client.encoding c.changes path s.files)
+          (λ e. none_open path s.files (λ f d. set_file path (changed_file c.document.version s.client.encoding c.changes f d) s.files) (none-is (open_document path s.files) e))
 
   follow-closed : (s : State) (path : Option (List ℕ)) → AreInPathOrder s.files → Follow [] s.files → Follow (working.events_for_path (λ p. events_at p s.files (at_path closed_files s path).files) path) (at_path closed_files s path).files
   follow-closed s None order before = before
@@ -121,23 +120,18 @@ module _ (o : ℕ) (law : EachEventGivesTheTexts) (one : TextsChangeAtOnePath) (
 
 -- ---- whatever has happened
 
-legal-known : (o : ℕ) (config : Configuration) (h : List Event) → IsLegal o config h → processed h ≤ length (messages h)
-legal-known o config [] legal = omega arith
-legal-known o config (Arrive body ∷ h) legal = let before = legal-known o config h legal in omega (arith, before, length-append (messages h) (body ∷ []))
-legal-known o config (Process ∷ h) legal = omega (arith, legal.0.there)
-legal-known o config (Give ∷ h) legal = legal-known o config h legal
-legal-known o config (Offer path stamp text ∷ h) legal = legal-known o config h legal
-legal-known o config (Fail path stamp ∷ h) legal = legal-known o config h legal
-
 module _ (o : ℕ) (config : Configuration) (law : EachEventGivesTheTexts) (all : EventsGiveTheTexts) (one : TextsChangeAtOnePath) where
   pub follows : (h : List Event) → IsLegal o config h → (path : List ℕ) → text_after o (board_events config h) path ≡ text_at path (state_after config h).files
   follows [] legal path = texts_of_first all o (files_of config) (from_disk-order (in_root_order config)) path ∙ ap (λ r. text_at path r.state.files) (sym (session-none config))
-  follows (Arrive body ∷ h) legal path =
-      let same : done (Arrive body ∷ h) ≡ done h = take-append-le (processed h) (messages h) (body ∷ []) (legal-known o config h legal) in
-      follows h legal path ∙ ap (λ bodies. text_at path (session config bodies).state.files) (sym same)
-  follows (Process ∷ h) legal path =
-      let m = message_of (next_body h) in
-      follow-turn o law one (board_events config h) (state_after config h) m (session-order config (done h)) (follows h legal.1) path ∙ ap (λ r. text_at path r.state.files) (sym (session-more config h legal.0.there))
+  follows (Arrive body ∷ h) legal path = follows h legal path ∙ ap (λ s. text_at path s.files) (sym (state-arrived o config h body legal))
+  follows (Advance Begin ∷ h) legal path =
+      let may = legal.0 in
+      let s = (session config (done h)).state in
+      let before : (q : List ℕ) → text_after o (board_events config h) q ≡ text_at q s.files = λ q. follows h legal.1 q ∙ ap (λ t. text_at q t.files) (state-idle config h may.idle) in
+      follow-turn o law one (board_events config h) s (message_of (next_body h)) (session-order config (done h)) before path ∙ ap (λ t. text_at path t.files) (sym (state-begins config h may.there))
+  follows (Advance Finish ∷ h) legal path =
+      let may = legal.0 in
+      follows h legal.1 path ∙ ap (λ n. text_at path (session config (take n (messages h))).state.files) (begun-more h may.begun)
   follows (Give ∷ h) legal path = law o work.NextJob (board_events config h) path ∙ follows h legal path
   follows (Offer p s t ∷ h) legal path = law o (work.Offer p s t) (board_events config h) path ∙ follows h legal path
   follows (Fail p s ∷ h) legal path = law o (work.Fail p s) (board_events config h) path ∙ follows h legal path

@@ -9,7 +9,7 @@ use Rattle.lsp_session.specs.Core.{Event, state_after, board_events, IsLegal}
 use Rattle.lsp_session.specs.Run.{Incoming, Message, Work, HasRun}
 use Rattle.lsp_session.specs.Session.{session}
 
--- whatever has happened, the board has the texts of the workspace that the processed messages leave
+-- whatever has happened, the board has the texts of the workspace that the messages leave that have begun
 abbrev pub BoardFollowsTheSession : Type 0
 BoardFollowsTheSession = (opening : ℕ) (config : Configuration) (h : List Event) → IsLegal opening config h → (path : List ℕ) → text_after opening (board_events config h) path ≡ text_at path (state_after config h).files
 

@@ -4,8 +4,8 @@ ghost use Rattle.session_laws.specs.CoreLaws.{BoardFollowsTheSession, WorkedMess
 use collector_laws::{jobs_and_pieces, rounds_of_work, texts_after_events, texts_of_events};
 use lsp_workspace::documents_change_one_text;
 
-/// A law: whatever messages and work came, the board of a core has the texts of the workspace that the processed messages leave,
-/// each at its path, and no other. So an analysis of a complete board is that of the workspace of this moment.
+/// A law: whatever messages and work came, the board of a core has the texts of the workspace that the messages leave that have
+/// begun, each at its path, and no other. So an analysis of a complete board is that of the workspace of this moment.
 pub fn board_follows_the_session()
     ensures { BoardFollowsTheSession }
 {

@@ -31,7 +31,7 @@ overflow_sub-processed c =
     let all : at.yielded ≡ c.args.events.items = sym (append-nil at.yielded) ∙ ap (λ l. at.yielded ++ l) (sym none) ∙ at.invariant.parts in
     let counted = run_counted c.args.config (core_state at.core) (map incoming_of at.yielded) at.replies.items at.verdicts.items at.invariant.run in
     let arrived : c.count_messages-arrived.result ≡ length (filter is_message (map incoming_of at.yielded)) = c.count_messages-arrived.ensures ∙ ap (λ es. length (filter is_message (map incoming_of es))) (c.as_slice.ensures.value ∙ sym all) in
-    omega (arith, counted, arrived, c.queued.ensures)
+    omega (arith, counted, arrived, c.unprocessed.ensures)
 
 pub returns : goal.returns
 returns c =
@@ -41,6 +41,6 @@ returns c =
     let run = at.invariant.run in
     let counted = run_counted c.args.config (core_state at.core) (map incoming_of at.yielded) at.replies.items at.verdicts.items run in
     let arrived : c.count_messages-arrived.result ≡ length (filter is_message (map incoming_of at.yielded)) = c.count_messages-arrived.ensures ∙ ap (λ es. length (filter is_message (map incoming_of es))) (c.as_slice.ensures.value ∙ sym all) in
-    let count : c.count_messages-arrived.result - c.queued.result ≡ processed run.history = omega (arith, counted, arrived, c.queued.ensures) in
-    subst (λ es. HasRun c.args.config (map incoming_of es) at.replies.items at.verdicts.items (c.count_messages-arrived.result - c.queued.result)) all
-    (has_run c.args.config (core_state at.core) (map incoming_of at.yielded) at.replies.items at.verdicts.items (c.count_messages-arrived.result - c.queued.result) run count)
+    let count : c.count_messages-arrived.result - c.unprocessed.result ≡ processed run.history = omega (arith, counted, arrived, c.unprocessed.ensures) in
+    subst (λ es. HasRun c.args.config (map incoming_of es) at.replies.items at.verdicts.items (c.count_messages-arrived.result - c.unprocessed.result)) all
+    (has_run c.args.config (core_state at.core) (map incoming_of at.yielded) at.replies.items at.verdicts.items (c.count_messages-arrived.result - c.unprocessed.result) run count)

@@ -1,13 +1,26 @@
-use Rattle.std.proofs.Common.{ap, sym, ◌∙◌, map, arith}
+use Rattle.std.proofs.Common.{◌≡◌, ℕ, List, refl, ap, ap₂, subst, sym, ◌∙◌, map}
+use Rattle.lsp_rpc.specs.ClientCapabilities.{default_client}
 use Rattle.lsp_rpc.specs.Message.{message_view}
+use Rattle.lsp_config.specs.Configuration.{files_of}
+use Rattle.lsp_workspace.specs.Files.{Files, from_disk, workspace}
+use Rattle.lsp_workspace.specs.Texts.{first_events}
+use Rattle.piece_collector.specs.Board.{IsAfter}
+use Rattle.lsp_session.specs.Session.{State, start}
+use Rattle.lsp_session.specs.View.{state_of}
+use Rattle.lsp_session.specs.declared.phase.Phase.TheVariants.{Uninitialized}
 use Rattle.lsp_session.proofs.CoreLemmas.{session-none}
 use Rattle.lsp_session.proofs.session_core.Core.counting_from.Goals as goal
 
 pub returns-clause-is_after : goal.returns-clause-is_after
-returns-clause-is_after c = record {
-  known = omega arith;
-  legal = tt;
-  state = c.in_ok-session.ensures.state ∙ sym (ap (λ r. r.state) (session-none c.args.config));
-  queue = ap (map message_view) c.new-2.ensures.items;
-  board = c.in_ok-session.ensures.board;
-}
+returns-clause-is_after c =
+    let fresh : List (List ℕ) → Files → State = λ roots files. record { roots = roots; client = default_client; phase = Uninitialized; files = files } in
+    let files : c.in_ok-workspace.workspace.files ≡ files_of c.args.config = c.in_ok-workspace.ensures.files ∙ ap from_disk c.in_ok-roots.ensures.files in
+    let begun : state_of c.new.result c.in_ok-workspace.workspace ≡ start c.args.config =
+    c.new.ensures c.in_ok-workspace.workspace ∙ ap₂ fresh c.in_ok-roots.ensures.roots files in
+    record {
+      legal = tt;
+      state = begun ∙ sym (ap (λ r. r.state) (session-none c.args.config));
+      queue = ap (map message_view) c.new-2.ensures.items;
+      pending = refl;
+      board = subst (λ fs. IsAfter c.args.stamp c.in_ok-workspace.workspace.board (first_events (workspace fs))) files c.in_ok-workspace.ensures.board;
+    }

@@ -1,0 +1,5 @@
+mod RangesLemmas
+mod DiagnosticsLemmas
+mod DocumentsLemmas
+mod DeclarationsLemmas
+mod ReportsLemmas

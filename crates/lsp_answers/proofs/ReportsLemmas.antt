@@ -1,0 +1,102 @@
+-- The reports of all files beside what is said of each document.
+use Rattle.std.proofs.Common.{◌≡◌, ℕ, zero, suc, ◌+◌, ◌<◌, List, [], ◌∷◌, ◌++◌, false, cond, Option, Some, length, map, take, nat_cmp, Less, Greater, refl, sym, ap, ap₂, subst, ◌∙◌, arith}
+use Rattle.std.specs.Prelude.{slice_index_or, bytes_eq, unwrap_or}
+use Rattle.std.specs.BTreeMap.{is_at}
+use Rattle.std.specs.List.{enumerate_from, position_from}
+use Rattle.std.specs.List.Sorted.{IsStrictlySortedBy}
+use Rattle.std.specs.Map.{lookup}
+use Rattle.std.specs.Option.{option_map_or}
+use Rattle.std.specs.Ordering.{is_eq, ordering_reverse}
+use Rattle.std.specs.Cmp.Lexicographic.{slice_cmp, bytes_decides}
+use Rattle.std.proofs.lemmas.Cmp.{nat_list_cmp_total}
+use Rattle.std.proofs.lemmas.Iterator.Adapters.{position_from-zero}
+use Rattle.std.proofs.lemmas.List.{map-append}
+use Rattle.std.proofs.lemmas.Map.Text.{is_eq-slice_cmp}
+use Rattle.std.proofs.lemmas.Simd.{map-map}
+use Rattle.doc_text.specs.declared.encoding.Encoding.{Encoding}
+use Rattle.file_facts.specs.declared.diagnostic.Diag.{Diag}
+use Rattle.lsp_rpc.specs.Diagnostic.{DiagnosticData}
+use Rattle.lsp_rpc.specs.Workspace.{DocumentData}
+use Rattle.lsp_workspace.specs.Files.{text_at}
+use Rattle.lsp_workspace.proofs.PathOrder.{AreBehind, Ascend, paths, ascend-workspace, order-apart}
+use Rattle.lsp_workspace.proofs.WorkspaceLemmas.{text_of_workspace}
+use Rattle.work_index.specs.Workspace.{Workspace, AnalysisData, analysis, diags_at}
+use Rattle.lsp_answers.specs.Diagnostics.{placed}
+use Rattle.lsp_answers.specs.Reports.{ReportsAgreeWithDocuments, numbered_report}
+
+another_path : (p q : List ℕ) → slice_cmp nat_cmp p q ≡ Less → bytes_eq p q ≡ false
+another_path p q less = sym (is_eq-slice_cmp p q) ∙ ap is_eq less
+
+module _ (e : Encoding) (diags : List (List Diag)) where
+  -- what is wrong in the file with a path among these, of which the first has the number n
+  abbrev found_from : ℕ → List (List ℕ) → List ℕ × List ℕ → List DiagnosticData
+  found_from n ps file = placed e file.1 (option_map_or (λ number. slice_index_or diags number []) (position_from (λ p. bytes_eq p file.0) n ps) [])
+
+  -- the same, given its number
+  abbrev found_at : ℕ × (List ℕ × List ℕ) → List DiagnosticData
+  found_at file = placed e file.1.1 (slice_index_or diags file.0 [])
+
+  -- a path before those of the files is no file's
+  pass-one : (n : ℕ) (p : List ℕ) (ps : List (List ℕ)) (w : Workspace) → AreBehind p (paths w) → map (found_from n (p ∷ ps)) w ≡ map (found_from (n + 1) ps) w
+  pass-one n p ps [] all = refl
+  pass-one n p ps (file ∷ w) all = rw (another_path p file.0 all.0) (ap (λ l. found_from (n + 1) ps file ∷ l) (pass-one n p ps w all.1))
+
+  found-all : (n : ℕ) (w : Workspace) → Ascend w → map found_at (enumerate_from n w) ≡ map (found_from n (paths w)) w
+  unfolding IsStrictlySortedBy
+  found-all n [] order = refl
+  found-all n (file ∷ w) order =
+      rw ((bytes_decides file.0 file.0).1 refl) (ap (λ l. found_at (n, file) ∷ l) (found-all (n + 1) w order.1 ∙ sym (pass-one n file.0 (paths w) w order.0)))
+
+-- what an analysis says of each file by its path
+by_path : (e : Encoding) (a : AnalysisData) (w : Workspace) → a.paths ≡ paths w → map (found_from e a.diagnostics 0 (paths w)) w ≡ map (λ file. placed e file.1 (diags_at a file.0)) w
+by_path e a w same =
+    ap (λ ps. map (found_from e a.diagnostics 0 ps) w) (sym same)
+    ∙ ap (λ f. map f w) (λ i file. placed e file.1 (option_map_or (λ number. slice_index_or a.diagnostics number []) (sym (position_from-zero (λ p. bytes_eq p file.0) a.paths) i) []))
+
+-- ---- the text of each file is the one that is found at its path
+
+abbrev text_in : Workspace → List ℕ → Option (List ℕ)
+text_in w path = lookup (is_at (slice_cmp nat_cmp path)) w
+
+module _ {X : Type 0} (of : List ℕ × List ℕ → Option (List ℕ) → X) where
+  -- a file before others isn't found at their paths
+  pass-text : (first : List ℕ × List ℕ) (v w : Workspace) → AreBehind first.0 (paths v) → map (λ file. of file (text_in (first ∷ w) file.0)) v ≡ map (λ file. of file (text_in w file.0)) v
+  pass-text first [] w all = refl
+  pass-text first (file ∷ v) w all =
+      let after : slice_cmp nat_cmp file.0 first.0 ≡ Greater = nat_list_cmp_total.antisymm file.0 first.0 ∙ ap ordering_reverse all.0 in
+      ap₂ ◌∷◌ (ap (λ o. of file (cond (is_eq o) (Some first.1) (text_in w file.0))) after) (pass-text first v w all.1)
+
+  own-texts : (w : Workspace) → Ascend w → map (λ file. of file (text_in w file.0)) w ≡ map (λ file. of file (Some file.1)) w
+  unfolding IsStrictlySortedBy
+  own-texts [] order = refl
+  own-texts (file ∷ w) order =
+      let own = is_eq-slice_cmp file.0 file.0 ∙ (bytes_decides file.0 file.0).1 refl in
+      ap₂ ◌∷◌ (ap (λ b. of file (cond b (Some file.1) (text_in w file.0))) own) (pass-text file w w order.0 ∙ own-texts w order.1)
+
+pub reports_of_documents : ReportsAgreeWithDocuments
+reports_of_documents c order is =
+    let e = c.encoding in
+    let w = c.workspace in
+    let a = analysis w in
+    let ascend : Ascend w = subst Ascend (sym is) (ascend-workspace c.files order) in
+    let of : List ℕ × List ℕ → Option (List ℕ) → List DiagnosticData = λ file text. placed e (unwrap_or text []) (diags_at a file.0) in
+    let text : (path : List ℕ) → text_in w path ≡ text_at path c.files = λ path. ap (λ v. text_in v path) is ∙ text_of_workspace path c.files (order-apart c.files order) in
+    map-map (λ (report : DocumentData). report.diagnostics) (numbered_report c) (enumerate_from 0 w) ∙ found-all e a.diagnostics 0 w ascend ∙ by_path e a w refl
+    ∙ sym (own-texts of w ascend) ∙ ap (λ f. map f w) (λ i file. of file (text file.0 i))
+
+-- ---- one report more
+
+enumerate-more : (n : ℕ) (w : Workspace) (i : ℕ) → i < length w → enumerate_from n (take (suc i) w) ≡ enumerate_from n (take i w) ++ (n + i, slice_index_or w i ([], [])) ∷ []
+enumerate-more n [] i there = absurd (omega (arith, there))
+enumerate-more n (file ∷ w) zero there = let same : n ≡ n + 0 = omega arith in ap (λ m. (m, file) ∷ []) same
+enumerate-more n (file ∷ w) (suc i) there =
+    let same : n + 1 + i ≡ n + suc i = omega arith in
+    ap (λ l. (n, file) ∷ l) (enumerate-more (n + 1) w i (omega (arith, there)) ∙ ap (λ m. enumerate_from (n + 1) (take i w) ++ (m, slice_index_or w i ([], [])) ∷ []) same)
+
+pub reports-more : {X : Type 0} (f : ℕ × (List ℕ × List ℕ) → X) (w : Workspace) (i : ℕ) → i < length w → map f (enumerate_from 0 (take (i + 1) w)) ≡ map f (enumerate_from 0 (take i w)) ++ f (i, slice_index_or w i ([], [])) ∷ []
+reports-more f w i there =
+    let count : i + 1 ≡ suc i = omega arith in
+    let number : 0 + i ≡ i = omega arith in
+    let first = enumerate_from 0 (take i w) in
+    let file = slice_index_or w i ([], []) in
+    ap (λ k. map f (enumerate_from 0 (take k w))) count ∙ ap (map f) (enumerate-more 0 w i there ∙ ap (λ k. first ++ (k, file) ∷ []) number) ∙ map-append f first ((i, file) ∷ [])

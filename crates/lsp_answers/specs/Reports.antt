@@ -1,0 +1,51 @@
+-- What is wrong in the files of a workspace, as the editor gets it.
+use Rattle.std.specs.Prelude.{◌≡◌, ℕ, ℤ, List, [], ◌∷◌, Option, option_map, option_and_then, unwrap_or, map, slice_index_or}
+use Rattle.std.specs.List.{enumerate_from}
+use Rattle.lsp_rpc.specs.Diagnostic.{DiagnosticData}
+use Rattle.lsp_rpc.specs.Workspace.{DocumentData}
+use Rattle.file_facts.specs.declared.diagnostic.Diag.{Diag}
+use Rattle.work_index.specs.Workspace.{analysis, diags_at}
+use Rattle.workspace_uri.specs.Uri.{file_uri, root_text_at}
+use Rattle.lsp_workspace.specs.Files.{File, file_at, text_at, workspace, AreInPathOrder}
+use Rattle.lsp_answers.specs.Context.{Context}
+use Rattle.lsp_answers.specs.Diagnostics.{placed}
+
+-- the text of the file at a path; empty if it has none
+abbrev pub document_text : Context → List ℕ → List ℕ
+document_text c path = unwrap_or (text_at path c.files) []
+
+-- what is wrong in the document at a path
+abbrev pub document_diagnostics : Context → List ℕ → List DiagnosticData
+document_diagnostics c path = placed c.encoding (document_text c path) (diags_at (analysis c.workspace) path)
+
+-- the URI of the last open of the file, or else that of the path below the root under which it was found
+abbrev pub uri_of : List (List ℕ) → List ℕ → Option File → List ℕ
+uri_of roots path file = unwrap_or (option_and_then (λ f. f.uri) file) (file_uri (root_text_at roots (option_and_then (λ f. f.root) file)) path)
+
+-- the version of its document, if one is open
+abbrev pub version_of : Option File → Option ℤ
+version_of file = option_and_then (λ f. option_map (λ d. d.version) f.document) file
+
+-- the report of a file, given its path and its text, and what is wrong in it
+abbrev pub report_of : Context → List Diag → List ℕ × List ℕ → DocumentData
+report_of c diags file = record {
+  diagnostics = placed c.encoding file.1 diags;
+  uri = uri_of c.roots file.0 (file_at file.0 c.files);
+  version = version_of (file_at file.0 c.files);
+}
+
+-- the same, given its number in the workspace
+abbrev pub numbered_report : Context → ℕ × (List ℕ × List ℕ) → DocumentData
+numbered_report c file = report_of c (let a = analysis c.workspace in slice_index_or a.diagnostics file.0 []) file.1
+
+-- the reports of all files of the workspace, by path
+abbrev pub workspace_reports : Context → List DocumentData
+workspace_reports c = map (numbered_report c) (enumerate_from 0 c.workspace)
+
+-- the diagnostics of the reports, one after the other, are those of each document of the workspace
+abbrev pub ReportsAreOfDocuments : Context → Type 0
+ReportsAreOfDocuments c = map (λ report. report.diagnostics) (workspace_reports c) ≡ map (λ file. document_diagnostics c file.0) c.workspace
+
+-- so it is where the paths of the files ascend, and the workspace is those that have a text
+abbrev pub ReportsAgreeWithDocuments : Type 0
+ReportsAgreeWithDocuments = (c : Context) → AreInPathOrder c.files → c.workspace ≡ workspace c.files → ReportsAreOfDocuments c

@@ -1,8 +1,0 @@
-use Rattle.std.proofs.Common.{◌≡◌, ◌++◌, drop, map}
-use Rattle.lsp_session.specs.Answers as spec
-use Rattle.lsp_session.specs.AnswerViews.{found_view}
-use Rattle.lsp_session.proofs.answers.declarations.Given as goal
-
--- what is found and what is left are all
-abbrev pub invariant-loop-decl : goal.invariant-loop-decl
-invariant-loop-decl l = map found_view l.found.items ++ spec.declarations l.analysis (drop l.decl-index l.decls) ≡ spec.declarations l.analysis l.decls

@@ -1,9 +1,0 @@
-use Rattle.std.proofs.Common.{map}
-use Rattle.lsp_rpc.specs.Diagnostic.{diagnostic_view}
-use Rattle.lsp_session.proofs.DiagnosticsLemmas.{placed-more}
-use Rattle.lsp_session.proofs.diagnostics.between.Goals as goal
-
-pub loop-i-preserved : goal.loop-i-preserved
-loop-i-preserved c =
-    placed-more c.args.text.now c.args.diags.now c.args.starts.now c.args.ends.now (map diagnostic_view c.loop-i.found.items) (map diagnostic_view c.push_diagnostic.new.found.items) c.loop-i.i _ _ _
-    c.loop-i-test.true c.requires.starts c.requires.ends c.loop-i.invariant c.in_ok-push_diagnostic.ensures

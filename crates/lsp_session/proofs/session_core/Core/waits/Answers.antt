@@ -1,0 +1,11 @@
+use Rattle.lsp_session.specs.Core.{messages, processed}
+use Rattle.lsp_session.specs.View.{core_state}
+use Rattle.std.proofs.Common.{◌≡◌, ◌-◌, ◌∙◌, length, arith}
+use Rattle.std.proofs.lemmas.Bool.{ltb-true, lt-ltb}
+use Rattle.lsp_session.proofs.CoreLemmas.{unprocessed-is}
+use Rattle.lsp_session.proofs.session_core.Core.waits.Goals as goal
+
+pub returns : goal.returns
+returns c = λ opening config h after.
+    let left : c.unprocessed.result ≡ length (messages h) - processed h = c.unprocessed.ensures ∙ unprocessed-is opening config (core_state c.args.self.now) h after in
+    (λ some. let more = ltb-true 0 c.unprocessed.result some in omega (arith, left, more), λ there. lt-ltb 0 c.unprocessed.result (omega (arith, left, there)))
