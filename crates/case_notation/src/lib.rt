@@ -2,12 +2,12 @@
 //! for those that a line can't hold.
 #![tactic(auto)]
 
+mod line;
 mod marks;
 mod names;
-mod trouble;
 mod words;
 
-pub use marks::{plain, push_shown, shown};
+pub use line::Line;
+pub use marks::plain;
 pub use names::Names;
-pub use trouble::{Answer, Trouble};
-pub use words::{behind, field, fields_of, file_of, first_word, number};
+pub use words::{field, first_word, number};

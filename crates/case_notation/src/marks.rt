@@ -18,21 +18,6 @@ pub fn plain(alloc: Global, field: &str) -> Result<String, AllocError> {
     Ok(text)
 }
 
-/// The text with the characters that stand for others, and no `S|`.
-pub fn shown(alloc: Global, text: &str) -> Result<String, AllocError> {
-    let mut field = String::new(alloc);
-    push_shown(&mut field, text)?;
-    Ok(field)
-}
-
-/// Writes a text with the characters that stand for others, and no `S|`.
-pub fn push_shown(line: &mut String, text: &str) -> Result<(), AllocError> {
-    for character in text.chars() {
-        line.push(marked(character))?;
-    }
-    Ok(())
-}
-
 fn unmarked(mark: char) -> char {
     match mark {
         '|' => '\n',
@@ -42,14 +27,14 @@ fn unmarked(mark: char) -> char {
         '␌' => '\u{C}',
         '␀' => '\0',
         '␡' => '\u{7F}',
-        '␠' => ' ',
         '␣' => '\u{A0}',
         '␂' => '\u{FEFF}',
         other => other,
     }
 }
 
-fn marked(character: char) -> char {
+/// The character that stands for another one in an answer.
+pub fn marked(character: char) -> char {
     match character {
         '\n' => '|',
         '\r' => '␍',

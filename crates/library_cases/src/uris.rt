@@ -1,66 +1,90 @@
 // Roots, paths and URIs.
-use crate::line::put;
-use case_notation::{Answer, field, plain, push_shown};
+use case_notation::{Line, field, plain};
 use std::alloc::{AllocError, Global};
-use workspace_uri::{Root, escape_path, is_workspace_path};
+use workspace_uri::{Roots, UriPlace, escape_path, is_workspace_path};
 
 /// Writes the answer to a call on URIs.
-pub fn answer(alloc: Global, line: &mut String, call: &str, fields: &[&str]) -> Answer<()> {
-    let text = plain(alloc, field(fields, 0))?;
-    write_answer(alloc, line, call, text.as_str(), field(fields, 1))?;
+pub fn answer(alloc: Global, line: &mut Line, given: &str) -> Result<(), AllocError> {
+    match field(given, 0) {
+        "escaped" => write_escaped(alloc, line, field(given, 1)),
+        "workspace path" => write_is_path(alloc, line, field(given, 1)),
+        _ => write_below(alloc, line, given),
+    }
+}
+
+fn write_escaped(alloc: Global, line: &mut Line, path: &str) -> Result<(), AllocError> {
+    let path = plain(alloc, path)?;
+    let escaped = escape_path(alloc, path.as_bytes())?;
+    line.put(escaped.as_str());
     Ok(())
 }
 
-fn write_answer(
-    alloc: Global,
-    line: &mut String,
-    call: &str,
-    text: &str,
-    other: &str,
-) -> Result<(), AllocError> {
-    match call {
-        "escaped" => put(line, escape_path(alloc, text.as_bytes())?.as_str()),
-        "workspace path" => {
-            let is_path = is_workspace_path(text);
-            write!(line, "{is_path}")
-        }
-        _ => match Root::parse(alloc, text)? {
-            None => put(line, "no root"),
-            Some(root) => write_below(alloc, line, call, &root, other),
-        },
+// Whether a file of a workspace has the path.
+fn write_is_path(alloc: Global, line: &mut Line, path: &str) -> Result<(), AllocError> {
+    let path = plain(alloc, path)?;
+    line.put(if is_workspace_path(path.as_str()) {
+        "true"
+    } else {
+        "false"
+    });
+    Ok(())
+}
+
+// The root that a text names, as the only one.
+fn only_root(alloc: Global, text: &str) -> Result<Option<Roots>, AllocError> {
+    let mut texts = Vec::new(alloc);
+    texts.push(String::from_str(alloc, text)?)?;
+    Roots::parse(alloc, texts.as_slice())
+}
+
+// Writes the answer to a call on a root.
+fn write_below(alloc: Global, line: &mut Line, given: &str) -> Result<(), AllocError> {
+    match only_root(alloc, field(given, 1))? {
+        Some(roots) => write_call(alloc, line, &roots, given),
+        None => Ok(line.put("no root")),
     }
 }
 
-fn write_below(
+fn write_call(
     alloc: Global,
-    line: &mut String,
-    call: &str,
-    root: &Root,
-    other: &str,
+    line: &mut Line,
+    roots: &Roots,
+    given: &str,
 ) -> Result<(), AllocError> {
-    match call {
-        "root" => put(line, root.as_str()),
-        "path" => write_path(alloc, line, root, plain(alloc, other)?.as_str()),
-        _ => write_uri(alloc, line, root, plain(alloc, other)?.as_str()),
+    match field(given, 0) {
+        "path" => write_path(alloc, line, roots, field(given, 2)),
+        "uri" => write_uri(alloc, line, roots, field(given, 2)),
+        "root" => write_root(alloc, line, roots),
+        _ => Ok(line.put("no such call")),
     }
 }
 
-// The path of a URI below a root.
-fn write_path(alloc: Global, line: &mut String, root: &Root, uri: &str) -> Result<(), AllocError> {
-    match root.path_of(alloc, uri)? {
-        Some(path) => push_shown(line, path.as_str()),
-        None => put(line, "no URL"),
+// The URI of no path below a root is the root's own text.
+fn write_root(alloc: Global, line: &mut Line, roots: &Roots) -> Result<(), AllocError> {
+    let uri = roots.uri_of(alloc, 0, "")?;
+    line.put(uri.as_str());
+    Ok(())
+}
+
+fn write_place(line: &mut Line, place: UriPlace) {
+    let path = place.into_path(None);
+    line.put_shown(path.as_str());
+}
+
+// The path of a URI below a root, where no other root has a file.
+fn write_path(alloc: Global, line: &mut Line, roots: &Roots, uri: &str) -> Result<(), AllocError> {
+    match roots.place_of(alloc, uri)? {
+        Some(place) => write_place(line, place),
+        None => line.put("no URL"),
     }
+    Ok(())
 }
 
 // The URI of a path below a root, and the path that it leads back to.
-fn write_uri(alloc: Global, line: &mut String, root: &Root, path: &str) -> Result<(), AllocError> {
-    let uri = root.uri_of(alloc, path)?;
-    write_both(alloc, line, root, uri.as_str())
-}
-
-fn write_both(alloc: Global, line: &mut String, root: &Root, uri: &str) -> Result<(), AllocError> {
-    put(line, uri)?;
-    put(line, " :: ")?;
-    write_path(alloc, line, root, uri)
+fn write_uri(alloc: Global, line: &mut Line, roots: &Roots, path: &str) -> Result<(), AllocError> {
+    let path = plain(alloc, path)?;
+    let uri = roots.uri_of(alloc, 0, path.as_str())?;
+    line.put(uri.as_str());
+    line.put(" :: ");
+    write_path(alloc, line, roots, uri.as_str())
 }

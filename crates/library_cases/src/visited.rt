@@ -1,5 +1,6 @@
 // Gates that count how often each file passes them.
-use crate::pieces::{path_of, stamp_of};
+use crate::pieces::text_of;
+use case_notation::Line;
 use piece_collector::Piece;
 use std::alloc::{AllocError, Global};
 use std::sync::atomic::{AtomicU64, Ordering};
@@ -28,6 +29,15 @@ pub struct Visited {
     misses: AtomicU64,
 }
 
+fn visitor_of(alloc: Global, piece: &Piece<FileWork>) -> Result<Visitor, AllocError> {
+    let own = text_of(piece);
+    Ok(Visitor {
+        path: String::from_str(alloc, own.path)?,
+        stamp: own.stamp,
+        times: AtomicU64::new(0),
+    })
+}
+
 impl Visited {
     /// A gate for these files.
     pub fn by(
@@ -37,11 +47,7 @@ impl Visited {
     ) -> Result<Visited, AllocError> {
         let mut visitors = Vec::new(alloc);
         for piece in pieces {
-            visitors.push(Visitor {
-                path: String::from_str(alloc, path_of(piece))?,
-                stamp: stamp_of(piece),
-                times: AtomicU64::new(0),
-            })?;
+            visitors.push(visitor_of(alloc, piece)?)?;
         }
         Ok(Visited {
             visitors,
@@ -84,25 +90,27 @@ impl Visited {
     }
 
     /// Writes how often each file came, how often another one did, and how often one waited in vain; the last two where it isn't 0.
-    pub fn write(&self, line: &mut String) -> Result<(), AllocError> {
+    pub fn write(&self, line: &mut Line) {
+        line.put("; came:");
         for visitor in &self.visitors {
-            let times = visitor.times.load(Ordering::SeqCst);
-            write_times(line, visitor.path.as_str(), times)?;
+            write_times(line, visitor.path.as_str(), &visitor.times);
         }
-        write_count(line, "strangers", &self.strangers)?;
-        write_count(line, "misses", &self.misses)
+        write_count(line, "strangers", &self.strangers);
+        write_count(line, "misses", &self.misses);
     }
 }
 
-fn write_count(line: &mut String, what: &str, count: &AtomicU64) -> Result<(), AllocError> {
-    match count.load(Ordering::SeqCst) {
-        0 => Ok(()),
-        count => write_times(line, what, count),
+fn write_count(line: &mut Line, what: &str, count: &AtomicU64) {
+    if count.load(Ordering::SeqCst) > 0 {
+        write_times(line, what, count);
     }
 }
 
-fn write_times(line: &mut String, what: &str, times: u64) -> Result<(), AllocError> {
-    write!(line, " {what} {times}")
+fn write_times(line: &mut Line, what: &str, count: &AtomicU64) {
+    line.put(" ");
+    line.put(what);
+    line.put(" ");
+    line.put_number(count.load(Ordering::SeqCst));
 }
 
 impl Gate for Visited {

@@ -1,65 +1,71 @@
 // Cores: messages, and work that is brought in any order.
 use crate::configs::config_of;
-use crate::frames::push_body;
+use crate::frames::put_body;
 use crate::settings::bytes_of;
-use case_notation::{Answer, Names, Trouble, field, file_of, first_word, number};
+use case_notation::{Line, Names, field, first_word, number, plain};
 use lsp_session::{
-    Config, Core, CoreEvent, CoreFault, CoreRun, Done, FileWork, Job, OpenGate, Piece, Reply,
-    Verdict, run_core,
+    Core, CoreEvent, CoreFault, CoreRun, Done, FileWork, Job, Piece, Reply, Verdict, run_core,
 };
 use std::alloc::{AllocError, Global};
-use std::sync::Wait;
-use std::thread::Threads;
 
-/// Writes the replies, each behind a blank.
-pub fn write_replies(names: &Names, line: &mut String, replies: &[Reply]) -> Answer<()> {
+fn put_replies(names: &Names, line: &mut Line, replies: &[Reply]) {
     for reply in replies {
-        line.push(' ')?;
-        push_body(names, line, reply.as_bytes())?;
-    }
-    Ok(())
-}
-
-/// What a core answers to these events, or its fault.
-pub fn run(alloc: Global, config: Config, events: Vec<CoreEvent>) -> Answer<CoreRun> {
-    match run_core(alloc, config, events) {
-        Ok(run) => Ok(run),
-        Err(fault) => Err(Trouble::Fault(fault.code())),
+        line.put(" ");
+        put_body(names, line, reply.as_bytes());
     }
 }
 
-// The work on a text, given the stamp of its job, its path and the text.
-fn made(alloc: Global, words: &str) -> Answer<Done> {
+fn put_verdict(line: &mut Line, verdict: Verdict) {
+    line.put(match verdict {
+        Verdict::Taken => " Taken",
+        Verdict::Stale => " Stale",
+        Verdict::Foreign => " Foreign",
+        Verdict::Doubled => " Doubled",
+    });
+}
+
+fn put_fault(line: &mut Line, fault: CoreFault) {
+    line.put(" fault ");
+    line.put_number(fault.code() as u64);
+}
+
+// A job, given its stamp, its path and its text.
+fn job(alloc: Global, words: &str) -> Result<Job, AllocError> {
     let (stamp, file) = first_word(words);
-    let (path, text) = file_of(alloc, file)?;
-    let job = Job::new(path, number(stamp)?, text);
+    let (path, text) = first_word(file);
+    let path = plain(alloc, path)?;
+    Ok(Job::new(path, number(stamp), plain(alloc, text)?))
+}
+
+fn made(alloc: Global, job: Job) -> Result<Done, AllocError> {
     match Piece::make(&FileWork::new(alloc), job) {
         Ok(piece) => Ok(Done::Made(piece)),
-        Err(_) => Err(Trouble::Memory),
+        Err(_) => Err(AllocError),
     }
 }
 
 // A job that failed, given its stamp and its path.
-fn failed(alloc: Global, words: &str) -> Answer<Done> {
+fn failed(alloc: Global, words: &str) -> Result<Done, AllocError> {
     let (stamp, path) = first_word(words);
     Ok(Done::Failed {
         path: String::from_str(alloc, path)?,
-        stamp: number(stamp)?,
+        stamp: number(stamp),
     })
 }
 
 // What is brought, if the step says so.
-fn sent(alloc: Global, step: &str) -> Answer<Option<Done>> {
-    if let Some(words) = step.strip_prefix("made ") {
-        return Ok(Some(made(alloc, words)?));
+fn sent(alloc: Global, step: &str) -> Result<Option<Done>, AllocError> {
+    let (word, rest) = first_word(step);
+    match word {
+        "made" => Ok(Some(made(alloc, job(alloc, rest)?)?)),
+        "failed" => Ok(Some(failed(alloc, rest)?)),
+        _ => Ok(None),
     }
-    if let Some(words) = step.strip_prefix("failed ") {
-        return Ok(Some(failed(alloc, words)?));
-    }
-    Ok(None)
 }
 
-fn event(alloc: Global, step: &str) -> Answer<CoreEvent> {
+// ---- runs
+
+fn event(alloc: Global, step: &str) -> Result<CoreEvent, AllocError> {
     if step == "work" {
         return Ok(CoreEvent::Work);
     }
@@ -69,9 +75,9 @@ fn event(alloc: Global, step: &str) -> Answer<CoreEvent> {
     }
 }
 
-fn events(alloc: Global, fields: &[&str]) -> Answer<Vec<CoreEvent>> {
+fn events(alloc: Global, given: &str) -> Result<Vec<CoreEvent>, AllocError> {
     let mut events = Vec::new(alloc);
-    for field in fields {
+    for field in given.split(" :: ") {
         if let Some(step) = field.strip_prefix("> ") {
             events.push(event(alloc, step)?)?;
         }
@@ -79,158 +85,123 @@ fn events(alloc: Global, fields: &[&str]) -> Answer<Vec<CoreEvent>> {
     Ok(events)
 }
 
-fn write_verdicts(line: &mut String, verdicts: &[Verdict]) -> Result<(), AllocError> {
-    for verdict in verdicts {
-        write!(line, " {verdict:?}")?;
+fn put_run(names: &Names, line: &mut Line, run: &CoreRun) {
+    line.put_number(run.processed as u64);
+    line.put(" processed");
+    for verdict in &run.verdicts {
+        put_verdict(line, *verdict);
     }
-    Ok(())
+    line.put(":");
+    put_replies(names, line, run.replies.as_slice());
 }
 
 /// A run of a core, each event with an advance behind it: how many messages were processed, the verdicts, and the replies.
-pub fn answer_run(names: &Names, line: &mut String, fields: &[&str]) -> Answer<()> {
-    let alloc = names.alloc();
-    let run = run(alloc, config_of(alloc, fields)?, events(alloc, fields)?)?;
-    let processed = run.processed;
-    write!(line, "{processed} processed")?;
-    write_verdicts(line, run.verdicts.as_slice())?;
-    line.push(':')?;
-    write_replies(names, line, run.replies.as_slice())
+pub fn answer_run(names: &Names, line: &mut Line, given: &str) -> Result<(), AllocError> {
+    let events = events(names.alloc(), given)?;
+    let config = config_of(names.alloc(), given, 1)?;
+    match run_core(names.alloc(), config, events) {
+        Ok(run) => put_run(names, line, &run),
+        Err(fault) => put_fault(line, fault),
+    }
+    Ok(())
 }
 
 // ---- calls on a core
 
-fn write_fault(line: &mut String, fault: CoreFault) -> Answer<()> {
-    let code = fault.code();
-    Ok(write!(line, " fault {code}")?)
-}
-
-fn write_advance(
-    names: &Names,
-    line: &mut String,
-    answer: Result<Vec<Reply>, CoreFault>,
-) -> Answer<()> {
-    match answer {
-        Ok(replies) => write_replies(names, line, replies.as_slice()),
-        Err(fault) => write_fault(line, fault),
+fn advance(names: &Names, line: &mut Line, core: &mut Core) {
+    match core.advance() {
+        Ok(replies) => put_replies(names, line, replies.as_slice()),
+        Err(fault) => put_fault(line, fault),
     }
 }
 
-// An advance whose analyses are made by threads, given their number.
-fn advance_in_shares<R: Threads + Wait>(
-    rt: &R,
-    names: &Names,
-    line: &mut String,
-    core: &mut Core,
-    workers: &str,
-) -> Answer<()> {
-    let answer = core.advance_in_shares(rt, workers.parse::<usize>()?, &OpenGate);
-    write_advance(names, line, answer)
-}
-
-fn next_job(line: &mut String, core: &mut Core) -> Answer<()> {
+fn next_job(line: &mut Line, core: &mut Core) {
     match core.next_job() {
         Ok(Some(job)) => {
-            let path = job.path();
-            let stamp = job.stamp();
-            Ok(write!(line, " {path}@{stamp}")?)
+            line.put(" ");
+            line.put(job.path());
+            line.put("@");
+            line.put_number(job.stamp());
         }
-        Ok(None) => Ok(line.push_str(" none")?),
-        Err(fault) => write_fault(line, fault),
+        Ok(None) => line.put(" none"),
+        Err(fault) => put_fault(line, fault),
     }
 }
 
-fn offer(line: &mut String, core: &mut Core, sent: Done) -> Answer<()> {
+fn offer(line: &mut Line, core: &mut Core, sent: Done) {
     match core.offer(sent) {
-        Ok(verdict) => Ok(write!(line, " {verdict:?}")?),
-        Err(fault) => write_fault(line, fault),
+        Ok(verdict) => put_verdict(line, verdict),
+        Err(fault) => put_fault(line, fault),
     }
 }
 
-fn message(alloc: Global, line: &mut String, core: &mut Core, body: &str) -> Answer<()> {
+fn message(alloc: Global, line: &mut Line, core: &mut Core, body: &str) -> Result<(), AllocError> {
     let body = bytes_of(alloc, body)?;
-    match core.message(body.as_slice()) {
-        Ok(()) => Ok(()),
-        Err(fault) => write_fault(line, fault),
-    }
-}
-
-fn step<R: Threads + Wait>(
-    rt: &R,
-    names: &Names,
-    line: &mut String,
-    core: &mut Core,
-    step: &str,
-) -> Answer<()> {
-    if let Some(workers) = step.strip_prefix("advance in shares ") {
-        return advance_in_shares(rt, names, line, core, workers);
-    }
-    match step {
-        "advance" => return write_advance(names, line, core.advance()),
-        "job" => return next_job(line, core),
-        _ => {}
-    }
-    match sent(names.alloc(), step)? {
-        Some(sent) => offer(line, core, sent),
-        None => message(names.alloc(), line, core, step),
-    }
-}
-
-// Steps, and behind each whether a message waits.
-fn write_steps<R: Threads + Wait>(
-    rt: &R,
-    names: &Names,
-    line: &mut String,
-    mut core: Core,
-    fields: &[&str],
-) -> Answer<()> {
-    let waits = core.waits();
-    write!(line, "{waits}")?;
-    for field in fields {
-        if let Some(what) = field.strip_prefix("> ") {
-            step(rt, names, line, &mut core, what)?;
-        }
-        let waits = core.waits();
-        write!(line, " {waits}")?;
+    if let Err(fault) = core.message(body.as_slice()) {
+        put_fault(line, fault);
     }
     Ok(())
 }
 
-fn answer_steps<R: Threads + Wait>(
-    rt: &R,
-    names: &Names,
-    line: &mut String,
-    core: Result<Core, CoreFault>,
-    fields: &[&str],
-) -> Answer<()> {
-    match core {
-        Ok(core) => write_steps(rt, names, line, core, fields),
-        Err(fault) => write_fault(line, fault),
+// Brings work, or a message.
+fn bring(alloc: Global, line: &mut Line, core: &mut Core, step: &str) -> Result<(), AllocError> {
+    match sent(alloc, step)? {
+        Some(sent) => Ok(offer(line, core, sent)),
+        None => message(alloc, line, core, step),
     }
 }
 
-/// Calls on a core, one after the other: what each answers, and whether a message waits at first and after each. `advance in shares 3`
-/// is an advance whose analyses three threads make.
-pub fn answer_core<R: Threads + Wait>(
-    rt: &R,
-    names: &Names,
-    line: &mut String,
-    fields: &[&str],
-) -> Answer<()> {
-    let core = Core::new(names.alloc(), config_of(names.alloc(), fields)?);
-    answer_steps(rt, names, line, core, fields)
+fn step(names: &Names, line: &mut Line, core: &mut Core, step: &str) -> Result<(), AllocError> {
+    match step {
+        "advance" => Ok(advance(names, line, core)),
+        "job" => Ok(next_job(line, core)),
+        _ => bring(names.alloc(), line, core, step),
+    }
 }
 
-/// The same, where the stamps begin behind that of the first field.
-pub fn answer_counting<R: Threads + Wait>(
-    rt: &R,
+fn put_waits(line: &mut Line, core: &Core) {
+    line.put(if core.waits() { "true" } else { "false" });
+}
+
+fn put_steps(
     names: &Names,
-    line: &mut String,
-    fields: &[&str],
-) -> Answer<()> {
-    let stamp = number(field(fields, 0))?;
-    let Some((_, rest)) = fields.split_first() else {
-        return Ok(());
+    line: &mut Line,
+    mut core: Core,
+    given: &str,
+    behind: usize,
+) -> Result<(), AllocError> {
+    put_waits(line, &core);
+    for field in given.split(" :: ").skip(behind) {
+        if let Some(what) = field.strip_prefix("> ") {
+            step(names, line, &mut core, what)?;
+        }
+        line.put(" ");
+        put_waits(line, &core);
+    }
+    Ok(())
+}
+
+// The core of the files of the fields behind so many; if that is two, its stamps begin behind that of the first one.
+fn begun(alloc: Global, given: &str, behind: usize) -> Result<Result<Core, CoreFault>, AllocError> {
+    let config = config_of(alloc, given, behind)?;
+    let stamp = if behind == 2 {
+        number(field(given, 1))
+    } else {
+        0
     };
-    let core = Core::counting_from(names.alloc(), config_of(names.alloc(), rest)?, stamp);
-    answer_steps(rt, names, line, core, rest)
+    Ok(Core::counting_from(alloc, config, stamp))
+}
+
+/// Calls on a core, one after the other: what each answers, and whether a message waits at first and after each. The files and the
+/// calls are the fields behind so many.
+pub fn answer_core(
+    names: &Names,
+    line: &mut Line,
+    given: &str,
+    behind: usize,
+) -> Result<(), AllocError> {
+    match begun(names.alloc(), given, behind)? {
+        Ok(core) => put_steps(names, line, core, given, behind),
+        Err(fault) => Ok(put_fault(line, fault)),
+    }
 }

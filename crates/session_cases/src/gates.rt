@@ -1,10 +1,9 @@
 // Sessions and checks whose workers a gate holds back until something else has happened.
 use crate::configs::config_of;
-use crate::settings::bytes_of;
-use crate::streams::{write_ended, write_found, write_sent};
-use case_notation::{Answer, field};
+use crate::settings::{bytes_of, put_bytes};
+use case_notation::{Line, field};
 use lsp_frame::{ByteSource, Fail, FrameReader, MemSink, MemSource};
-use lsp_session::{Config, Gate, check, serve};
+use lsp_session::{Config, Ended, Gate, ServeFault, check, serve};
 use std::alloc::{AllocError, Global};
 use std::marker::Send;
 use std::sync::atomic::{AtomicU64, Ordering};
@@ -70,6 +69,17 @@ struct Holding {
     misses: AtomicU64,
 }
 
+impl Holding {
+    // A gate that nobody has come to.
+    fn new() -> Holding {
+        Holding {
+            entered: AtomicU64::new(0),
+            asked: AtomicU64::new(0),
+            misses: AtomicU64::new(0),
+        }
+    }
+}
+
 impl Gate for Holding {
     fn enter(&self, _path: &str, _stamp: u64) {
         if self.entered.fetch_add(1, Ordering::SeqCst) == 0 && !comes_to(&self.asked, 1) {
@@ -107,6 +117,38 @@ impl ByteSource for Watched {
     }
 }
 
+// Writes how a session or a check ended, given in words, and what went out.
+fn put_end(line: &mut Line, words: &str, sink: &MemSink) {
+    line.put(words);
+    line.put(": ");
+    put_bytes(line, sink.written());
+}
+
+// How a session ended, in words.
+fn ended_in(ended: Result<Ended, ServeFault>) -> &'static str {
+    match ended {
+        Ok(Ended::Exit { after_shutdown }) => {
+            if after_shutdown {
+                "Exit { after_shutdown: true }"
+            } else {
+                "Exit { after_shutdown: false }"
+            }
+        }
+        Ok(Ended::InputEnd) => "InputEnd",
+        Ok(Ended::BadFrame(_)) => "bad frame",
+        Err(_) => "fault",
+    }
+}
+
+// Whether a check found an error, in words.
+fn found_in(found: Result<bool, ServeFault>) -> &'static str {
+    match found {
+        Ok(true) => "true",
+        Ok(false) => "false",
+        Err(_) => "fault",
+    }
+}
+
 // Serves a session over a stream behind a gate: how it ends, and what went out.
 fn serve_behind<
     R: Threads + Wait + Clone + Send + Drop + 'static,
@@ -119,33 +161,33 @@ fn serve_behind<
     gate: &Arc<G>,
     config: Config,
     workers: usize,
-) -> Answer<String> {
+) -> Result<Line, AllocError> {
     let mut sink = MemSink::new(alloc, ROOM, ROOM, 0, false)?;
     let mut reader = FrameReader::new(alloc, source);
     let ended = serve(rt, alloc, &mut reader, &mut sink, gate, config, workers);
-    let mut line = String::new(alloc);
-    write_ended(&mut line, ended)?;
-    write_sent(&mut line, &sink)?;
+    let mut line = Line::new(alloc);
+    put_end(&mut line, ended_in(ended), &sink);
     Ok(line)
 }
 
-// Writes an answer, how often a worker waited in vain, and how many hold the gate: each worker does as long as it lives.
-fn write_passed(
-    line: &mut String,
-    answer: &str,
-    misses: &AtomicU64,
-    holders: usize,
-) -> Result<(), AllocError> {
-    let misses = misses.load(Ordering::SeqCst);
-    write!(line, "misses {misses}, holders {holders}, {answer}")
+// Writes how often a worker waited in vain, how many hold the gate, and an answer: each worker holds it as long as it lives.
+fn put_passed(line: &mut Line, misses: &AtomicU64, holders: usize, answer: &Line) {
+    line.put("misses ");
+    line.put_number(misses.load(Ordering::SeqCst));
+    line.put(", holders ");
+    line.put_number(holders as u64);
+    line.put(", ");
+    line.put(answer.as_str());
 }
 
-// Writes an answer, and how often the two files came to a gate where their workers met.
-fn write_met(line: &mut String, answer: &str, gate: &Arc<Meeting>) -> Result<(), AllocError> {
-    let first = gate.first.load(Ordering::SeqCst);
-    let second = gate.second.load(Ordering::SeqCst);
-    write!(line, "came {first} and {second}, ")?;
-    write_passed(line, answer, &gate.misses, Arc::strong_count(gate))
+// Writes how often the two files came to a gate where their workers met, and an answer.
+fn put_met(line: &mut Line, gate: &Arc<Meeting>, answer: &Line) {
+    line.put("came ");
+    line.put_number(gate.first.load(Ordering::SeqCst));
+    line.put(" and ");
+    line.put_number(gate.second.load(Ordering::SeqCst));
+    line.put(", ");
+    put_passed(line, &gate.misses, Arc::strong_count(gate), answer);
 }
 
 /// The bytes of a stream and the files a.proto and b.proto: what comes of a session with two workers, which wait for each other
@@ -153,29 +195,28 @@ fn write_met(line: &mut String, answer: &str, gate: &Arc<Meeting>) -> Result<(),
 pub fn meet<R: Threads + Wait + Clone + Send + Drop + 'static>(
     rt: &R,
     alloc: Global,
-    line: &mut String,
-    fields: &[&str],
-) -> Answer<()> {
+    line: &mut Line,
+    given: &str,
+) -> Result<(), AllocError> {
     let gate = Arc::new(alloc, Meeting::new())?;
-    let source = MemSource::new(bytes_of(alloc, field(fields, 0))?, ROOM, 0, false);
-    let config = config_of(alloc, fields.get(1..).unwrap_or(&[]))?;
+    let config = config_of(alloc, given, 2)?;
+    let source = MemSource::new(bytes_of(alloc, field(given, 1))?, ROOM, 0, false);
     let answer = serve_behind(rt, alloc, source, &gate, config, 2)?;
-    Ok(write_met(line, answer.as_str(), &gate)?)
+    put_met(line, &gate, &answer);
+    Ok(())
 }
 
 // Checks files behind a gate: whether an error is found, and the lines that went out.
-fn check_behind<R: Threads + Wait + Clone + Send + Drop + 'static, G: Gate + 'static>(
+fn check_behind<R: Threads + Wait + Clone + Send + Drop + 'static>(
     rt: &R,
     alloc: Global,
-    gate: &Arc<G>,
+    gate: &Arc<Meeting>,
     config: Config,
-    workers: usize,
-) -> Answer<String> {
+) -> Result<Line, AllocError> {
     let mut sink = MemSink::new(alloc, ROOM, ROOM, 0, false)?;
-    let found = check(rt, alloc, &mut sink, gate, config, workers);
-    let mut line = String::new(alloc);
-    write_found(&mut line, found)?;
-    write_sent(&mut line, &sink)?;
+    let found = check(rt, alloc, &mut sink, gate, config, 2);
+    let mut line = Line::new(alloc);
+    put_end(&mut line, found_in(found), &sink);
     Ok(line)
 }
 
@@ -183,12 +224,26 @@ fn check_behind<R: Threads + Wait + Clone + Send + Drop + 'static, G: Gate + 'st
 pub fn meet_in_check<R: Threads + Wait + Clone + Send + Drop + 'static>(
     rt: &R,
     alloc: Global,
-    line: &mut String,
-    fields: &[&str],
-) -> Answer<()> {
+    line: &mut Line,
+    given: &str,
+) -> Result<(), AllocError> {
     let gate = Arc::new(alloc, Meeting::new())?;
-    let answer = check_behind(rt, alloc, &gate, config_of(alloc, fields)?, 2)?;
-    Ok(write_met(line, answer.as_str(), &gate)?)
+    let answer = check_behind(rt, alloc, &gate, config_of(alloc, given, 1)?)?;
+    put_met(line, &gate, &answer);
+    Ok(())
+}
+
+// The first bytes of a stream and the others, of which a gate is told when they are asked for.
+fn source_behind(alloc: Global, gate: Arc<Holding>, given: &str) -> Result<Watched, AllocError> {
+    let mut bytes = bytes_of(alloc, field(given, 1))?;
+    let first = bytes.len();
+    bytes.extend_from_slice(field(given, 2).as_bytes())?;
+    Ok(Watched {
+        source: MemSource::new(bytes, ROOM, 0, false),
+        first,
+        given: 0,
+        gate,
+    })
 }
 
 /// The first bytes of a stream and the others: what comes of a session with one worker, whose first piece of work begins when the
@@ -196,25 +251,13 @@ pub fn meet_in_check<R: Threads + Wait + Clone + Send + Drop + 'static>(
 pub fn hold<R: Threads + Wait + Clone + Send + Drop + 'static>(
     rt: &R,
     alloc: Global,
-    line: &mut String,
-    fields: &[&str],
-) -> Answer<()> {
-    let holding = Holding {
-        entered: AtomicU64::new(0),
-        asked: AtomicU64::new(0),
-        misses: AtomicU64::new(0),
-    };
-    let gate = Arc::new(alloc, holding)?;
-    let mut bytes = bytes_of(alloc, field(fields, 0))?;
-    let first = bytes.len();
-    bytes.extend_from_slice(bytes_of(alloc, field(fields, 1))?.as_slice())?;
-    let source = Watched {
-        source: MemSource::new(bytes, ROOM, 0, false),
-        first,
-        given: 0,
-        gate: Arc::try_clone(&gate)?,
-    };
-    let answer = serve_behind(rt, alloc, source, &gate, config_of(alloc, &[])?, 1)?;
-    let holders = Arc::strong_count(&gate);
-    Ok(write_passed(line, answer.as_str(), &gate.misses, holders)?)
+    line: &mut Line,
+    given: &str,
+) -> Result<(), AllocError> {
+    let gate = Arc::new(alloc, Holding::new())?;
+    let source = source_behind(alloc, Arc::try_clone(&gate)?, given)?;
+    let config = config_of(alloc, "", 1)?;
+    let answer = serve_behind(rt, alloc, source, &gate, config, 1)?;
+    put_passed(line, &gate.misses, Arc::strong_count(&gate), &answer);
+    Ok(())
 }

@@ -1,7 +1,7 @@
 // How a device does, and what it moved.
-ghost use Rattle.std.specs.Prelude.{◌<◌, IfOk};
+ghost use Rattle.std.specs.Prelude.{◌<◌};
 
-use case_notation::{Answer, Trouble, first_word, plain, push_shown};
+use case_notation::{Line, first_word, number, plain};
 use lsp_frame::{MemSink, MemSource};
 use std::alloc::{AllocError, Global};
 
@@ -16,54 +16,41 @@ pub struct Settings<'a> {
 
 impl<'a> Settings<'a> {
     /// The settings by their words: the interruptions, `fails` or `ends`, and the sizes.
-    pub fn of(words: &'a str) -> Answer<Settings<'a>> {
+    pub fn of(words: &'a str) -> Settings<'a> {
         let (interruptions, rest) = first_word(words);
         let (behind, sizes) = first_word(rest);
-        Ok(Settings {
-            interruptions: interruptions.parse::<u64>()?,
+        Settings {
+            interruptions: number(interruptions),
             fails: behind == "fails",
             sizes,
-        })
+        }
     }
 
     /// A source of these bytes.
-    pub fn source(&self, alloc: Global, size: &str, bytes: &[u8]) -> Answer<MemSource> {
-        let piece = piece(size)?;
-        let bytes = Vec::from_slice(alloc, bytes)?;
-        Ok(MemSource::new(bytes, piece, self.interruptions, self.fails))
+    pub fn source(&self, size: &str, bytes: Vec<u8>) -> MemSource {
+        MemSource::new(bytes, piece(size), self.interruptions, self.fails)
     }
 
     /// A sink with so much room.
-    pub fn sink(&self, alloc: Global, size: &str, room: &str) -> Answer<MemSink> {
-        let piece = piece(size)?;
-        let room = room.parse::<usize>()?;
-        Ok(MemSink::new(alloc, room, piece, self.interruptions, !self.fails)?)
+    pub fn sink(&self, alloc: Global, size: &str, room: &str) -> Result<MemSink, AllocError> {
+        let room = number(room) as usize;
+        MemSink::new(alloc, room, piece(size), self.interruptions, !self.fails)
     }
 }
 
-// The size of a piece.
-fn piece(size: &str) -> Answer<usize>
-    ensures { IfOk result (λ piece. 0 < piece) }
+// The size of a piece, one byte at least.
+fn piece(size: &str) -> usize
+    ensures { 0 < result }
 {
-    let piece = size.parse::<usize>()?;
-    if piece == 0 {
-        return Err(Trouble::Unknown("a piece has no bytes"));
-    }
-    Ok(piece)
-}
-
-/// Bytes as a field.
-pub fn bytes_shown(alloc: Global, bytes: &[u8]) -> Answer<String> {
-    let mut line = String::new(alloc);
-    push_bytes(&mut line, bytes)?;
-    Ok(line)
+    let piece = number(size) as usize;
+    if piece == 0 { 1 } else { piece }
 }
 
 /// Writes bytes as a field.
-pub fn push_bytes(line: &mut String, bytes: &[u8]) -> Answer<()> {
+pub fn put_bytes(line: &mut Line, bytes: &[u8]) {
     match str::from_utf8(bytes) {
-        Ok(text) => Ok(push_shown(line, text)?),
-        Err(_) => Err(Trouble::Unknown("no UTF-8")),
+        Ok(text) => line.put_shown(text),
+        Err(_) => line.put("no UTF-8"),
     }
 }
 
@@ -74,12 +61,13 @@ pub fn bytes_of(alloc: Global, field: &str) -> Result<Vec<u8>, AllocError> {
 }
 
 /// Writes an answer behind the others, unless it is that of the first size.
-pub fn note(line: &mut String, size: &str, answer: &str) -> Result<(), AllocError> {
-    if line.is_empty() {
-        return line.push_str(answer);
+pub fn note(line: &mut Line, size: &str, answer: &str) {
+    if line.as_str().is_empty() {
+        line.put(answer);
+    } else if line.as_str() != answer {
+        line.put("; but with pieces of ");
+        line.put(size);
+        line.put(": ");
+        line.put(answer);
     }
-    if line.as_str() == answer {
-        return Ok(());
-    }
-    write!(line, "; but with pieces of {size}: {answer}")
 }

@@ -1,5 +1,5 @@
 use Rattle.std.proofs.Common.{◌≡◌, false}
-use Rattle.library_cases.proofs.boards.write_steps.Given as goal
+use Rattle.library_cases.proofs.boards.run.Given as goal
 
 abbrev pub invariant-loop-call : goal.invariant-loop-call
 invariant-loop-call l = l.board.is_lent ≡ false

@@ -1,2 +1,0 @@
-mod Arriving
-mod Differing
