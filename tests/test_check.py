@@ -10,7 +10,7 @@ import unittest
 import stream
 from test_folder import FOLDER, SKIPPED, FolderTest, fixed
 
-CHECK_USAGE = b"Usage: protols check [--root DIR] [--workers N]\n"
+CHECK_USAGE = b"Usage: protols check [--root DIR] [--proto-path DIR]... [--workers N]\n"
 
 # How often a small tree is checked, side by side.
 RUNS = 1_000

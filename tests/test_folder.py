@@ -43,12 +43,18 @@ FOLDER = b"protols: folder\n"
 
 # What follows the lines `skipped` and `protols: folder`, where paths may hold line feeds.
 SKIPPED_WHY = re.compile(rb"^skipped\nprotols: skipped (.+?): (not UTF-8|the name isn't UTF-8|neither a file nor a folder|[^\n:]+ \(os error \d+\))\n", re.DOTALL | re.MULTILINE)
-FOLDER_WHY = re.compile(rb"^protols: folder\nprotols: folder (.*?): (can't be listed: [^\n:]+|more than 64 folders stand in one another|more than 100,000 entries)\n", re.DOTALL | re.MULTILINE)
+FOLDER_WHY = re.compile(rb"^protols: folder\nprotols: folder (.*?): (can't be listed: [^\n:]+|more than 64 folders stand in one another|more than 100,000 entries in all)\n", re.DOTALL | re.MULTILINE)
 
 MOST_FOLDERS = 64
 MOST_ENTRIES = 100_000
 
 NOBODY = 65534
+
+# How `protols serve` is called.
+SERVE_USAGE = b"""\
+protols serve [--root DIR] [--proto-path DIR]... [--workers N]
+                     [--stdio] [--clientProcessId ID]
+"""
 
 
 def text(path):
@@ -101,7 +107,7 @@ class FolderTest(unittest.TestCase):
 
 
 class CommandLine(FolderTest):
-    def check_wrong(self, *words, shown=b"Usage: protols serve [--root DIR] [--workers N] [--stdio] [--clientProcessId ID]\n"):
+    def check_wrong(self, *words, shown=b"Usage: " + SERVE_USAGE):
         """The words are refused, with a message that shows how the program is called, and where more is said."""
         with self.subTest(words=words):
             out, err, status = run(FIRST_INPUT, words)
@@ -179,7 +185,7 @@ class CommandLine(FolderTest):
             with self.subTest(words=words):
                 out, err, status = run(FIRST_INPUT, words)
                 self.assertEqual((err, status), (b"", 0))
-                for part in (b"protols serve [--root DIR] [--workers N] [--stdio] [--clientProcessId ID]", b"Example", b"status"):
+                for part in (SERVE_USAGE, b"Example", b"status"):
                     self.assertIn(part, out)
 
     def test_help_on_serve(self):
@@ -187,7 +193,7 @@ class CommandLine(FolderTest):
             with self.subTest(words=words):
                 out, err, status = run(FIRST_INPUT, words)
                 self.assertEqual((err, status), (b"", 0))
-                for part in (b"--root <DIR>", b"--workers <N>", b"--stdio", b"--clientProcessId <ID>", b"default", b"Example"):
+                for part in (b"--root <DIR>", b"--proto-path <DIR>", b"--workers <N>", b"--stdio", b"--clientProcessId <ID>", b"default", b"Example"):
                     self.assertIn(part, out)
 
     def test_version(self):

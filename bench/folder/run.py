@@ -3,8 +3,10 @@
 files into memory.
 
 The trees have 5,000 and 10,000 files of 5 KB of ordinary proto3, 50 in a folder, which are in the system's cache. The
-input asks for nothing: it is `initialize`, `shutdown` and `exit`. A time is the best of 9, in turn. The status is 1 where the program
-takes more than twice the time of the C program, or where twice the files take more than thrice the time.
+input asks for nothing: it is `initialize`, `shutdown` and `exit`. A time is the best of 9, in turn. Two roots of 5,000 of these files are read and
+checked beside one root of 10,000, and a folder of 50,000 entries with 20 files that count, as /usr/include has them, beside no folder. The status is 1
+if the program takes more than twice the time of the C program, if twice the files take more than thrice the time, if two roots take more than 1.05 times
+the time of one, or if the folder of many entries takes more than 0.2 s.
 
 The program is crates/protols/out/protols, or another one that the variable PROTOLS names: `make build` builds it."""
 import pathlib
@@ -25,6 +27,12 @@ MOST = 2
 
 # The most that twice the files may take, as a multiple of the time of the others. A quadratic step costs 4.
 GROWTH = 3
+
+# The most that two roots may take, as a multiple of the time of one with the same files.
+OF_ONE_ROOT = 1.05
+
+# The most that a folder of many entries may take, in seconds.
+MOST_ENTRIES = 0.2
 
 INPUT = stream.frames(
     [
@@ -49,18 +57,53 @@ def content(number):
         length += len(part)
 
 
-def make_tree(count):
-    """A folder with that many files, and its path."""
-    tree = lab.WORK / f"folder{count}"
-    if tree.exists():
-        shutil.rmtree(tree)
-    for number in range(count):
+def new_folder(name):
+    """A folder of that name, with nothing in it."""
+    folder = lab.WORK / name
+    shutil.rmtree(folder, ignore_errors=True)
+    folder.mkdir(parents=True)
+    return folder
+
+
+def make_tree(count, first=0):
+    """A folder with that many files, those from a number on, and its path."""
+    tree = new_folder(f"folder{first}to{first + count}")
+    for number in range(first, first + count):
         group, place = divmod(number, IN_A_FOLDER)
         folder = tree / f"area{group // 10}" / f"part{group % 10}"
-        if place == 0:
-            folder.mkdir(parents=True)
+        folder.mkdir(parents=True, exist_ok=True)
         (folder / f"file{place}.proto").write_text(content(number))
     return str(tree)
+
+
+def make_headers():
+    """A folder of 50,000 entries, 20 of them files that count, and its path."""
+    tree = new_folder("headers")
+    for number in range(50_000 - 100):
+        if number % 500 == 0:
+            (tree / f"part{number // 500}").mkdir()
+        (tree / f"part{number // 500}" / f"file{number}.{'proto' if number % 2500 == 0 else 'h'}").write_text('syntax = "proto3";\n')
+    return str(tree)
+
+
+def are_two_roots_kept(given, one, two):
+    """Whether two roots are read, and checked, about as fast as one with their files."""
+    words = [option for it in zip(("--root", "--proto-path"), two) for option in it]
+    kept = True
+    for name, command, stdin in (("read", "serve", given), ("checked", "check", None)):
+        single, double = lab.best_of_each([(stream.command([command, "--root", one]), stdin), (stream.command([command, *words]), stdin)], TIMES)
+        print(f"two roots of 5,000 files are {name} in {double * 1000:.1f} ms, one of 10,000 in {single * 1000:.1f} ms: {double / single:.3f}", flush=True)
+        kept = kept and double <= OF_ONE_ROOT * single
+    return kept
+
+
+def are_headers_kept(given, start):
+    """Whether a folder of many entries of which few count is read fast."""
+    tree = make_headers()
+    [took] = lab.best_of_each([(stream.command(["serve", "--root", tree]), given)], TIMES)
+    print(f"50,000 entries with 20 files that count take {(took - start) * 1000:.1f} ms", flush=True)
+    shutil.rmtree(tree)
+    return took - start <= MOST_ENTRIES
 
 
 def main():
@@ -80,6 +123,9 @@ def main():
         print(f"{count:>7,} {ours * 1000:>7.1f} ms {growth} {theirs * 1000:>7.1f} ms {ours / theirs:5.2f}", flush=True)
         kept = kept and ours <= MOST * theirs and (before is None or ours <= GROWTH * before)
         before = ours
+    trees.append(make_tree(5_000, 5_000))
+    kept = are_two_roots_kept(given, trees[1], (trees[0], trees[2])) and kept
+    kept = are_headers_kept(given, start) and kept
     for tree in trees:
         shutil.rmtree(tree)
     print("kept" if kept else "NOT kept")
