@@ -61,7 +61,7 @@ fn write_call(
 
 // The URI of no path below a root is the root's own text.
 fn write_root(alloc: Global, line: &mut Line, roots: &Roots) -> Result<(), AllocError> {
-    let uri = roots.uri_of(alloc, 0, "")?;
+    let uri = roots.uri_of(alloc, Some(0), "")?;
     line.put(uri.as_str());
     Ok(())
 }
@@ -83,7 +83,7 @@ fn write_path(alloc: Global, line: &mut Line, roots: &Roots, uri: &str) -> Resul
 // The URI of a path below a root, and the path that it leads back to.
 fn write_uri(alloc: Global, line: &mut Line, roots: &Roots, path: &str) -> Result<(), AllocError> {
     let path = plain(alloc, path)?;
-    let uri = roots.uri_of(alloc, 0, path.as_str())?;
+    let uri = roots.uri_of(alloc, Some(0), path.as_str())?;
     line.put(uri.as_str());
     line.put(" :: ");
     write_path(alloc, line, roots, uri.as_str())

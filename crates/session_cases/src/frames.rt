@@ -93,9 +93,10 @@ fn write_one(
     size: &str,
     given: &str,
 ) -> Result<(), AllocError> {
+    let body = bytes_of(alloc, field(given, 3))?;
     let mut sink = settings.sink(alloc, size, field(given, 2))?;
     let mut own = Line::new(alloc);
-    put_written(&mut own, &mut sink, field(given, 3).as_bytes());
+    put_written(&mut own, &mut sink, body.as_slice());
     note(line, size, own.as_str());
     Ok(())
 }

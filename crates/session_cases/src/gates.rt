@@ -237,7 +237,8 @@ pub fn meet_in_check<R: Threads + Wait + Clone + Send + Drop + 'static>(
 fn source_behind(alloc: Global, gate: Arc<Holding>, given: &str) -> Result<Watched, AllocError> {
     let mut bytes = bytes_of(alloc, field(given, 1))?;
     let first = bytes.len();
-    bytes.extend_from_slice(field(given, 2).as_bytes())?;
+    let others = bytes_of(alloc, field(given, 2))?;
+    bytes.extend_from_slice(others.as_slice())?;
     Ok(Watched {
         source: MemSource::new(bytes, ROOM, 0, false),
         first,
