@@ -5,7 +5,7 @@ PROGRAM := crates/protols/out/protols
 # The crates whose wrong bodies `make wrong-bodies` tries, and whose proofs `make times` times; none means all.
 CRATE ?=
 
-.PHONY: all build run test quick wrong-bodies times install clean need-rt
+.PHONY: all build run test quick wrong-bodies times docs install clean need-rt
 
 all: build
 
@@ -42,6 +42,11 @@ wrong-bodies: need-rt
 # How long each crate takes from nothing, what waits for what, the budget, and the slowest functions.
 times: need-rt
 	@python3 tools/times.py $(CRATE)
+
+# The documents that are written from the sources: the list of definitions, and the table of wrong bodies, which isn't committed.
+docs:
+	@python3 tools/definitions.py
+	@python3 tools/wrong_bodies_table.py
 
 install: build
 	install -D -m 755 $(PROGRAM) $(DESTDIR)$(PREFIX)/bin/protols

@@ -40,8 +40,9 @@ OLD_NAMES = {
 
 
 def documents():
-    """The documents of the repository, without what was built."""
-    return sorted(path for path in ROOT.rglob("*.md") if not {"out", ".git"} & set(path.relative_to(ROOT).parts))
+    """The documents of the repository, without what was built and what `make docs` writes anew."""
+    here = [path for path in ROOT.rglob("*.md") if not {"out", ".git"} & set(path.relative_to(ROOT).parts)]
+    return sorted(path for path in here if path != ROOT / "docs/WRONG-BODIES.md")
 
 
 def anchor(heading):
@@ -133,7 +134,7 @@ class Generated(unittest.TestCase):
         ended = subprocess.run([sys.executable, str(ROOT / "tools" / tool), "--check"], stdin=subprocess.DEVNULL, capture_output=True, text=True)
         self.assertEqual((ended.returncode, ended.stdout + ended.stderr), (0, ""))
 
-    def test_the_table_of_wrong_bodies_is_current(self):
+    def test_each_wrong_body_says_what_it_breaks(self):
         self.run_check("wrong_bodies_table.py")
 
     def test_the_list_of_definitions_is_current(self):

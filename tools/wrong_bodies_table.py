@@ -1,5 +1,5 @@
 #!/usr/bin/env python3
-"""Writes the tables of docs/WRONG-BODIES.md from the edits themselves.
+"""Writes docs/WRONG-BODIES.md, the table of all wrong bodies, from the edits themselves. The file isn't committed.
 
 usage: wrong_bodies_table.py [--check]
 
@@ -8,8 +8,7 @@ An edit is a file crates/CRATE/must-fail/NAME.edit or crates/CRATE/wrong-bodies/
     what: the behaviour that the wrong body has
     refused by: the clause of the public call that it breaks, in parentheses the private function that is refused first
 
-The kit's reader of edits skips both lines. The tables stand between the two markers of the document; the rest of it is written by hand.
-With --check nothing is written. The status is 1 if the document isn't current, or if an edit lacks one of its lines.
+The kit's reader of edits skips both lines. With --check nothing is written. The status is 1 if an edit lacks one of its lines.
 """
 import pathlib
 import re
@@ -17,7 +16,11 @@ import sys
 
 ROOT = pathlib.Path(__file__).resolve().parent.parent
 DOCUMENT = ROOT / "docs/WRONG-BODIES.md"
-BEGIN, END = "<!-- begin: written by tools/wrong_bodies_table.py -->", "<!-- end -->"
+FRONT = """# Wrong bodies
+
+Written by `make docs`, and not committed. The last column names the public call and the clause that the edit breaks, and in parentheses
+the private function, if there is one, whose own contract refuses it first. How to write an edit: CONTRIBUTING.md.
+"""
 FOLDERS = ("must-fail", "wrong-bodies")
 HEAD = ("| Edit | In | What it breaks | What refuses it |", "|---|---|---|---|")
 
@@ -45,9 +48,9 @@ def edits_of(crate):
     return sorted(found, key=lambda one: (FOLDERS.index(one[1]), one[0]))
 
 
-def tables():
-    """The generated part of the document, and the edits that lack a line."""
-    lines, lacking = [], []
+def table():
+    """The document, and the edits that lack a line."""
+    lines, lacking = [FRONT.rstrip()], []
     for crate in crates():
         edits = edits_of(crate)
         if not edits:
@@ -58,33 +61,18 @@ def tables():
             if not (what and refused):
                 lacking.append(edit.relative_to(ROOT).as_posix())
             lines.append(f"| `{name}` | `{folder}/` | {what or 'not described'} | {refused or 'not described'} |")
-    return "\n".join([BEGIN, *lines, "", END]), lacking
-
-
-def current(text, generated):
-    """The document with its generated part renewed."""
-    before, begin, rest = text.partition(BEGIN)
-    _old, end, after = rest.partition(END)
-    if not (begin and end):
-        sys.exit(f"{DOCUMENT.relative_to(ROOT)}: the two markers are not there")
-    return before + generated + after
+    return "\n".join(lines) + "\n", lacking
 
 
 def main():
     check = sys.argv[1:] == ["--check"]
     if sys.argv[1:] and not check:
         sys.exit(__doc__)
-    generated, lacking = tables()
-    old = DOCUMENT.read_text(encoding="utf-8")
-    new = current(old, generated)
+    written, lacking = table()
     for edit in lacking:
         print(f"{edit}: no line 'what:' or no line 'refused by:'")
-    if check:
-        if new != old:
-            print("docs/WRONG-BODIES.md isn't current: run python3 tools/wrong_bodies_table.py")
-        return 1 if lacking or new != old else 0
-    if new != old:
-        DOCUMENT.write_text(new, encoding="utf-8")
+    if not check:
+        DOCUMENT.write_text(written, encoding="utf-8")
     return 1 if lacking else 0
 
 
