@@ -3,10 +3,12 @@
 
 usage: definitions.py [--check]
 
-A headline is the comment at the front of crates/CRATE/specs/*.antt, a law's statement the comment on its function in
-crates/CRATE/src/*laws.rt. The lists stand between the two markers of the document; the rest of it is written by hand. With --check
-nothing is written, and the status is 1 if the document isn't current.
+A headline is the first sentence of the comment at the front of crates/CRATE/specs/*.antt, a law's statement that of the comment on its function, which
+begins with 'A law'. A file is for private steps if no contract of a public call and no definition that such a contract cites, directly or through others,
+takes a word from it. The lists stand between the two markers of the document; the rest of it is written by hand. With --check nothing is written,
+and the status is 1 if the document isn't current.
 """
+import bisect
 import pathlib
 import re
 import sys
@@ -15,56 +17,36 @@ ROOT = pathlib.Path(__file__).resolve().parent.parent
 DOCUMENT = ROOT / "docs/DEFINITIONS.md"
 BEGIN, END = "<!-- begin: written by tools/definitions.py -->", "<!-- end -->"
 
-TREE = "Lexeme Cut Parts Forms Grammar Read Names Identifiers".split()
-FACTS = "Text FullNames Numbers Tree Members Decls Messages Diags Order Checks Facts IdentifierLaws Nesting".split()
-
 # The best order to read the files of a crate in, if it isn't that of its specs/Lib.antt. A file that isn't named comes last.
 ORDER = {
     "lsp_frame": "Header Grammar Stream StreamLaws Counts Devices FrameReader Reading Writing Fault".split(),
     "proto_lex": "Bytes Numbers NumberForms Forms Trivia Kinds Tokens Rest Laws Characters".split(),
-    "proto_syntax": TREE,
-    "syntax_tree": TREE,
-    "proto_facts": FACTS,
-    "file_facts": FACTS,
+    "syntax_tree": "Lexeme Cut Parts Forms Grammar Read Names Identifiers".split(),
+    "file_facts": "Text FullNames Numbers Tree Members Decls Problems Diags Order Checks Facts IdentifierLaws Nesting".split(),
     "import_graph": "Paths Imports Walks Views Closures Outlooks Laws".split(),
     "proto_names": "Files Outlines Packages Holders Hashed Entries Buckets".split(),
     "proto_resolve": "Sites Names Uses Finding FindingLaws ViewDiagnostics Resolved Laws DiagnosticLaws Seen Outlines".split(),
     "doc_text": "Lines Positions Edits Laws".split(),
     "piece_collector": "Events History Views Board Runs Fault Laws".split(),
-    "work_index": "Workspace Pieces Changes Fault Laws".split(),
+    "work_index": "Workspace Pieces Changes Fault".split(),
     "lsp_workspace": "Files Roots Texts Disk View".split(),
     "lsp_answers": "Context Questions Answers Reports Diagnostics Ranges Views".split(),
-    "lsp_config": "Configuration Fault Sending".split(),
     "lsp_session": "Session Stream Core Run View".split(),
 }
 
-# Files of words that private steps promise each other. They are no part of what a crate promises.
-PRIVATE = {
-    "lsp_frame": {"Steps"},
-    "proto_lex": {"Scanner"},
-    "proto_syntax": {"Brackets", "Skips"},
-    "syntax_tree": {"Brackets", "Skips"},
-    "proto_facts": {"Seen", "Reach"},
-    "file_facts": {"NameTexts", "Seen", "Reach"},
-    "import_graph": {"Condensed", "Fronts", "Components", "Ties", "Tours", "Shared"},
-    "proto_names": {"Tables", "Replaced", "Moved", "Changes"},
-    "proto_resolve": {"Places", "Views"},
-    "doc_text": {"Bytes", "Walks"},
-    "lsp_queries": {"Searching"},
-    "lsp_rpc": {"Writing"},
-    "piece_collector": {"Lending", "SharedText"},
-    "work_index": {"Shares"},
-    "lsp_workspace": {"Steps"},
-    "lsp_session": {"Serving", "Steps"},
-}
-
 LAW = re.compile(r"((?:^///.*\n)+)pub fn (\w+)\(", re.MULTILINE)
+WORD = re.compile(r"[^\W\d]\w*")
+# What a file takes from files of definitions: their words, or one name for all of them.
+TAKEN = re.compile(r"use Rattle\.(\w+)\.specs\.(\w+)(?:\.\{([^}]*)\}|(?: as (\w+))?;?$)", re.MULTILINE)
+CHUNK = re.compile(r"^(?=(?:  )?(?:abbrev|unfoldable|(?:pub )?(?:data|record)) )", re.MULTILINE)
+DECLARED = re.compile(r" *(?:abbrev |unfoldable )?(?:pub )?(?:data |record )?(\w+)")
+FUNCTION = re.compile(r"^ *(pub |pub\(\w+\) )?(?:const |unsafe )*fn (\w+)", re.MULTILINE)
+OWNER = re.compile(r"^(?:pub (trait) (\w+)|impl\b(.*?) ?\{$|\})", re.MULTILINE)
 
 
 def crates():
-    """The crates of the repository that have definitions or laws, in the order of crates.txt, lowest first."""
-    names = [line.partition(":")[0] for line in (ROOT / "crates.txt").read_text().splitlines() if re.match(r"\w+:", line)]
-    return [name for name in names if files(name)[0] or laws(name)]
+    """The crates of the repository, in the order of crates.txt, lowest first."""
+    return [line.partition(":")[0] for line in (ROOT / "crates.txt").read_text().splitlines() if re.match(r"\w+:", line)]
 
 
 def front_comment(path, mark):
@@ -78,45 +60,146 @@ def front_comment(path, mark):
     return " ".join(taken)
 
 
+def first_sentence(text):
+    return re.split(r"(?<=\.) (?=[A-Z`(])", text)[0]
+
+
 def subject(crate):
     """What the crate is about, in the first sentence of its own description."""
     src = ROOT / "crates" / crate / "src"
-    said = front_comment(src / "lib.rt" if (src / "lib.rt").exists() else src / "main.rt", "//! ")
-    return re.split(r"(?<=\.) ", said)[0]
+    return first_sentence(front_comment(src / "lib.rt" if (src / "lib.rt").exists() else src / "main.rt", "//! "))
 
 
-def files(crate):
-    """The files of definitions of a crate in reading order: those of its promises, and those for private steps."""
+def named_files(crate):
+    """The files of definitions of a crate, as its specs/Lib.antt names them."""
     library = ROOT / "crates" / crate / "specs/Lib.antt"
-    named = re.findall(r"^pub mod (\w+)", library.read_text(), re.MULTILINE) if library.is_file() else []
+    return re.findall(r"^pub mod (\w+)", library.read_text(), re.MULTILINE) if library.is_file() else []
+
+
+def words_of_file(text):
+    """What each word of a file may mean: the word of a file of definitions, as (crate, file, word); and the names of whole files."""
+    words, whole = {}, {}
+    for crate, file, names, name in TAKEN.findall(text):
+        for word in WORD.findall(names):
+            words[word] = (crate, file, word)
+        if not names:
+            whole[name or file] = (crate, file)
+    return words, whole
+
+
+def cited(text, words, whole):
+    """The words of files of definitions that stand in a text."""
+    found = {words[word] for word in WORD.findall(text) if word in words}
+    return found | {(*whole[name], word) for name, word in re.findall(r"\b(\w+)\.(\w+)", text) if name in whole}
+
+
+def definitions():
+    """What each definition cites, by its crate, its file and its word."""
+    cites = {}
+    for crate in crates():
+        for file in named_files(crate):
+            text = (ROOT / "crates" / crate / "specs" / f"{file}.antt").read_text(encoding="utf-8")
+            words, whole = words_of_file(text)
+            said = {DECLARED.match(chunk)[1]: chunk for chunk in CHUNK.split(text)[1:]}
+            # A file may show words of another one again.
+            cites.update({(crate, file, word): {place} for word, place in words.items()})
+            words.update({word: (crate, file, word) for word in said})
+            cites.update({(crate, file, word): cited(chunk, words, whole) for word, chunk in said.items()})
+    return cites
+
+
+def clauses(text):
+    """The clauses of a source file, each with where it begins."""
+    for begun in re.finditer(r"^ +(?:ensures|requires)\b[^{\n]*\{", text, re.MULTILINE):
+        depth, end = 1, begun.end()
+        while depth:
+            depth += {"{": 1, "}": -1}.get(text[end], 0)
+            end += 1
+        yield begun.start(), text[begun.end():end]
+
+
+def owner_of(text, at):
+    """The type or trait whose block holds a place of a source file, and whether the block is a trait's, or of a trait."""
+    last = None
+    for last in OWNER.finditer(text, 0, at):
+        pass
+    if last is None or last[0] == "}":
+        return None, False
+    if last[1]:
+        return last[2], True
+    plain = re.sub(r"<[^<>]*(?:<[^<>]*>[^<>]*)*>", "", last[3])
+    trait, _for, name = plain.rpartition(" for ")
+    return WORD.search(name)[0], bool(trait)
+
+
+def promised(crate):
+    """The words that the contracts of a crate's public calls cite."""
+    library = ROOT / "crates" / crate / "src/lib.rt"
+    if not library.is_file():
+        return set()
+    shown = library.read_text(encoding="utf-8")
+    public = {word for use in re.findall(r"^pub use ([^;]*);", shown, re.MULTILINE) for word in WORD.findall(use)}
+    modules = set(re.findall(r"^pub mod (\w+)", shown, re.MULTILINE)) | {"lib"}
+    found = set()
+    for path in sorted((ROOT / "crates" / crate / "src").rglob("*.rt")):
+        text = path.read_text(encoding="utf-8")
+        words, whole = words_of_file(text)
+        functions = [(one.start(), one[1], one[2]) for one in FUNCTION.finditer(text)]
+        for at, clause in clauses(text):
+            _start, seen, name = functions[bisect.bisect(functions, (at,)) - 1]
+            owner, by_trait = owner_of(text, at)
+            if (seen == "pub " or by_trait) and (path.stem in modules or (owner or name) in public):
+                found |= cited(clause, words, whole)
+    return found
+
+
+def promises():
+    """The files of definitions that the promises of the crates need, as (crate, file)."""
+    cites = definitions()
+    found = {word for crate in crates() for word in promised(crate)}
+    left = list(found)
+    while left:
+        more = cites.get(left.pop(), set()) - found
+        found |= more
+        left += more
+    return {(crate, file) for crate, file, _word in found}
+
+
+def files(crate, needed):
+    """The files of definitions of a crate in reading order: those of its promises, and those for private steps."""
+    named = named_files(crate)
     order = ORDER.get(crate, named)
-    private = PRIVATE.get(crate, set())
-    public = sorted((name for name in named if name not in private), key=lambda name: (order.index(name) if name in order else len(order), named.index(name)))
-    return public, [name for name in named if name in private]
+    public = [name for name in named if (crate, name) in needed]
+    public.sort(key=lambda name: (order.index(name) if name in order else len(order), named.index(name)))
+    return public, [name for name in named if (crate, name) not in needed]
 
 
 def laws(crate):
     """The laws of a crate, each with its statement and its file."""
     found = []
-    for path in sorted((ROOT / "crates" / crate / "src").glob("*laws.rt")):
+    for path in sorted((ROOT / "crates" / crate / "src").glob("*.rt")):
         for comment, name in LAW.findall(path.read_text(encoding="utf-8")):
             said = " ".join(line[3:].strip() for line in comment.splitlines())
-            said = re.sub(r"^A law[.:] ", "", said)
-            found.append((name, said[0].lower() + said[1:] if not said.startswith("`") else said, path.name))
+            if said.startswith("A law") or name.endswith("_law"):
+                said = first_sentence(re.sub(r"^A law[.:] ", "", said))
+                found.append((name, said if said.startswith("`") else said[0].lower() + said[1:], path.name))
     return found
 
 
-def listed(crate):
+def listed(crate, needed):
     """The part of the document that is about one crate."""
-    public, private = files(crate)
+    public, private = files(crate, needed)
+    stated = laws(crate)
+    if not (public or private or stated):
+        return []
     at = f"../crates/{crate}"
     lines = ["", f"## `{crate}`", "", subject(crate)]
     lines += [""] if public else []
     for name in public:
-        lines.append(f"- [{name}]({at}/specs/{name}.antt): {front_comment(ROOT / 'crates' / crate / 'specs' / (name + '.antt'), '-- ')}")
+        said = first_sentence(front_comment(ROOT / "crates" / crate / "specs" / (name + ".antt"), "-- "))
+        lines.append(f"- [{name}]({at}/specs/{name}.antt): {said}")
     if private:
-        lines += ["", "For private steps: " + ", ".join(f"[{name}]({at}/specs/{name}.antt)" for name in private) + "."]
-    stated = laws(crate)
+        lines += ["", "For private steps: " + ", ".join(private) + "."]
     if stated:
         lines += ["", "Laws:", ""]
         lines += [f"- [`{name}`]({at}/src/{file}): {said}" for name, said, file in stated]
@@ -132,7 +215,8 @@ def main():
     _lists, end, after = rest.partition(END)
     if not (begin and end):
         sys.exit("docs/DEFINITIONS.md: the two markers are not there")
-    lines = [line for crate in crates() for line in listed(crate)]
+    needed = promises()
+    lines = [line for crate in crates() for line in listed(crate, needed)]
     new = before + "\n".join([BEGIN, *lines, "", END]) + after
     if check:
         if new != old:
