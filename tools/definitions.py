@@ -41,6 +41,7 @@ TAKEN = re.compile(r"use Rattle\.(\w+)\.specs\.(\w+)(?:\.\{([^}]*)\}|(?: as (\w+
 CHUNK = re.compile(r"^(?=(?:  )?(?:abbrev|unfoldable|(?:pub )?(?:data|record)) )", re.MULTILINE)
 DECLARED = re.compile(r" *(?:abbrev |unfoldable )?(?:pub )?(?:data |record )?(\w+)")
 FUNCTION = re.compile(r"^ *(pub |pub\(\w+\) )?(?:const |unsafe )*fn (\w+)", re.MULTILINE)
+CLAUSE = re.compile(r"^ +(?:ensures|requires) *(\w*)[^{\n]*\{", re.MULTILINE)
 OWNER = re.compile(r"^(?:pub (trait) (\w+)|impl\b(.*?) ?\{$|\})", re.MULTILINE)
 
 
@@ -108,28 +109,46 @@ def definitions():
     return cites
 
 
-def clauses(text):
-    """The clauses of a source file, each with where it begins."""
-    for begun in re.finditer(r"^ +(?:ensures|requires)\b[^{\n]*\{", text, re.MULTILINE):
+def owners(text):
+    """Where blocks of types and traits begin and end in a source file, each with the type or trait and whether it is a trait's, or of a trait."""
+    found = [(0, None, False)]
+    for one in OWNER.finditer(text):
+        if one[0] == "}":
+            found.append((one.start(), None, False))
+        elif one[1]:
+            found.append((one.start(), one[2], True))
+        else:
+            plain = re.sub(r"<[^<>]*(?:<[^<>]*>[^<>]*)*>", "", one[3])
+            trait, _for, name = plain.rpartition(" for ")
+            found.append((one.start(), WORD.search(name)[0], bool(trait)))
+    return found
+
+
+class Function:
+    """A function of a source file: the type or trait that it is of, if any, and its clauses by their names ("" for one without)."""
+
+    def __init__(self, name, owner, by_trait, is_pub):
+        self.name, self.owner, self.by_trait, self.is_pub, self.clauses = name, owner, by_trait, is_pub, []
+
+    def labels(self):
+        return {label for label, _clause in self.clauses}
+
+
+def functions(text):
+    """The functions of a source file."""
+    blocks = owners(text)
+    found, starts = [], []
+    for one in FUNCTION.finditer(text):
+        _start, owner, by_trait = blocks[bisect.bisect_right([block[0] for block in blocks], one.start()) - 1]
+        found.append(Function(one[2], owner, by_trait, one[1] == "pub "))
+        starts.append(one.start())
+    for begun in CLAUSE.finditer(text):
         depth, end = 1, begun.end()
         while depth:
             depth += {"{": 1, "}": -1}.get(text[end], 0)
             end += 1
-        yield begun.start(), text[begun.end():end]
-
-
-def owner_of(text, at):
-    """The type or trait whose block holds a place of a source file, and whether the block is a trait's, or of a trait."""
-    last = None
-    for last in OWNER.finditer(text, 0, at):
-        pass
-    if last is None or last[0] == "}":
-        return None, False
-    if last[1]:
-        return last[2], True
-    plain = re.sub(r"<[^<>]*(?:<[^<>]*>[^<>]*)*>", "", last[3])
-    trait, _for, name = plain.rpartition(" for ")
-    return WORD.search(name)[0], bool(trait)
+        found[bisect.bisect_right(starts, begun.start()) - 1].clauses.append((begun[1], text[begun.end():end]))
+    return found
 
 
 def promised(crate):
@@ -144,12 +163,9 @@ def promised(crate):
     for path in sorted((ROOT / "crates" / crate / "src").rglob("*.rt")):
         text = path.read_text(encoding="utf-8")
         words, whole = words_of_file(text)
-        functions = [(one.start(), one[1], one[2]) for one in FUNCTION.finditer(text)]
-        for at, clause in clauses(text):
-            _start, seen, name = functions[bisect.bisect(functions, (at,)) - 1]
-            owner, by_trait = owner_of(text, at)
-            if (seen == "pub " or by_trait) and (path.stem in modules or (owner or name) in public):
-                found |= cited(clause, words, whole)
+        for one in functions(text):
+            if (one.is_pub or one.by_trait) and (path.stem in modules or (one.owner or one.name) in public):
+                found |= cited("\n".join(clause for _label, clause in one.clauses), words, whole)
     return found
 
 
