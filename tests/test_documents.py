@@ -1,4 +1,4 @@
-"""Tests of the documents: their links, the parts that are generated, and plain words. They need no built program."""
+"""Tests of the documents: their links, what they name, the parts that are generated, and plain words. They need no built program."""
 import pathlib
 import re
 import shutil
@@ -7,6 +7,11 @@ import sys
 import unittest
 
 ROOT = pathlib.Path(__file__).resolve().parent.parent
+sys.path.insert(0, str(ROOT / "tools"))
+import definitions  # noqa: E402
+
+# What `make docs` writes and isn't committed.
+WRITTEN = "docs/WRONG-BODIES.md"
 FENCE = re.compile(r"^(```|~~~).*?^\1", re.MULTILINE | re.DOTALL)
 CODE = re.compile(r"`[^`\n]*`")
 LINK = re.compile(r"\[[^\]]*\]\(([^)\s]+)\)")
@@ -42,7 +47,7 @@ OLD_NAMES = {
 def documents():
     """The documents of the repository, without what was built and what `make docs` writes anew."""
     here = [path for path in ROOT.rglob("*.md") if not {"out", ".git"} & set(path.relative_to(ROOT).parts)]
-    return sorted(path for path in here if path != ROOT / "docs/WRONG-BODIES.md")
+    return sorted(path for path in here if path != ROOT / WRITTEN)
 
 
 def anchor(heading):
@@ -118,6 +123,103 @@ class Documents(unittest.TestCase):
             for one in words.split(", "):
                 with self.subTest(number=number, words=one):
                     self.assertIn(f'=> "{one}"', code)
+
+
+# A file that a document names: below a folder of the repository, or a source by its name alone, of the document's own crate or of the one behind it.
+FILE = re.compile(r"(?<![\w/.])((?:crates|docs|tools|tests|bench|examples|packaging|editors)/[\w./-]*\w)(?![\w*/-])")
+SOURCE = re.compile(r"(?<![\w/])(specs/\w+\.antt|\w+\.rt)\b`?(?:\s+of\s+`(\w+)`)?")
+# Words of code in a document: a name, or a name of a type or crate and one of its own.
+NAME = re.compile(r"^[^\W\d]\w+$")
+CALL = re.compile(r"^\w+::\w+$")
+# Calls, and in parentheses names of their clauses.
+CLAUSES = re.compile(r"((?:`[\w:]+`(?:,\s|\sand\s)?)+)(?:\s\(|:\s)((?:`[a-z]\w*`(?:,\s)?)+)[,;)]")
+LAWS = re.compile(r"\blaws?\s((?:`\w+`(?:,\s|\sand\s)?)+)")
+# Names of clauses, and the call that they are of.
+OF_CALL = re.compile(r"((?:`\w+`(?:,\s|\sand\s)?)+)\sof\s`(\w+)`")
+# What stands in a document and in no source: words of the protocol, of std and of the kit, and a pattern of names.
+OTHERS = {"rangeLength", "RandomState", "IndexMap", "say_CALL", "u64::MAX"}
+
+
+def spans(text):
+    """The pieces of code in a text, each without its marks."""
+    return [span[1:-1] for span in CODE.findall(text)]
+
+
+class Sources:
+    """What the sources declare: the words of each, and each function by its name."""
+
+    def __init__(self):
+        self.words, self.functions, self.files, self.owned = set(), {}, {}, set()
+        for path in sorted((ROOT / "crates").rglob("*")):
+            parts = path.relative_to(ROOT / "crates").parts
+            if path.suffix in (".rt", ".antt") and "out" not in parts:
+                text = path.read_text(encoding="utf-8")
+                self.words.update(definitions.WORD.findall(text))
+                self.files.setdefault(path.name, set()).add(parts[0])
+                if path.suffix == ".rt":
+                    self.add(parts[0], text)
+        for folder in ("tests", "tools", "bench"):
+            for path in (ROOT / folder).rglob("*.py"):
+                self.words.update(definitions.WORD.findall(path.read_text(encoding="utf-8")))
+        self.words.update(definitions.crates())
+
+    def add(self, crate, text):
+        for one in definitions.functions(text):
+            self.functions.setdefault(one.name, []).append(one)
+            self.owned |= {f"{one.owner}::{one.name}", f"{crate}::{one.name}"}
+        for kind, owner, body in re.findall(r"^pub (struct|enum|trait) (\w+)(.*?)^\}", text, re.MULTILINE | re.DOTALL):
+            self.owned.add(f"{crate}::{owner}")
+            self.owned |= {f"{owner}::{word}" for word in re.findall(r"^    (\w+)", body, re.MULTILINE) if kind == "enum"}
+
+
+class Named(unittest.TestCase):
+    @classmethod
+    def setUpClass(cls):
+        cls.sources = Sources()
+
+    def refuse(self, wrong):
+        """Each document's text, without what is shown in blocks, is right: `wrong` gives what is wrong in one about a crate."""
+        found = []
+        for document in documents():
+            parts = document.relative_to(ROOT).parts
+            plain = FENCE.sub("", document.read_text(encoding="utf-8"))
+            found += [f"{'/'.join(parts)}: {one}" for one in wrong(plain, parts[1] if parts[0] == "crates" else None)]
+        self.assertEqual(found, [])
+
+    def test_each_file_is_there(self):
+        def wrong(text, crate):
+            for path in FILE.findall(text):
+                if not re.search("NAME|CRATE", path) and path != WRITTEN and not (ROOT / path).exists():
+                    yield path
+            for path, of in SOURCE.findall(text):
+                here = self.sources.files.get(path.rpartition("/")[2], set())
+                if not (here & {of or crate} if of or crate else here):
+                    yield f"{path} of {of or crate}: there is one of {', '.join(sorted(here)) or 'no crate'}"
+
+        self.refuse(wrong)
+
+    def test_each_name_stands_in_the_sources(self):
+        self.refuse(lambda text, crate: (span for span in spans(text) if NAME.match(span) and span not in self.sources.words | OTHERS))
+
+    def test_each_call_is_one_of_its_type(self):
+        self.refuse(lambda text, crate: (span for span in spans(text) if CALL.match(span) and span not in self.sources.owned | OTHERS))
+
+    def test_each_law_is_a_function(self):
+        self.refuse(lambda text, crate: (law for laws in LAWS.findall(text) for law in spans(laws) if law not in self.sources.functions))
+
+    def test_each_clause_is_one_of_its_call(self):
+        def wrong(text, crate):
+            for calls, labels in CLAUSES.findall(text):
+                found = [one for call in spans(calls) for one in self.sources.functions.get(call.rpartition("::")[2], [])]
+                known = set().union(*(one.labels() for one in found)) if found else set(spans(labels))
+                for label in set(spans(labels)) - known:
+                    yield f"{calls} ({label})"
+            for labels, call in OF_CALL.findall(text):
+                known = set().union(*(one.labels() for one in self.sources.functions.get(call, [])))
+                for label in set(spans(labels)) - known if known else ():
+                    yield f"{label} of {call}"
+
+        self.refuse(wrong)
 
 
 class Layout(unittest.TestCase):
