@@ -5,7 +5,7 @@ PROGRAM := crates/protols/out/protols
 # The crates whose wrong bodies `make wrong-bodies` tries, and whose proofs `make times` times; none means all.
 CRATE ?=
 
-.PHONY: all build run test quick wrong-bodies times docs install clean need-rt
+.PHONY: all build run test quick wrong-bodies times docs dist install clean need-rt
 
 all: build
 
@@ -48,8 +48,12 @@ docs:
 	@python3 tools/definitions.py
 	@python3 tools/wrong_bodies_table.py
 
+# The archive and the Debian package of the program, in dist/.
+dist: build
+	@python3 tools/dist.py
+
 install: build
 	install -D -m 755 $(PROGRAM) $(DESTDIR)$(PREFIX)/bin/protols
 
 clean:
-	rm -rf out crates/*/out
+	rm -rf out dist crates/*/out

@@ -9,6 +9,7 @@ import unittest
 ROOT = pathlib.Path(__file__).resolve().parent.parent
 sys.path.insert(0, str(ROOT / "tools"))
 import definitions  # noqa: E402
+import manual  # noqa: E402
 
 # What `make docs` writes and isn't committed.
 WRITTEN = "docs/WRONG-BODIES.md"
@@ -80,10 +81,10 @@ class Documents(unittest.TestCase):
 
     def test_words_are_plain(self):
         for document in documents():
-            for number, line in enumerate(document.read_text(encoding="utf-8").splitlines(), 1):
-                for private, plain in PRIVATE_WORDS.items():
-                    with self.subTest(document=document.relative_to(ROOT).as_posix(), line=number):
-                        self.assertNotRegex(line, rf"\b{private}\b", f"say it in plain English: {plain}")
+            text = document.read_text(encoding="utf-8")
+            for private, plain in PRIVATE_WORDS.items():
+                with self.subTest(document=document.relative_to(ROOT).as_posix()):
+                    self.assertFalse(re.search(rf"\b{private}\b", text), f"{private}: say it in plain English: {plain}")
 
     def test_no_name_has_its_old_meanings(self):
         named = re.compile(rf"\b({'|'.join(OLD_NAMES)})\b")
@@ -149,7 +150,7 @@ class Sources:
     """What the sources declare: the words of each, and each function by its name."""
 
     def __init__(self):
-        self.words, self.functions, self.files, self.owned = set(), {}, {}, set()
+        self.words, self.functions, self.files, self.owned = set(OTHERS), {}, {}, set(OTHERS)
         for path in sorted((ROOT / "crates").rglob("*")):
             parts = path.relative_to(ROOT / "crates").parts
             if path.suffix in (".rt", ".antt") and "out" not in parts:
@@ -199,10 +200,10 @@ class Named(unittest.TestCase):
         self.refuse(wrong)
 
     def test_each_name_stands_in_the_sources(self):
-        self.refuse(lambda text, crate: (span for span in spans(text) if NAME.match(span) and span not in self.sources.words | OTHERS))
+        self.refuse(lambda text, crate: (span for span in spans(text) if NAME.match(span) and span not in self.sources.words))
 
     def test_each_call_is_one_of_its_type(self):
-        self.refuse(lambda text, crate: (span for span in spans(text) if CALL.match(span) and span not in self.sources.owned | OTHERS))
+        self.refuse(lambda text, crate: (span for span in spans(text) if CALL.match(span) and span not in self.sources.owned))
 
     def test_each_law_is_a_function(self):
         self.refuse(lambda text, crate: (law for laws in LAWS.findall(text) for law in spans(laws) if law not in self.sources.functions))
@@ -220,6 +221,31 @@ class Named(unittest.TestCase):
                     yield f"{label} of {call}"
 
         self.refuse(wrong)
+
+
+class Packaging(unittest.TestCase):
+    """The manual page and the completions have the options of the program, and each paper names the one licence."""
+
+    def test_each_command_has_the_options_of_its_usage(self):
+        source = manual.SOURCE.read_text(encoding="utf-8")
+        said = manual.texts(source)
+        for command, options in manual.commands(source).items():
+            with self.subTest(command=command):
+                self.assertEqual([one.name for one in options], re.findall(r"--([\w-]+)", said[f"{command.upper()}_USAGE"]))
+        self.assertEqual(set(manual.commands(source)), {"serve", "check"})
+
+    def test_manual_and_completions_have_each_option_and_no_other(self):
+        declared = set(re.findall(r'\.long\("([\w-]+)"\)', manual.SOURCE.read_text(encoding="utf-8"))) | {"help", "version"}
+        for name, text in manual.all_files("2026-01-01").items():
+            shown = re.findall(r" -l ([\w-]+)", text) if name.endswith(".fish") else re.findall(r"--([A-Za-z][\w-]*)", text.replace("\\-", "-"))
+            with self.subTest(file=name):
+                self.assertEqual(set(shown), declared)
+
+    def test_the_licence_is_one(self):
+        for name in ("LICENSE", "README.md"):
+            with self.subTest(file=name):
+                self.assertIn("SPDX-License-Identifier: Apache-2.0", (ROOT / name).read_text(encoding="utf-8"))
+        self.assertIn("/usr/share/common-licenses/Apache-2.0", (ROOT / "packaging/copyright").read_text(encoding="utf-8"))
 
 
 class Layout(unittest.TestCase):
