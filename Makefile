@@ -51,6 +51,7 @@ docs:
 # The archive and the Debian package of the program, in dist/.
 dist: build
 	@python3 tools/dist.py
+	@if command -v lintian > /dev/null; then lintian --fail-on error dist/*.deb; fi
 
 install: build
 	install -D -m 755 $(PROGRAM) $(DESTDIR)$(PREFIX)/bin/protols

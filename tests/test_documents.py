@@ -162,8 +162,8 @@ class Sources:
                 self.files.setdefault(path.name, set()).add(parts[0])
                 if path.suffix == ".rt":
                     self.add(parts[0], text)
-        for folder in ("tests", "tools", "bench"):
-            for path in (ROOT / folder).rglob("*.py"):
+        for folder, names in (("tests", "*.py"), ("tools", "*.py"), ("bench", "*.py"), ("", "Makefile")):
+            for path in (ROOT / folder).glob(f"**/{names}" if folder else names):
                 self.words.update(definitions.WORD.findall(path.read_text(encoding="utf-8")))
         self.words.update(definitions.crates())
 

@@ -5,7 +5,7 @@ usage: dist.py [--program FILE] [--into FOLDER]
 
 Both hold the program, its manual page, completions for bash, zsh and fish, README.md, DIAGNOSTICS.md, the licence, and what is in editors/. The same
 sources and program give the same bytes: names are sorted, the owner is root, and every time is that of the last commit, or SOURCE_DATE_EPOCH. The
-program has to be that of these sources: its version and the options that it shows are compared with them. If lintian is there, it judges the package.
+program has to be that of these sources: its version and the options that it shows are compared with them.
 """
 import argparse
 import email.utils
@@ -70,7 +70,7 @@ def packed(data):
     return gzip.compress(data, 9, mtime=0)
 
 
-def documents(epoch):
+def documents():
     """What stands in the folder of documents of both packages, by its path there."""
     found = {name: (ROOT / path).read_bytes() for name, path in (("README.md", "README.md"), ("DIAGNOSTICS.md", "docs/DIAGNOSTICS.md"))}
     for path in sorted((ROOT / "editors").rglob("*")) if (ROOT / "editors").is_dir() else ():
@@ -94,13 +94,13 @@ def of_archive(program, epoch):
         "share/zsh/site-functions/_protols": made["_protols"],
         "share/fish/vendor_completions.d/protols.fish": made["protols.fish"],
         "share/doc/protols/LICENSE": (ROOT / "LICENSE").read_bytes(),
-        **{f"share/doc/protols/{name}": data for name, data in documents(epoch).items()},
+        **{f"share/doc/protols/{name}": data for name, data in documents().items()},
     }
 
 
-def of_package(program, epoch, version, maintainer):
+def of_package(program, epoch, version):
     """The files of the Debian package, as they lie below /."""
-    made = written(epoch)
+    made, maintainer = written(epoch), re.search(r"^Maintainer: (.*)", (PACKAGING / "control").read_text(encoding="utf-8"), re.MULTILINE)[1]
     change = f"protols ({version}) unstable; urgency=medium\n\n  * Version {version}.\n\n -- {maintainer}  {email.utils.formatdate(epoch)}\n"
     return {
         "usr/bin/protols": program,
@@ -110,7 +110,7 @@ def of_package(program, epoch, version, maintainer):
         "usr/share/fish/vendor_completions.d/protols.fish": made["protols.fish"],
         "usr/share/doc/protols/copyright": (PACKAGING / "copyright").read_bytes(),
         "usr/share/doc/protols/changelog.gz": packed(change.encode()),
-        **{f"usr/share/doc/protols/{name}": data for name, data in documents(epoch).items()},
+        **{f"usr/share/doc/protols/{name}": data for name, data in documents().items()},
     }
 
 
@@ -153,14 +153,28 @@ def package(files, control, into, epoch):
         subprocess.run(words, check=True, stdout=subprocess.DEVNULL, env={**os.environ, "SOURCE_DATE_EPOCH": str(epoch)})
 
 
-def control_of(files, version, maintainer, depends):
+def control_of(files, version, depends):
     """What the package says of itself. A file takes its size in whole kilobytes, a folder one."""
     folders = {parent for path in files for parent in pathlib.PurePosixPath(path).parents}
     size = len(folders) + sum((len(data) + 1023) // 1024 for data in files.values())
     text = (PACKAGING / "control").read_text(encoding="utf-8")
-    for word, value in (("%version", version), ("%maintainer", maintainer), ("%size", str(size)), ("%depends", depends)):
+    for word, value in (("%version", version), ("%size", str(size)), ("%depends", depends)):
         text = text.replace(word, value)
     return text
+
+
+def pack(program, into, epoch):
+    """Writes the archive, the package and their sums into a folder. Gives the sums, and the packages that the program needs."""
+    version, depends, data = manual.version(manual.SOURCE.read_text(encoding="utf-8")), dependencies(program), stripped(program)
+    into.mkdir(parents=True, exist_ok=True)
+    name = f"protols-{version}-linux-x86_64"
+    made = [into / f"{name}.tar.gz", into / f"protols_{version}_amd64.deb"]
+    made[0].write_bytes(archive(of_archive(data, epoch), name, epoch))
+    files = of_package(data, epoch, version)
+    package(files, control_of(files, version, depends), made[1], epoch)
+    sums = "".join(f"{hashlib.sha256(path.read_bytes()).hexdigest()}  {path.name}\n" for path in made)
+    (into / "SHA256SUMS").write_text(sums)
+    return sums, depends
 
 
 def main():
@@ -168,28 +182,14 @@ def main():
     words.add_argument("--program", default=str(ROOT / "crates/protols/out/protols"))
     words.add_argument("--into", type=pathlib.Path, default=ROOT / "dist")
     given = words.parse_args()
-    for tool in ("git", "objdump", "strip", "dpkg-deb"):
+    for tool in ("objdump", "strip", "dpkg-deb"):
         if not shutil.which(tool):
             sys.exit(f"make dist needs the command {tool}")
-    source = manual.SOURCE.read_text(encoding="utf-8")
-    refuse_other_program(given.program, source)
+    refuse_other_program(given.program, manual.SOURCE.read_text(encoding="utf-8"))
     epoch = int(os.environ.get("SOURCE_DATE_EPOCH") or output("git", "log", "-1", "--format=%ct"))
-    version, maintainer = manual.version(source), output("git", "log", "-1", "--format=%an <%ae>").strip()
-    program, depends = stripped(given.program), dependencies(given.program)
-
-    given.into.mkdir(parents=True, exist_ok=True)
-    name = f"protols-{version}-linux-x86_64"
-    made = [given.into / f"{name}.tar.gz", given.into / f"protols_{version}_amd64.deb"]
-    made[0].write_bytes(archive(of_archive(program, epoch), name, epoch))
-    files = of_package(program, epoch, version, maintainer)
-    package(files, control_of(files, version, maintainer, depends), made[1], epoch)
-    sums = "".join(f"{hashlib.sha256(path.read_bytes()).hexdigest()}  {path.name}\n" for path in made)
-    (given.into / "SHA256SUMS").write_text(sums)
+    sums, depends = pack(given.program, given.into, epoch)
     print(f"{sums}the program needs {depends}")
-    if shutil.which("lintian"):
-        return subprocess.run(["lintian", "--fail-on", "error", str(made[1])]).returncode
-    return 0
 
 
 if __name__ == "__main__":
-    sys.exit(main())
+    main()
