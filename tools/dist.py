@@ -94,6 +94,7 @@ def of_archive(program, epoch):
         "share/zsh/site-functions/_protols": made["_protols"],
         "share/fish/vendor_completions.d/protols.fish": made["protols.fish"],
         "share/doc/protols/LICENSE": (ROOT / "LICENSE").read_bytes(),
+        "share/doc/protols/copyright": (PACKAGING / "copyright").read_bytes(),
         **{f"share/doc/protols/{name}": data for name, data in documents().items()},
     }
 
