@@ -273,6 +273,11 @@ class Generated(unittest.TestCase):
     def test_the_list_of_definitions_is_current(self):
         self.run_check("definitions.py")
 
+    def test_each_file_in_the_order_of_reading_is_there(self):
+        for crate, order in definitions.ORDER.items():
+            with self.subTest(crate=crate):
+                self.assertEqual(set(order) - set(definitions.named_files(crate)), set())
+
 
 if __name__ == "__main__":
     unittest.main()
