@@ -10,6 +10,7 @@ ROOT = pathlib.Path(__file__).resolve().parent.parent
 sys.path.insert(0, str(ROOT / "tools"))
 import definitions  # noqa: E402
 import manual  # noqa: E402
+import wrong_bodies_table  # noqa: E402
 
 # What `make docs` writes and isn't committed.
 WRITTEN = "docs/WRONG-BODIES.md"
@@ -226,6 +227,19 @@ class Named(unittest.TestCase):
                     yield f"{label} of {call}"
 
         self.refuse(wrong)
+
+    def test_each_wrong_body_names_what_refuses_it(self):
+        found = []
+        for edit in sorted(ROOT.glob("crates/*/wrong-bodies/*.edit")) + sorted(ROOT.glob("crates/*/must-fail/*.edit")):
+            refused = wrong_bodies_table.described(edit)[1] or ""
+            unknown = {word for span in spans(refused) for word in definitions.WORD.findall(span)} - self.sources.words
+            for calls, labels in CLAUSES.findall(refused + ")"):
+                # (a private function stands in parentheses too)
+                known = [one.labels() for call in spans(calls) for one in self.sources.functions.get(call.rpartition("::")[2], [])]
+                unknown |= set(spans(labels)) - set(self.sources.functions).union(*known) if known else set()
+            if unknown:
+                found.append(f"{edit.relative_to(ROOT).as_posix()}: {', '.join(sorted(unknown))}")
+        self.assertEqual(found, [])
 
 
 class Packaging(unittest.TestCase):
