@@ -3,3 +3,4 @@ mod DiagnosticsLemmas
 mod DocumentsLemmas
 mod DeclarationsLemmas
 mod ReportsLemmas
+mod PublicationLemmas

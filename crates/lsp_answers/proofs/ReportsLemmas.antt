@@ -13,7 +13,6 @@ use Rattle.std.proofs.lemmas.Iterator.Adapters.{position_from-zero}
 use Rattle.std.proofs.lemmas.List.{map-append}
 use Rattle.std.proofs.lemmas.Map.Text.{is_eq-slice_cmp}
 use Rattle.std.proofs.lemmas.Simd.{map-map}
-use Rattle.doc_text.specs.declared.encoding.Encoding.{Encoding}
 use Rattle.file_facts.specs.declared.diagnostic.Diag.{Diag}
 use Rattle.lsp_rpc.specs.Diagnostic.{DiagnosticData}
 use Rattle.lsp_rpc.specs.Workspace.{DocumentData}
@@ -27,14 +26,16 @@ use Rattle.lsp_answers.specs.Reports.{ReportsAgreeWithDocuments, numbered_report
 another_path : (p q : List ℕ) → slice_cmp nat_cmp p q ≡ Less → bytes_eq p q ≡ false
 another_path p q less = sym (is_eq-slice_cmp p q) ∙ ap is_eq less
 
-module _ (e : Encoding) (diags : List (List Diag)) where
-  -- what is wrong in the file with a path among these, of which the first has the number n
-  abbrev found_from : ℕ → List (List ℕ) → List ℕ × List ℕ → List DiagnosticData
-  found_from n ps file = placed e file.1 (option_map_or (λ number. slice_index_or diags number []) (position_from (λ p. bytes_eq p file.0) n ps) [])
+-- ---- what is wrong in each file, by its number and by its path
+
+module _ {X : Type 0} (of : List Diag → List ℕ × List ℕ → X) (diags : List (List Diag)) where
+  -- what is made of a file with a path among these, of which the first has the number n
+  abbrev found_from : ℕ → List (List ℕ) → List ℕ × List ℕ → X
+  found_from n ps file = of (option_map_or (λ number. slice_index_or diags number []) (position_from (λ p. bytes_eq p file.0) n ps) []) file
 
   -- the same, given its number
-  abbrev found_at : ℕ × (List ℕ × List ℕ) → List DiagnosticData
-  found_at file = placed e file.1.1 (slice_index_or diags file.0 [])
+  abbrev found_at : ℕ × (List ℕ × List ℕ) → X
+  found_at file = of (slice_index_or diags file.0 []) file.1
 
   -- a path before those of the files is no file's
   pass-one : (n : ℕ) (p : List ℕ) (ps : List (List ℕ)) (w : Workspace) → AreBehind p (paths w) → map (found_from n (p ∷ ps)) w ≡ map (found_from (n + 1) ps) w
@@ -47,31 +48,33 @@ module _ (e : Encoding) (diags : List (List Diag)) where
   found-all n (file ∷ w) order =
       rw ((bytes_decides file.0 file.0).1 refl) (ap (λ l. found_at (n, file) ∷ l) (found-all (n + 1) w order.1 ∙ sym (pass-one n file.0 (paths w) w order.0)))
 
--- what an analysis says of each file by its path
-by_path : (e : Encoding) (a : AnalysisData) (w : Workspace) → a.paths ≡ paths w → map (found_from e a.diagnostics 0 (paths w)) w ≡ map (λ file. placed e file.1 (diags_at a file.0)) w
-by_path e a w same =
-    ap (λ ps. map (found_from e a.diagnostics 0 ps) w) (sym same)
-    ∙ ap (λ f. map f w) (λ i file. placed e file.1 (option_map_or (λ number. slice_index_or a.diagnostics number []) (sym (position_from-zero (λ p. bytes_eq p file.0) a.paths) i) []))
+-- what is made of each file by what an analysis says of its path
+pub by_path : {X : Type 0} (of : List Diag → List ℕ × List ℕ → X) (a : AnalysisData) (w : Workspace) → a.paths ≡ paths w → Ascend w
+    → map (found_at of a.diagnostics) (enumerate_from 0 w) ≡ map (λ file. of (diags_at a file.0) file) w
+by_path of a w same ascend =
+    found-all of a.diagnostics 0 w ascend
+    ∙ ap (λ ps. map (found_from of a.diagnostics 0 ps) w) (sym same)
+    ∙ ap (λ f. map f w) (λ i file. of (option_map_or (λ number. slice_index_or a.diagnostics number []) (sym (position_from-zero (λ p. bytes_eq p file.0) a.paths) i) []) file)
 
--- ---- the text of each file is the one that is found at its path
+-- ---- what stands at each path is found there
 
-abbrev text_in : Workspace → List ℕ → Option (List ℕ)
-text_in w path = lookup (is_at (slice_cmp nat_cmp path)) w
+abbrev pub value_in : {V : Type 0} → List (List ℕ × V) → List ℕ → Option V
+value_in es path = lookup (is_at (slice_cmp nat_cmp path)) es
 
-module _ {X : Type 0} (of : List ℕ × List ℕ → Option (List ℕ) → X) where
-  -- a file before others isn't found at their paths
-  pass-text : (first : List ℕ × List ℕ) (v w : Workspace) → AreBehind first.0 (paths v) → map (λ file. of file (text_in (first ∷ w) file.0)) v ≡ map (λ file. of file (text_in w file.0)) v
-  pass-text first [] w all = refl
-  pass-text first (file ∷ v) w all =
-      let after : slice_cmp nat_cmp file.0 first.0 ≡ Greater = nat_list_cmp_total.antisymm file.0 first.0 ∙ ap ordering_reverse all.0 in
-      ap₂ ◌∷◌ (ap (λ o. of file (cond (is_eq o) (Some first.1) (text_in w file.0))) after) (pass-text first v w all.1)
+module _ {V X : Type 0} (of : List ℕ × V → Option V → X) where
+  -- an entry before others isn't found at their paths
+  pass-value : (first : List ℕ × V) (v w : List (List ℕ × V)) → AreBehind first.0 (map (λ e. e.0) v) → map (λ e. of e (value_in (first ∷ w) e.0)) v ≡ map (λ e. of e (value_in w e.0)) v
+  pass-value first [] w all = refl
+  pass-value first (e ∷ v) w all =
+      let after : slice_cmp nat_cmp e.0 first.0 ≡ Greater = nat_list_cmp_total.antisymm e.0 first.0 ∙ ap ordering_reverse all.0 in
+      ap₂ ◌∷◌ (ap (λ o. of e (cond (is_eq o) (Some first.1) (value_in w e.0))) after) (pass-value first v w all.1)
 
-  own-texts : (w : Workspace) → Ascend w → map (λ file. of file (text_in w file.0)) w ≡ map (λ file. of file (Some file.1)) w
+  pub own-values : (w : List (List ℕ × V)) → IsStrictlySortedBy (slice_cmp nat_cmp) (map (λ e. e.0) w) → map (λ e. of e (value_in w e.0)) w ≡ map (λ e. of e (Some e.1)) w
   unfolding IsStrictlySortedBy
-  own-texts [] order = refl
-  own-texts (file ∷ w) order =
-      let own = is_eq-slice_cmp file.0 file.0 ∙ (bytes_decides file.0 file.0).1 refl in
-      ap₂ ◌∷◌ (ap (λ b. of file (cond b (Some file.1) (text_in w file.0))) own) (pass-text file w w order.0 ∙ own-texts w order.1)
+  own-values [] order = refl
+  own-values (e ∷ w) order =
+      let own = is_eq-slice_cmp e.0 e.0 ∙ (bytes_decides e.0 e.0).1 refl in
+      ap₂ ◌∷◌ (ap (λ b. of e (cond b (Some e.1) (value_in w e.0))) own) (pass-value e w w order.0 ∙ own-values w order.1)
 
 pub reports_of_documents : ReportsAgreeWithDocuments
 reports_of_documents c order is =
@@ -79,10 +82,11 @@ reports_of_documents c order is =
     let w = c.workspace in
     let a = analysis w in
     let ascend : Ascend w = subst Ascend (sym is) (ascend-workspace c.files order) in
+    let said : List Diag → List ℕ × List ℕ → List DiagnosticData = λ diags file. placed e file.1 diags in
     let of : List ℕ × List ℕ → Option (List ℕ) → List DiagnosticData = λ file text. placed e (unwrap_or text []) (diags_at a file.0) in
-    let text : (path : List ℕ) → text_in w path ≡ text_at path c.files = λ path. ap (λ v. text_in v path) is ∙ text_of_workspace path c.files (order-apart c.files order) in
-    map-map (λ (report : DocumentData). report.diagnostics) (numbered_report c) (enumerate_from 0 w) ∙ found-all e a.diagnostics 0 w ascend ∙ by_path e a w refl
-    ∙ sym (own-texts of w ascend) ∙ ap (λ f. map f w) (λ i file. of file (text file.0 i))
+    let text : (path : List ℕ) → value_in w path ≡ text_at path c.files = λ path. ap (λ v. value_in v path) is ∙ text_of_workspace path c.files (order-apart c.files order) in
+    map-map (λ (report : DocumentData). report.diagnostics) (numbered_report c) (enumerate_from 0 w) ∙ by_path said a w refl ascend
+    ∙ sym (own-values of w ascend) ∙ ap (λ f. map f w) (λ i file. of file (text file.0 i))
 
 -- ---- one report more
 

@@ -4,7 +4,8 @@
 //! [`Answers`] are made of the files of a session with their analysis, and [`Answers::reply`] answers a [`Question`]: what is wrong
 //! in a document or in all, which declarations have a name that contains a text, where the name at a place is declared and
 //! used, and what gives it another name. A question names a document by its path and a place by an offset in bytes: a session has
-//! turned the URIs and positions of its editor into these. Nothing here changes a file.
+//! turned the URIs and positions of its editor into these. [`Answers::publications`] tell an editor that doesn't ask what is wrong in
+//! each open document. Nothing here changes a file.
 #![tactic(auto)]
 
 mod answers;
@@ -13,10 +14,11 @@ mod diagnostics;
 mod documents;
 mod laws;
 mod names;
+mod publications;
 mod question;
 mod ranges;
 mod reports;
 
 pub use answers::Answers;
-pub use laws::reports_agree_with_documents;
+pub use laws::{publications_agree_with_reports, reports_agree_with_documents};
 pub use question::{DocumentPlace, Question};

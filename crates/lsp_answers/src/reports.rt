@@ -27,7 +27,7 @@ fn diagnostics_at<'s>(snapshot: &Snapshot<'s>, path: &str) -> &'s [Diag]
 }
 
 // The version of the document of a file, if one is open.
-fn version_of(file: Option<&FileEntry>) -> Option<i64>
+pub fn version_of(file: Option<&FileEntry>) -> Option<i64>
     ensures { result ≡ spec.version_of (option_map (λ f. file_view f.now) file.entry) }
 {
     match &file?.document {
@@ -70,17 +70,28 @@ impl<'s> Answers<'s> {
         Ok(found)
     }
 
-    // The URI of the last open of the file at a path, or else that of the path below the root under which it was found.
-    pub(crate) fn uri_of(&self, path: &str) -> Result<String, AllocError>
-        ensures { IfOk result (λ uri. string_bytes uri ≡ spec.uri_of self.now.roots path.now (file_at path.now self.now.files)) }
+    // The URI of the last open of a file, given its path, or else that of the path below the root under which it was found.
+    pub(crate) fn uri_of_file(
+        &self,
+        path: &str,
+        file: Option<&FileEntry>,
+    ) -> Result<String, AllocError>
+        ensures { IfOk result (λ uri. string_bytes uri ≡ spec.uri_of self.now.roots path.now (option_map (λ f. file_view f.now) file.entry)) }
     {
-        let Some(file) = self.file_at(path) else {
+        let Some(file) = file else {
             return self.roots.uri_of(self.alloc, None, path);
         };
         match &file.uri {
             Some(uri) => String::from_str(self.alloc, uri.as_str()),
             None => self.roots.uri_of(self.alloc, file.root, path),
         }
+    }
+
+    // The same for the file at a path.
+    pub(crate) fn uri_of(&self, path: &str) -> Result<String, AllocError>
+        ensures { IfOk result (λ uri. string_bytes uri ≡ spec.uri_of self.now.roots path.now (file_at path.now self.now.files)) }
+    {
+        self.uri_of_file(path, self.file_at(path))
     }
 
     // The report of a file, given its path and its text, and what is wrong in it.
