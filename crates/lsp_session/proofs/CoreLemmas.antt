@@ -26,7 +26,7 @@ use Rattle.lsp_config.specs.Configuration.{Configuration, files_of}
 use Rattle.lsp_session.specs.Core.{Event, Arrive, Advance, Give, Offer, Fail, messages, processed, has_begun, begun, done, waiting, next_body, state_after, beginning, pending_after, board_events, MayBegin, MayFinish, IsLegal, IsSettled, CoreState, IsAfter, Replied, Steps, Advances}
 use Rattle.lsp_session.specs.Run.{event_of}
 use Rattle.lsp_session.specs.Session.{State, Pending, start, turn, path_of, path_in, replies_of, replies_to, waits, next, session}
-use Rattle.lsp_session.specs.Steps.{unprocessed, right_work, with_round, with_rounds, IsWorked, HasWorked, Knows, Awaits, WorksOn, Progresses, replies_after}
+use Rattle.lsp_session.specs.Steps.{unprocessed, right_work, with_round, with_rounds, IsWorked, HasWorked, Knows, Awaits, WorksOn, HandsOut, Progresses, replies_after}
 use Rattle.lsp_session.specs.Working.{events_for_path, events_by_method, events_in_phase, events_of, board_events_of}
 use Rattle.lsp_session.specs.declared.phase.Phase.{Phase}
 use Rattle.lsp_session.specs.declared.phase.Phase.TheVariants.{Running}
@@ -462,6 +462,16 @@ works-more o config mid new h w more =
 
 pub works-job : (o : ℕ) (config : Configuration) (core : CoreState) (h : List Event) → IsAfter o config core (Give ∷ h) → WorksOn o config core h
 works-job o config core h after = record { after = Give ∷ h; is_after = after; came = refl; count = refl }
+
+-- where a job was asked for and none was left
+pub hands-none : NoJobChangesNothing → (o : ℕ) (config : Configuration) (mid new : CoreState) (h : List Event) (is_full : Type 0) → WorksOn o config mid h
+    → ((g : List Event) → IsAfter o config mid g → IsAfter o config new (Give ∷ g)) → ((g : List Event) → IsAfter o config mid g → IsFirstWanted o (board_events config g) None) → HandsOut o config new h is_full
+hands-none same o config mid new h is_full w gives none =
+    let wanted = none w.after w.is_after in
+    record {
+      works = record { after = Give ∷ w.after; is_after = gives w.after w.is_after; came = w.came; count = w.count };
+      stops = inr (λ q. ap wants (same o (board_events config w.after) wanted q) ∙ wanted q);
+    }
 
 pub works-result : (o : ℕ) (config : Configuration) (core : CoreState) (h : List Event) (sent : Done) → IsAfter o config core (event_of sent ∷ h) → WorksOn o config core h
 works-result o config core h (job.Made piece) after = record { after = Offer piece.path piece.stamp piece.text ∷ h; is_after = after; came = refl; count = refl }

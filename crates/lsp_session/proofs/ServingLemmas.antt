@@ -328,15 +328,15 @@ ends_by-not Read e = cc
 ends_by-not Memory e = cc
 
 -- the counts of the source, where the reader answered a fault
-pub fault_calls : (old new : Counts) (fault : FrameFault) → NoneFell old new → NoErrorUnlessRead old new fault → new.errors ≤ old.errors + 1 → Calls old new (end_by fault)
-fault_calls old new BadHeader counts calm once = record { counts = counts; calm = calm; once = once }
-fault_calls old new NoLength counts calm once = record { counts = counts; calm = calm; once = once }
-fault_calls old new BadLength counts calm once = record { counts = counts; calm = calm; once = once }
-fault_calls old new BodyTooLong counts calm once = record { counts = counts; calm = calm; once = once }
-fault_calls old new HeaderTooLong counts calm once = record { counts = counts; calm = calm; once = once }
-fault_calls old new Truncated counts calm once = record { counts = counts; calm = calm; once = once }
-fault_calls old new Read counts calm once = record { counts = counts; calm = tt; once = once }
-fault_calls old new Memory counts calm once = record { counts = counts; calm = tt; once = once }
+pub fault_calls : (old new : Counts) (fault : FrameFault) → NoneFell old new → NoErrorUnlessRead old new fault → new.errors ≤ old.errors + 1 → Calls served.Read old new (end_by fault)
+fault_calls old new BadHeader counts calm once = record { counts = counts; calm = calm; reported = tt; once = once }
+fault_calls old new NoLength counts calm once = record { counts = counts; calm = calm; reported = tt; once = once }
+fault_calls old new BadLength counts calm once = record { counts = counts; calm = calm; reported = tt; once = once }
+fault_calls old new BodyTooLong counts calm once = record { counts = counts; calm = calm; reported = tt; once = once }
+fault_calls old new HeaderTooLong counts calm once = record { counts = counts; calm = calm; reported = tt; once = once }
+fault_calls old new Truncated counts calm once = record { counts = counts; calm = calm; reported = tt; once = once }
+fault_calls old new Read counts calm once = record { counts = counts; calm = tt; reported = λ other. absurd (other refl); once = once }
+fault_calls old new Memory counts calm once = record { counts = counts; calm = tt; reported = λ other. calm; once = once }
 
 pub fault_cause : (old new k l : Counts) (fault : FrameFault) → HasCause old new fault → IfErr (end_by fault) (IsCaused old new k l)
 fault_cause old new k l BadHeader h = tt
@@ -350,25 +350,25 @@ fault_cause old new k l Memory h = tt
 
 -- ---- calls to a device
 
-pub no_calls : {A E : Type 0} (a : Counts) (result : Result A E) → Calls a a result
-no_calls a (Ok x) = record { counts = NoneFell-refl a; calm = refl; once = omega arith }
-no_calls a (Err e) = record { counts = NoneFell-refl a; calm = tt; once = omega arith }
+pub no_calls : {A : Type 0} (own : ServeFault) (a : Counts) (result : Result A ServeFault) → Calls own a a result
+no_calls own a (Ok x) = record { counts = NoneFell-refl a; calm = refl; reported = tt; once = omega arith }
+no_calls own a (Err e) = record { counts = NoneFell-refl a; calm = tt; reported = λ other. refl; once = omega arith }
 
-pub good_calls : {A B E F : Type 0} (a b : Counts) (x : A) (y : B) → Calls {A = A} {E = E} a b (Ok x) → Calls {A = B} {E = F} a b (Ok y)
-good_calls a b x y calls = record { counts = calls.counts; calm = calls.calm; once = calls.once }
+pub good_calls : {A B : Type 0} (own : ServeFault) (a b : Counts) (x : A) (y : B) → Calls {A = A} own a b (Ok x) → Calls {A = B} own a b (Ok y)
+good_calls own a b x y calls = record { counts = calls.counts; calm = calls.calm; reported = tt; once = calls.once }
 
-pub bad_calls : {A B E F : Type 0} (a b : Counts) (x : E) (y : F) → Calls {A = A} {E = E} a b (Err x) → Calls {A = B} {E = F} a b (Err y)
-bad_calls a b x y calls = record { counts = calls.counts; calm = tt; once = calls.once }
+pub bad_calls : {A B : Type 0} (own : ServeFault) (a b : Counts) (fault : ServeFault) → Calls {A = A} own a b (Err fault) → Calls {A = B} own a b (Err fault)
+bad_calls own a b fault calls = record { counts = calls.counts; calm = tt; reported = calls.reported; once = calls.once }
 
 -- calls that met no error, whatever came of them
-pub calm_calls : {A E : Type 0} (a b : Counts) (result : Result A E) → NoneFell a b → NoError a b → b.errors ≤ a.errors + 1 → Calls a b result
-calm_calls a b (Ok x) fell calm once = record { counts = fell; calm = calm; once = once }
-calm_calls a b (Err e) fell calm once = record { counts = fell; calm = tt; once = once }
+pub calm_calls : {A : Type 0} (own : ServeFault) (a b : Counts) (result : Result A ServeFault) → NoneFell a b → NoError a b → b.errors ≤ a.errors + 1 → Calls own a b result
+calm_calls own a b (Ok x) fell calm once = record { counts = fell; calm = calm; reported = tt; once = once }
+calm_calls own a b (Err e) fell calm once = record { counts = fell; calm = tt; reported = λ other. calm; once = once }
 
 -- behind calls that met no error
-pub more_calls : {A E : Type 0} (a b c : Counts) (result : Result A E) → NoneFell a b → NoError a b → Calls b c result → Calls a c result
-more_calls a b c (Ok x) fell calm calls = record { counts = NoneFell-trans fell calls.counts; calm = calls.calm ∙ calm; once = omega (arith, calm, calls.once) }
-more_calls a b c (Err e) fell calm calls = record { counts = NoneFell-trans fell calls.counts; calm = tt; once = omega (arith, calm, calls.once) }
+pub more_calls : {A : Type 0} (own : ServeFault) (a b c : Counts) (result : Result A ServeFault) → NoneFell a b → NoError a b → Calls own b c result → Calls own a c result
+more_calls own a b c (Ok x) fell calm calls = record { counts = NoneFell-trans fell calls.counts; calm = calls.calm ∙ calm; reported = tt; once = omega (arith, calm, calls.once) }
+more_calls own a b c (Err e) fell calm calls = record { counts = NoneFell-trans fell calls.counts; calm = tt; reported = λ other. calls.reported other ∙ calm; once = omega (arith, calm, calls.once) }
 
 -- a fault behind other calls
 pub more_cause : (a b c k l m : Counts) (fault : ServeFault) → NoneFell a b → NoneFell k l → IsCaused b c l m fault → IsCaused a c k m fault

@@ -1,5 +1,5 @@
 -- What the private steps of a session over a stream promise each other.
-use Rattle.std.specs.Prelude.{◌≡◌, ℕ, ◌+◌, ◌≤◌, List, ◌++◌, length, ⊤, false, Option, Some, None, option_map, Result, Ok, Err, IfSome, OnOk}
+use Rattle.std.specs.Prelude.{◌≡◌, ℕ, ◌+◌, ◌≤◌, List, ◌++◌, length, ⊤, false, Option, Some, None, option_map, Result, Ok, Err, IfSome, IfErr, OnOk}
 use Rattle.std.specs.Io.KnownBytes.{Appends}
 use Rattle.lsp_frame.specs.Counts.{NoneFell, NoError, HasFailed}
 use Rattle.lsp_frame.specs.Fault.{code_of}
@@ -9,7 +9,7 @@ use Rattle.lsp_frame.specs.declared.fault.FrameFault.{FrameFault}
 use Rattle.lsp_frame.specs.declared.fault.FrameFault.TheVariants as frame
 use Rattle.lsp_frame.specs.declared.reader.LastAnswer.{LastAnswer}
 use Rattle.lsp_config.specs.Configuration.{Configuration}
-use Rattle.lsp_config.specs.Fault.{ComesWhileServing}
+use Rattle.lsp_config.specs.Fault.{ComesWhileServing, NoErrorUnless}
 use Rattle.lsp_config.specs.Sending.{SendsPrefix}
 use Rattle.lsp_config.specs.declared.fault.ServeFault.{ServeFault}
 use Rattle.lsp_config.specs.declared.fault.ServeFault.TheVariants as fault
@@ -23,10 +23,11 @@ use Rattle.lsp_session.specs.declared.phase.Phase.{Phase}
 
 -- ---- the devices
 
--- what calls to a device may do to its counts: an error is the last of them, and nothing ends well after it
-pub record Calls {A E : Type 0} (old new : Counts) (result : Result A E) : Type 0 where
+-- what calls to a device may do to its counts: an error is the last of them, nothing ends well after it, and it is reported as this fault
+pub record Calls {A : Type 0} (own : ServeFault) (old new : Counts) (result : Result A ServeFault) : Type 0 where
   pub counts : NoneFell old new
   pub calm : OnOk result (NoError old new)
+  pub reported : IfErr result (NoErrorUnless own old new)
   pub once : new.errors ≤ old.errors + 1
 
 -- a device's fault comes only where the device failed: those of a source between the first two counts, those of a sink

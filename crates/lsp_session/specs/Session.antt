@@ -1,11 +1,12 @@
 -- The sequential session (Language Server Protocol 3.17): what each message changes, and what is replied to it.
-use Rattle.std.specs.Prelude.{◌≡◌, ℕ, List, [], ◌∷◌, ◌++◌, Bool, true, false, Option, Some, None, option_and_then, option_map, map, fold}
+use Rattle.std.specs.Prelude.{◌≡◌, ℕ, List, [], ◌∷◌, ◌++◌, Bool, true, false, if◌then◌else◌, Option, Some, None, option_and_then, option_map, map, fold}
 use Rattle.doc_text.specs.Positions.{offset_of}
 use Rattle.serde_json.specs.Data.{Data, null}
 use Rattle.serde_json.specs.Written.{compact_text}
 use Rattle.lsp_rpc.specs.ClientCapabilities.{ClientData, client_of, default_client}
 use Rattle.lsp_rpc.specs.Initialize.{initialize_result}
 use Rattle.lsp_rpc.specs.Message.{IdData, MessageData, parse_error, invalid_request, response, request, notification, message_of}
+use Rattle.lsp_rpc.specs.Notification.{publication_value}
 use Rattle.lsp_rpc.specs.Params.{OpenedDocument, ChangedDocument, opened_of, changed_of, uri_of}
 use Rattle.lsp_rpc.specs.RequestParams.{PlaceData, query_of, place_of, reference_of, rename_of}
 use Rattle.lsp_rpc.specs.Reply.{result_reply, error_reply}
@@ -15,11 +16,12 @@ use Rattle.lsp_rpc.specs.declared.method.Method.{Method}
 use Rattle.lsp_rpc.specs.declared.method.Method.TheVariants.{Initialize, Shutdown, Exit, DidOpen, DidChange, DidSave, DidClose, DocumentDiagnostic, WorkspaceDiagnostic, WorkspaceSymbol, Definition, References, Rename}
 use Rattle.workspace_uri.specs.Uri as uri
 use Rattle.lsp_config.specs.Configuration.{Configuration, files_of}
-use Rattle.lsp_workspace.specs.Files.{Files, workspace, opened_files, changed_files, saved_files, closed_files, root_at, text_at, AreInPathOrder, HasTextsOfWorkspace}
+use Rattle.lsp_workspace.specs.Files.{Files, workspace, opened_files, changed_files, saved_files, closed_files, root_at, file_at, text_at, AreInPathOrder, HasTextsOfWorkspace}
+use Rattle.lsp_workspace.specs.Texts.{is_open}
 use Rattle.lsp_answers.specs.Context.{Context}
 use Rattle.lsp_answers.specs.Questions as questions
 use Rattle.lsp_answers.specs.Questions.{DocumentPlaceData, QuestionData}
-use Rattle.lsp_answers.specs.Reports.{ReportsAreOfDocuments}
+use Rattle.lsp_answers.specs.Reports.{publications, ReportsAreOfDocuments, PublicationsAreReports}
 use Rattle.lsp_session.specs.declared.phase.Phase.{Phase}
 use Rattle.lsp_session.specs.declared.phase.Phase.TheVariants.{Uninitialized, Running, Shut, Exited}
 
@@ -30,11 +32,13 @@ pub record State : Type 0 where
   pub phase : Phase
   pub files : Files
 
--- what is still to be answered to a message that has begun: replies that are known at once, or a question about the files that the
--- message leaves
+-- what is still to be answered to a message that has begun: replies that are known at once; a question about the files that the
+-- message leaves; what is wrong in each open document; or, under the URI of its last open, that nothing is wrong in one that was closed
 pub data Pending : Type 0 where
   Now : List Data → Pending
   Ask : IdData → QuestionData → Pending
+  Publish : Pending
+  Clear : List ℕ → Pending
 
 -- what a message changes at once, and what is still to be answered to it
 pub record Turn : Type 0 where
@@ -59,9 +63,15 @@ enter phase s = record s { phase = phase }
 abbrev pub path_of : State → List ℕ → Option (List ℕ)
 path_of s text = uri.path_of (root_at s.files) s.roots text
 
--- the path of the document that the params name
+-- the path of the document that the params name, and those of an open and of a change, which have to be good as a whole
 abbrev pub path_in : State → Data → Option (List ℕ)
 path_in s params = option_and_then (path_of s) (uri_of params)
+
+abbrev pub opened_path : State → Data → Option (List ℕ)
+opened_path s params = option_and_then (λ o. path_of s o.uri) (opened_of params)
+
+abbrev pub changed_path : State → Data → Option (List ℕ)
+changed_path s params = option_and_then (λ c. path_of s c.document.uri) (changed_of params)
 
 -- what becomes of the files of a state at a path; without one nothing changes
 abbrev pub at_path : (List ℕ → Files → Files) → State → Option (List ℕ) → State
@@ -166,6 +176,46 @@ notified Running s method params = running_notification s method params
 notified Shut s method params = exits true s method
 notified (Exited after_shutdown) s method params = s
 
+-- ---- what is published
+
+-- nothing to a client that asks for diagnostics itself
+abbrev pub to_client : ClientData → Pending → Pending
+to_client client pending = if client.pulls_diagnostics then Now [] else pending
+
+-- after an open, each open document
+abbrev pub after_open : Option (List ℕ) → Pending
+after_open None = Now []
+after_open (Some path) = Publish
+
+-- after a change or a save of an open document too
+abbrev pub after_change : Files → Option (List ℕ) → Pending
+after_change files None = Now []
+after_change files (Some path) = if is_open path files then Publish else Now []
+
+-- the URI of the last open of the document at a path, if it is open
+abbrev pub open_uri : Files → List ℕ → Option (List ℕ)
+open_uri files path = if is_open path files then option_and_then (λ f. f.uri) (file_at path files) else None
+
+abbrev pub cleared : Option (List ℕ) → Pending
+cleared None = Now []
+cleared (Some uri) = Clear uri
+
+-- after a close of an open document that document alone, under the URI that it had; the files are those before the close
+abbrev pub after_close : Files → Option (List ℕ) → Pending
+after_close files path = cleared (option_and_then (open_uri files) path)
+
+abbrev pub running_told : State → Option Method → Data → Pending
+running_told s (Some DidOpen) params = after_open (opened_path s params)
+running_told s (Some DidChange) params = after_change s.files (changed_path s params)
+running_told s (Some DidSave) params = after_change s.files (path_in s params)
+running_told s (Some DidClose) params = after_close s.files (path_in s params)
+running_told s _ params = Now []
+
+-- what is left to be answered to a notification
+abbrev pub told : Phase → State → Option Method → Data → Pending
+told Running s method params = to_client s.client (running_told s method params)
+told _ s method params = Now []
+
 -- ---- the turns of messages
 
 abbrev pub received : State → MessageData → Turn
@@ -173,7 +223,7 @@ received s parse_error = refuse s None ParseError
 received s (invalid_request id) = refuse s id InvalidRequest
 received s response = silent s
 received s (request id method params) = requested s.phase s id method params
-received s (notification method params) = silent (notified s.phase s method params)
+received s (notification method params) = record { state = notified s.phase s method params; pending = told s.phase s method params }
 
 -- after an exit every message is dropped
 abbrev pub turn_in : Phase → State → MessageData → Turn
@@ -193,10 +243,16 @@ start config = record { roots = config.roots; client = default_client; phase = U
 abbrev pub context_of : State → Context
 context_of s = record { roots = s.roots; encoding = s.client.encoding; files = s.files; workspace = workspace s.files }
 
+-- a publication that nothing is wrong in the document with a URI, which has no version any more
+abbrev pub clearing : List ℕ → Data
+clearing uri = publication_value (record { diagnostics = []; uri = uri; version = None })
+
 -- the replies that were left to be given, in the state that the message leaves
 abbrev pub replies_of : State → Pending → List Data
 replies_of s (Now replies) = replies
 replies_of s (Ask id question) = questions.answer (context_of s) id question
+replies_of s Publish = publications (context_of s)
+replies_of s (Clear uri) = clearing uri ∷ []
 
 -- the replies to a message
 abbrev pub replies_to : State → MessageData → List Data
@@ -206,6 +262,12 @@ replies_to s m = let t = turn s m in replies_of t.state t.pending
 abbrev pub waits : Pending → Bool
 waits (Now replies) = false
 waits _ = true
+
+-- whether they are made of an analysis of the files
+abbrev pub needs_analysis : Pending → Bool
+needs_analysis (Ask id question) = true
+needs_analysis Publish = true
+needs_analysis _ = false
 
 -- ---- the session
 
@@ -243,3 +305,7 @@ DocumentsAreOfTheWorkspace = (config : Configuration) (bodies : List (List ℕ))
 -- the reports of all documents have the diagnostics that the report of each one has
 abbrev pub ReportsAgree : Type 0
 ReportsAgree = (config : Configuration) (bodies : List (List ℕ)) → ReportsAreOfDocuments (context_of (session config bodies).state)
+
+-- what is published is said of the open documents among these reports
+abbrev pub PublicationsAgree : Type 0
+PublicationsAgree = (config : Configuration) (bodies : List (List ℕ)) → PublicationsAreReports (context_of (session config bodies).state)

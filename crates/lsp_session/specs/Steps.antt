@@ -7,7 +7,7 @@ use Rattle.piece_collector.specs.History.{first_wanted, history, stands_at}
 use Rattle.lsp_rpc.specs.Message.{message_of}
 use Rattle.lsp_config.specs.Configuration.{Configuration}
 use Rattle.lsp_session.specs.Core.{Event, Give, Offer, messages, processed, CoreState, IsAfter, board_events}
-use Rattle.lsp_session.specs.Session.{replies_to, waits, session}
+use Rattle.lsp_session.specs.Session.{replies_to, waits, needs_analysis, session}
 use Rattle.lsp_session.specs.declared.step.Step.{Step}
 use Rattle.lsp_session.specs.declared.step.Step.TheVariants.{Begin, Finish}
 
@@ -15,9 +15,9 @@ use Rattle.lsp_session.specs.declared.step.Step.TheVariants.{Begin, Finish}
 abbrev pub IsReady : CoreState → Type 0
 IsReady core = IfSome core.pending (λ p. waits p ≡ true → IsFull core.board)
 
--- the files are analysed, if what is left to be answered asks for it
+-- the files are analysed, if what is left to be answered needs it
 abbrev pub IsPrepared : CoreState → Bool → Type 0
-IsPrepared core is_analysed = IfSome core.pending (λ p. waits p ≡ true → is_analysed ≡ true)
+IsPrepared core is_analysed = IfSome core.pending (λ p. needs_analysis p ≡ true → is_analysed ≡ true)
 
 -- a step can be taken
 abbrev pub CanStep : CoreState → Step → Type 0
@@ -79,6 +79,11 @@ pub record WorksOn (opening : ℕ) (config : Configuration) (core : CoreState) (
   pub is_after : IsAfter opening config core after
   pub came : messages after ≡ messages h
   pub count : processed after ≡ processed h
+
+-- the same where jobs went out until no more may be out, as `is_full` says, or no text is left to be worked on
+pub record HandsOut (opening : ℕ) (config : Configuration) (core : CoreState) (h : List Event) (is_full : Type 0) : Type 0 where
+  pub works : WorksOn opening config core h
+  pub stops : is_full ⊎ IsFirstWanted opening (board_events config works.after) None
 
 -- the bodies of the replies to one more message
 abbrev pub replies_after : Configuration → List (List ℕ) → List ℕ → List (List ℕ)

@@ -1,5 +1,5 @@
 -- What a session and its core keep, as their definitions see it.
-use Rattle.std.specs.Prelude.{◌≡◌, ℕ, List, [], ◌∷◌, Option, map, option_map}
+use Rattle.std.specs.Prelude.{◌≡◌, ℕ, List, [], ◌∷◌, Option, map, option_map, string_bytes}
 use Rattle.serde_json.specs.Data.{null}
 use Rattle.piece_collector.specs.Views.{BoardView}
 use Rattle.lsp_rpc.specs.ClientCapabilities.{client_view}
@@ -10,7 +10,7 @@ use Rattle.workspace_uri.specs.View.{roots_texts}
 use Rattle.lsp_workspace.specs.View.{WorkspaceData}
 use Rattle.lsp_answers.specs.Views.{question_view}
 use Rattle.lsp_session.specs.Core.{CoreState}
-use Rattle.lsp_session.specs.Session.{State, Pending, Now, Ask}
+use Rattle.lsp_session.specs.Session.{State, Pending, Now, Ask, Publish, Clear}
 use Rattle.lsp_config.specs.declared.fault.CoreFault.{CoreFault}
 use Rattle.lsp_session.specs.declared.pending.Pending as kept
 use Rattle.lsp_session.specs.declared.pending.Pending.TheVariants as left
@@ -36,6 +36,8 @@ pending_view (left.Refusal id code) = Now (error_reply (option_map id_view id) c
 pending_view (left.Capabilities id encoding) = Now (result_reply (id_view id) (initialize_result encoding) ∷ [])
 pending_view (left.Null id) = Now (result_reply (id_view id) null ∷ [])
 pending_view (left.Ask id question) = Ask (id_view id) (question_view question)
+pending_view left.Publish = Publish
+pending_view (left.Clear uri) = Clear (string_bytes uri)
 
 -- the last stamp was given
 abbrev pub IsExhausted : BoardView → Type 0

@@ -1,14 +1,13 @@
 -- What a message does to the board of the texts.
-use Rattle.std.specs.Prelude.{ℕ, List, [], ◌∷◌, Option, Some, None, option_and_then}
+use Rattle.std.specs.Prelude.{ℕ, List, [], ◌∷◌, Option, Some, None}
 use Rattle.piece_collector.specs.Events.{Event}
 use Rattle.serde_json.specs.Data.{Data}
 use Rattle.lsp_rpc.specs.Message.{MessageData, notification}
-use Rattle.lsp_rpc.specs.Params.{opened_of, changed_of}
 use Rattle.lsp_rpc.specs.declared.method.Method.{Method}
 use Rattle.lsp_rpc.specs.declared.method.Method.TheVariants.{DidOpen, DidChange, DidClose}
 use Rattle.lsp_workspace.specs.Files.{Files}
 use Rattle.lsp_workspace.specs.Texts.{event_at, events_at}
-use Rattle.lsp_session.specs.Session.{State, turn, path_of, path_in}
+use Rattle.lsp_session.specs.Session.{State, turn, path_in, opened_path, changed_path}
 use Rattle.lsp_session.specs.declared.phase.Phase.{Phase}
 use Rattle.lsp_session.specs.declared.phase.Phase.TheVariants.{Running}
 
@@ -20,8 +19,8 @@ events_for_path events (Some path) = events path
 -- An open sets the text of its path. A change of an open document sets it too, once for the whole list of changes, and a close of
 -- one sets the kept text, or removes the path where none is kept. The files are those after the message.
 abbrev pub events_by_method : State → Option Method → Data → Files → List Event
-events_by_method s (Some DidOpen) params files = events_for_path (λ path. event_at path files ∷ []) (option_and_then (λ o. path_of s o.uri) (opened_of params))
-events_by_method s (Some DidChange) params files = events_for_path (λ path. events_at path s.files files) (option_and_then (λ c. path_of s c.document.uri) (changed_of params))
+events_by_method s (Some DidOpen) params files = events_for_path (λ path. event_at path files ∷ []) (opened_path s params)
+events_by_method s (Some DidChange) params files = events_for_path (λ path. events_at path s.files files) (changed_path s params)
 events_by_method s (Some DidClose) params files = events_for_path (λ path. events_at path s.files files) (path_in s params)
 events_by_method s _ params files = []
 

@@ -1,15 +1,17 @@
 // Jobs go out to the workers of a pool, and what became of them comes back.
-ghost use Rattle.std.specs.Prelude.{◌≡◌, ◌+◌, ◌<◌, ℕ, List, [], ◌∷◌, ◌++◌, true, IfOk, IfErr, OnOk};
+ghost use Rattle.std.specs.Prelude.{◌≡◌, ◌+◌, ◌<◌, ℕ, List, [], ◌∷◌, ◌++◌, true, false, None, Ok, IfOk, IfErr, OnOk};
+ghost use Rattle.piece_collector.specs.Board.{IsFirstWanted};
 ghost use Rattle.lsp_config.specs.Configuration.{Configuration};
 ghost use Rattle.lsp_config.specs.Fault.{IsOfCore};
-ghost use Rattle.lsp_session.specs.Core.{Event, IsAfter, Advances};
-ghost use Rattle.lsp_session.specs.Run.{has_failed, incoming_of_done, verdicts_of};
-ghost use Rattle.lsp_session.specs.Steps.{Knows, Awaits, WorksOn, Progresses, replies_after};
+ghost use Rattle.lsp_session.specs.Core.{Event, Give, IsAfter, Advances, board_events};
+ghost use Rattle.lsp_session.specs.Run.{event_of, has_failed, incoming_of_done, verdicts_of};
+ghost use Rattle.lsp_session.specs.Steps.{Knows, Awaits, WorksOn, HandsOut, Progresses, replies_after};
 ghost use Rattle.lsp_session.specs.View.{core_state};
 
 use crate::reply::Reply;
 use crate::session_core::Core;
 use crate::threading::Threading;
+use collector_laws::jobs_and_pieces;
 use lsp_config::ServeFault;
 use piece_collector::Verdict;
 use std::sync::Wait;
@@ -20,7 +22,8 @@ use worker_pool::Pool;
 // Hands out the next job, and says whether there was one.
 fn hand_out_next<R: Wait>(rt: &R, core: &mut Core, pool: &mut Pool) -> Result<bool, ServeFault>
     requires { pool.old.out < 256 }
-    ensures works { OnOk result ((opening : ℕ) (config : Configuration) (h : List Event) → IsAfter opening config (core_state core.old) h → WorksOn opening config (core_state core.new) h) }
+    ensures gives { OnOk result ((opening : ℕ) (config : Configuration) (h : List Event) → IsAfter opening config (core_state core.old) h → IsAfter opening config (core_state core.new) (Give ∷ h)) }
+    ensures none { result ≡ Ok false → (opening : ℕ) (config : Configuration) (h : List Event) → IsAfter opening config (core_state core.old) h → IsFirstWanted opening (board_events config h) None }
     ensures state { OnOk result ((core_state core.new).state ≡ (core_state core.old).state) }
     ensures out { IfOk result (λ more. more ≡ true → pool.new.out ≡ pool.old.out + 1) }
     ensures fault { IfErr result IsOfCore }
@@ -36,13 +39,14 @@ fn hand_out_next<R: Wait>(rt: &R, core: &mut Core, pool: &mut Pool) -> Result<bo
     }
 }
 
-/// Hands out jobs, in the order of the paths, until none is left or no more may be out. `Memory` where memory is refused or
+/// Hands out jobs, in the order of the paths, until none is left or 256 are out. `Memory` where memory is refused or
 /// a job can't be sent, else the fault that the core has answered before.
 pub fn hand_out<R: Wait>(rt: &R, core: &mut Core, pool: &mut Pool) -> Result<(), ServeFault>
-    ensures works { OnOk result ((opening : ℕ) (config : Configuration) (h : List Event) → IsAfter opening config (core_state core.old) h → WorksOn opening config (core_state core.new) h) }
+    ensures hands { OnOk result ((opening : ℕ) (config : Configuration) (h : List Event) → IsAfter opening config (core_state core.old) h → HandsOut opening config (core_state core.new) h (¬ (pool.new.out < 256))) }
     ensures state { OnOk result ((core_state core.new).state ≡ (core_state core.old).state) }
     ensures fault { IfErr result IsOfCore }
 {
+    jobs_and_pieces();
     'jobs: while pool.has_room() {
         match hand_out_next(rt, core, pool) {
             Ok(true) => {}
@@ -62,7 +66,7 @@ fn has_failed(done: &Done) -> bool
 
 // Brings the core what became of a job. `Memory` where that failed because memory ran out, unless its text no longer counts.
 fn bring(core: &mut Core, done: Done) -> Result<(), ServeFault>
-    ensures works { OnOk result ((opening : ℕ) (config : Configuration) (h : List Event) → IsAfter opening config (core_state core.old) h → WorksOn opening config (core_state core.new) h) }
+    ensures brings { OnOk result ((opening : ℕ) (config : Configuration) (h : List Event) → IsAfter opening config (core_state core.old) h → IsAfter opening config (core_state core.new) (event_of done ∷ h)) }
     ensures fault { IfErr result IsOfCore }
 
     // A failure that counts is never passed over.

@@ -1,8 +1,8 @@
 // What the definitions of the session say, beside what the code meets.
-ghost use Rattle.lsp_session.specs.Session.{ClientStays, FilesAreInPathOrder, DocumentsAreOfTheWorkspace, ReportsAgree};
+ghost use Rattle.lsp_session.specs.Session.{ClientStays, FilesAreInPathOrder, DocumentsAreOfTheWorkspace, ReportsAgree, PublicationsAgree};
 ghost use Rattle.lsp_session.specs.Stream.{NothingFollowsAnExit};
 
-use lsp_answers::reports_agree_with_documents;
+use lsp_answers::{publications_agree_with_reports, reports_agree_with_documents};
 
 /// A law. After an exit the session stays as it is: later messages change nothing and get no reply.
 pub fn nothing_follows_an_exit()
@@ -31,4 +31,12 @@ pub fn reports_agree()
     ensures { ReportsAgree }
 {
     reports_agree_with_documents();
+}
+
+/// A law. Whatever messages came, what would be published is what the reports of all documents say of those that are open: the same
+/// diagnostics, URIs and versions, by path.
+pub fn publications_agree()
+    ensures { PublicationsAgree }
+{
+    publications_agree_with_reports();
 }

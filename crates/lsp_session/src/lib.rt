@@ -1,17 +1,20 @@
 //! A session with an editor (Language Server Protocol 3.17): what the server keeps, and what it replies.
 //!
 //! A [`Core`] takes the bodies of messages and gives the bodies of replies; it knows no streams. It gives a [`Job`] for each text,
-//! and takes what is made of it in any order; a request for an analysis waits until all work is there. [`serve`] reads the
+//! and takes what is made of it in any order; what is answered from an analysis waits until all work is there: requests, and the
+//! diagnostics that are published to an editor that doesn't ask for them. [`serve`] reads the
 //! messages from a stream of frames, lets workers do the work, and writes the replies to another stream, until the editor ends the
 //! session or the stream ends. [`run_core`] runs a core over a list of messages and of work that is brought. [`check`] lists what is wrong
 //! in the files of a configuration, without an editor.
 #![tactic(auto)]
 
 mod dispatch;
+mod documents;
 mod ended;
 mod laws;
 mod pending;
 mod phase;
+mod questions;
 mod reply;
 mod run;
 mod serving;
@@ -25,7 +28,7 @@ mod working;
 pub use ended::Ended;
 pub use laws::{
     client_stays, documents_are_of_the_workspace, files_are_in_path_order, nothing_follows_an_exit,
-    reports_agree,
+    publications_agree, reports_agree,
 };
 pub use lsp_answers::reports_agree_with_documents;
 pub use lsp_check::check;

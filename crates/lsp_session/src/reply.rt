@@ -1,5 +1,5 @@
 // What the server says to the editor.
-ghost use Rattle.std.specs.Prelude.{◌≡◌, ◌++◌, [], ◌∷◌, OnOk};
+ghost use Rattle.std.specs.Prelude.{◌≡◌, ◌++◌, [], ◌∷◌, map, OnOk};
 
 use std::alloc::AllocError;
 use std::marker::Model;
@@ -39,5 +39,15 @@ pub fn push(replies: &mut Vec<Reply>, body: Vec<u8>) -> Result<(), AllocError>
     ensures { OnOk result (replies.new.items ≡ replies.old.items ++ body.items ∷ []) }
 {
     replies.push(Reply::new(body))?;
+    Ok(())
+}
+
+/// Adds the replies with these bodies, in order.
+pub fn push_all(replies: &mut Vec<Reply>, bodies: Vec<Vec<u8>>) -> Result<(), AllocError>
+    ensures { OnOk result (replies.new.items ≡ replies.old.items ++ map (λ body. body.items) bodies.items) }
+{
+    for body in bodies {
+        push(replies, body)?;
+    }
     Ok(())
 }

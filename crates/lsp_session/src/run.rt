@@ -1,10 +1,11 @@
 // A core over a list of events.
-ghost use Rattle.std.specs.Prelude.{◌≡◌, ℕ, List, [], ◌++◌, filter, length, map, IfOk, OnOk};
+ghost use Rattle.std.specs.Prelude.{◌≡◌, ℕ, List, [], ◌++◌, filter, length, map, None, IfOk, IfErr, OnOk};
 ghost use Rattle.std.specs.Option.{option_to_list};
 ghost use Rattle.lsp_config.specs.Configuration.{Configuration};
+ghost use Rattle.lsp_config.specs.Fault.{ComesWithoutThreads};
 ghost use Rattle.lsp_session.specs.Core.{Event, IsAfter};
 ghost use Rattle.lsp_session.specs.Run.{incoming_of, is_message, verdicts_of, HasCome, HasFollowed, HasRun};
-ghost use Rattle.lsp_session.specs.View.{core_state};
+ghost use Rattle.lsp_session.specs.View.{core_state, last_fault};
 
 use crate::reply::Reply;
 use crate::session_core::Core;
@@ -40,6 +41,8 @@ pub struct CoreRun {
 fn take(core: &mut Core, event: CoreEvent) -> Result<Option<Verdict>, CoreFault>
     ensures comes { OnOk result ((opening : ℕ) (config : Configuration) (h : List Event) → IsAfter opening config (core_state core.old) h → HasCome opening config (core_state core.new) (incoming_of event) h) }
     ensures verdict { IfOk result (λ verdict. (opening : ℕ) (config : Configuration) (h : List Event) → IsAfter opening config (core_state core.old) h → option_to_list verdict ≡ verdicts_of opening config h (incoming_of event)) }
+    ensures open { last_fault core.old ≡ None → OnOk result (last_fault core.new ≡ None) }
+    ensures threads { last_fault core.old ≡ None → IfErr result ComesWithoutThreads }
 {
     match event {
         CoreEvent::Message(body) => {
@@ -82,8 +85,10 @@ fn handle(
     replies: &mut Vec<Reply>,
     verdicts: &mut Vec<Verdict>,
 ) -> Result<(), CoreFault>
-    ensures { OnOk result ((opening : ℕ) (config : Configuration) (h : List Event) → IsAfter opening config (core_state core.old) h
+    ensures follows { OnOk result ((opening : ℕ) (config : Configuration) (h : List Event) → IsAfter opening config (core_state core.old) h
         → HasFollowed opening config (core_state core.new) (incoming_of event) h replies.old.items replies.new.items verdicts.old.items verdicts.new.items) }
+    ensures open { last_fault core.old ≡ None → OnOk result (last_fault core.new ≡ None) }
+    ensures threads { last_fault core.old ≡ None → IfErr result ComesWithoutThreads }
 {
     let verdict = take(core, event)?;
     push_verdict(verdicts, verdict)?;
@@ -107,7 +112,8 @@ fn count_messages(events: &[CoreEvent]) -> usize
 
 /// Runs a new core on the events, in order. `Memory` where memory is refused, `Exhausted` where a text finds no stamp.
 pub fn run_core(alloc: Global, config: Config, events: Vec<CoreEvent>) -> Result<CoreRun, CoreFault>
-    ensures { IfOk result (λ run. HasRun config (map incoming_of events.items) run.replies.items run.verdicts.items run.processed) }
+    ensures run { IfOk result (λ run. HasRun config (map incoming_of events.items) run.replies.items run.verdicts.items run.processed) }
+    ensures threads { IfErr result ComesWithoutThreads }
 {
     let mut core = Core::new(alloc, config)?;
     let mut replies = Vec::new(alloc);

@@ -4,7 +4,7 @@ ghost use Rattle.std.specs.Io.KnownBytes.{Appends};
 ghost use Rattle.lsp_frame.specs.Counts.{NoError, HasFailed};
 ghost use Rattle.lsp_frame.specs.FrameReader.{source_of, last_answer, IsOpen};
 ghost use Rattle.lsp_config.specs.Configuration.{Configuration};
-ghost use Rattle.lsp_config.specs.Fault.{ComesWhileServing, IsOfCore};
+ghost use Rattle.lsp_config.specs.Fault.{ComesWhileServing, IsOfCore, NoErrorUnless};
 ghost use Rattle.lsp_config.specs.Sending.{SendsPrefix};
 ghost use Rattle.lsp_session.specs.Serving.{Calls, IsCaused, Served};
 ghost use Rattle.lsp_session.specs.Steps.{Knows};
@@ -56,8 +56,8 @@ fn serve_messages<R: Threads + Wait, S: ByteSource, K: ByteSink, G: Gate>(
 ) -> Result<Ended, ServeFault>
     requires { IsOpen reader.old }
     ensures served { (config : Configuration) → Knows config (core_state core.old) [] → Served config (S.left (source_of reader.old)) (S.left (source_of reader.new)) (K.written writer.old) (K.written writer.new) (last_answer reader.new) result }
-    ensures reads { Calls (S.counts (source_of reader.old)) (S.counts (source_of reader.new)) result }
-    ensures writes { Calls (K.counts writer.old) (K.counts writer.new) result }
+    ensures reads { Calls ServeFault.Read (S.counts (source_of reader.old)) (S.counts (source_of reader.new)) result }
+    ensures writes { Calls ServeFault.Write (K.counts writer.old) (K.counts writer.new) result }
     ensures cause { IfErr result (IsCaused (S.counts (source_of reader.old)) (S.counts (source_of reader.new)) (K.counts writer.old) (K.counts writer.new)) }
 {
     for _turn in threading.rt.forever() {
@@ -85,8 +85,8 @@ fn run<
 ) -> Result<Ended, ServeFault>
     requires { IsOpen reader.old }
     ensures served { Served start.entry.config (S.left (source_of reader.old)) (S.left (source_of reader.new)) (K.written writer.old) (K.written writer.new) (last_answer reader.new) result }
-    ensures reads { Calls (S.counts (source_of reader.old)) (S.counts (source_of reader.new)) result }
-    ensures writes { Calls (K.counts writer.old) (K.counts writer.new) result }
+    ensures reads { Calls ServeFault.Read (S.counts (source_of reader.old)) (S.counts (source_of reader.new)) result }
+    ensures writes { Calls ServeFault.Write (K.counts writer.old) (K.counts writer.new) result }
     ensures cause { IfErr result (IsCaused (S.counts (source_of reader.old)) (S.counts (source_of reader.new)) (K.counts writer.old) (K.counts writer.new)) }
 {
     let Start {
@@ -168,9 +168,11 @@ pub fn serve<
     // What is wrong with a configuration was said when it was made.
     ensures fault { IfErr result ComesWhileServing }
 
-    // It ends well only where no error of a device came.
+    // It ends well only where no error of a device came, and such an error is reported as the device's own fault.
     ensures reads_calm { OnOk result (NoError (S.counts (source_of reader.old)) (S.counts (source_of reader.new))) }
     ensures writes_calm { OnOk result (NoError (K.counts writer.old) (K.counts writer.new)) }
+    ensures reads_reported { IfErr result (NoErrorUnless ServeFault.Read (S.counts (source_of reader.old)) (S.counts (source_of reader.new))) }
+    ensures writes_reported { IfErr result (NoErrorUnless ServeFault.Write (K.counts writer.old) (K.counts writer.new)) }
 
     // After an error a device is not called again.
     ensures reads_once { (S.counts (source_of reader.new)).errors ≤ (S.counts (source_of reader.old)).errors + 1 }

@@ -26,8 +26,8 @@ use std::thread::Threads;
 use work_index::{AnalyseFault, Done, Gate};
 
 /// A session that takes the bodies of messages and gives the bodies of replies. The work on the texts is done outside: the core
-/// gives jobs, and takes what is made of them, in any order. A request for an analysis waits until the work on each text is there,
-/// and all later messages wait behind it.
+/// gives jobs, and takes what is made of them, in any order. What is answered from an analysis waits until the work on each text is there,
+/// and all later messages wait behind it: the requests about files, and, where diagnostics are published, each notification about a document.
 ///
 /// After a fault each call that answers a `Result` answers that fault, and changes nothing then.
 #[derive(Drop)]
@@ -174,8 +174,8 @@ impl Core {
 
     // ---- advances
 
-    /// Processes the queued messages in order, and gives the replies to them in order. It stops at a request for an analysis as
-    /// long as the work on some text isn't there, and analyses the files on this thread. `Memory` where memory is refused, `Exhausted`
+    /// Processes the queued messages in order, and gives the replies to them in order. It stops at a message that waits for the work on the
+    /// texts as long as that on some text isn't there, and analyses the files on this thread. `Memory` where memory is refused, `Exhausted`
     /// where a text finds no stamp: then the replies of this call are lost.
     pub fn advance(&mut self) -> Result<Vec<Reply>, CoreFault>
         // After a fault it answers the same again, and changes nothing.
@@ -274,19 +274,19 @@ impl Core {
         }
     }
 
-    // Whether what is left to be answered asks for an analysis that isn't known.
+    // Whether what is left to be answered needs an analysis that isn't known.
     fn wants_analysis(&self) -> bool
         requires { IsReady (core_state self.now) }
         ensures full { IsTrue result → IsFull (core_state self.now).board }
         ensures prepared { result ≡ false → IsPrepared (core_state self.now) self.now.workspace.is_current }
     {
         match &self.pending {
-            Some(pending) => pending.waits() && !self.workspace.is_current(),
+            Some(pending) => pending.needs_analysis() && !self.workspace.is_current(),
             None => false,
         }
     }
 
-    // Analyses the files on this thread, if what is left to be answered asks for it.
+    // Analyses the files on this thread, if what is left to be answered needs it.
     fn prepare(&mut self) -> Result<(), AllocError>
         requires { IsReady (core_state self.old) }
         ensures fault { last_fault self.new ≡ last_fault self.old }
@@ -299,7 +299,7 @@ impl Core {
         Ok(())
     }
 
-    // Analyses the files by so many threads, if what is left to be answered asks for it.
+    // Analyses the files by so many threads, if what is left to be answered needs it.
     fn prepare_in_shares<R: Threads + Wait, G: Gate>(
         &mut self,
         rt: &R,

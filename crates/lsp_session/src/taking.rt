@@ -30,7 +30,7 @@ fn write_all<K: ByteSink>(writer: &mut K, replies: &[Reply]) -> Result<(), Serve
     ensures err { OnErr result (SendsPrefix (K.written writer.old) (K.written writer.new) (frames_of replies.now)) }
     ensures fault { IfErr result (λ fault. fault ≡ ServeFault.Write) }
     ensures cause { OnErr result (HasFailed (K.counts writer.old) (K.counts writer.new)) }
-    ensures calls { Calls (K.counts writer.old) (K.counts writer.new) result }
+    ensures calls { Calls ServeFault.Write (K.counts writer.old) (K.counts writer.new) result }
 {
     for reply in replies {
         match write_frame(writer, reply.as_bytes()) {
@@ -53,7 +53,7 @@ fn reply_to<R: Threads + Wait, K: ByteSink, G: Gate>(
     ensures ok { OnOk result ((config : Configuration) (bodies : List (List ℕ)) → Knows config (core_state core.old) bodies → Appends (K.written writer.old) (K.written writer.new) (frames_of (replies_after config bodies body.now))) }
     ensures err { OnErr result ((config : Configuration) (bodies : List (List ℕ)) → Knows config (core_state core.old) bodies → SendsPrefix (K.written writer.old) (K.written writer.new) (frames_of (replies_after config bodies body.now))) }
     ensures fault { IfErr result (IsWriteOrCore (K.counts writer.old) (K.counts writer.new)) }
-    ensures calls { Calls (K.counts writer.old) (K.counts writer.new) result }
+    ensures calls { Calls ServeFault.Write (K.counts writer.old) (K.counts writer.new) result }
 {
     let replies = match answer(threading, core, pool, body) {
         Ok(replies) => replies,
@@ -83,7 +83,7 @@ fn take_message<R: Threads + Wait, K: ByteSink, G: Gate>(
     ensures comes { (config : Configuration) (a b c v : Option (List ℕ)) → Serving config a b (core_state core.old) v (K.written writer.old) → is_exited (core_state core.old).state.phase ≡ false
         → IfSome b (λ rest. TakesFrame rest c body.now) → Comes config a c (core_state core.new) v (K.written writer.new) None result }
     ensures fault { IfErr result (IsWriteOrCore (K.counts writer.old) (K.counts writer.new)) }
-    ensures calls { Calls (K.counts writer.old) (K.counts writer.new) result }
+    ensures calls { Calls ServeFault.Write (K.counts writer.old) (K.counts writer.new) result }
 {
     match reply_to(threading, writer, core, pool, body) {
         Ok(()) => Ok(exit_in(core)),
@@ -113,8 +113,8 @@ fn take_next<R: Threads + Wait, S: ByteSource, K: ByteSink, G: Gate>(
     requires { IsOpen reader.old }
     ensures comes { (config : Configuration) (a v : Option (List ℕ)) → Serving config a (S.left (source_of reader.old)) (core_state core.old) v (K.written writer.old) → is_exited (core_state core.old).state.phase ≡ false
         → Comes config a (S.left (source_of reader.new)) (core_state core.new) v (K.written writer.new) (last_answer reader.new) result }
-    ensures reads { Calls (S.counts (source_of reader.old)) (S.counts (source_of reader.new)) result }
-    ensures writes { Calls (K.counts writer.old) (K.counts writer.new) result }
+    ensures reads { Calls ServeFault.Read (S.counts (source_of reader.old)) (S.counts (source_of reader.new)) result }
+    ensures writes { Calls ServeFault.Write (K.counts writer.old) (K.counts writer.new) result }
     ensures cause { IfErr result (IsCaused (S.counts (source_of reader.old)) (S.counts (source_of reader.new)) (K.counts writer.old) (K.counts writer.new)) }
     ensures goes_on { result ≡ Ok None → IsOpen reader.new }
 {
@@ -136,8 +136,8 @@ pub fn take_turn<R: Threads + Wait, S: ByteSource, K: ByteSink, G: Gate>(
     requires { IsOpen reader.old }
     ensures comes { (config : Configuration) (a v : Option (List ℕ)) → Serving config a (S.left (source_of reader.old)) (core_state core.old) v (K.written writer.old) → is_exited (core_state core.old).state.phase ≡ false
         → Comes config a (S.left (source_of reader.new)) (core_state core.new) v (K.written writer.new) (last_answer reader.new) result }
-    ensures reads { Calls (S.counts (source_of reader.old)) (S.counts (source_of reader.new)) result }
-    ensures writes { Calls (K.counts writer.old) (K.counts writer.new) result }
+    ensures reads { Calls ServeFault.Read (S.counts (source_of reader.old)) (S.counts (source_of reader.new)) result }
+    ensures writes { Calls ServeFault.Write (K.counts writer.old) (K.counts writer.new) result }
     ensures cause { IfErr result (IsCaused (S.counts (source_of reader.old)) (S.counts (source_of reader.new)) (K.counts writer.old) (K.counts writer.new)) }
     ensures goes_on { result ≡ Ok None → IsOpen reader.new }
 {

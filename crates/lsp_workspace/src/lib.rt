@@ -16,7 +16,7 @@ mod workspace;
 
 pub use diagnosed::DiagnosedFiles;
 pub use disk::DiskFile;
-pub use files::{Document, Edits, FileEntry, Files, from_disk, get};
+pub use files::{Document, Edits, FileEntry, Files, from_disk, get, is_open};
 pub use laws::{
     documents_change_one_text, files_in_path_order_are_apart, files_stay_in_path_order, roots_stay,
     texts_are_of_the_workspace,

@@ -11,6 +11,7 @@ pub loop-event-init : goal.loop-event-init
 loop-event-init c = record {
   parts = search rules;
   run = run_none c.args.config (core_state c.in_ok-core.core) c.new-replies.result.items c.new-verdicts.result.items c.in_ok-core.ensures.is_after c.new-replies.ensures.items c.new-verdicts.ensures.items;
+  «open» = c.in_ok-core.ensures.open;
 }
 
 pub loop-event-preserved : goal.loop-event-preserved
@@ -21,7 +22,8 @@ loop-event-preserved c =
       parts = append_assoc at.yielded (c.in-Some.event ∷ []) (into_iter_items c.next.new.self) ∙ ap (λ l. at.yielded ++ l) (sym next) ∙ at.invariant.parts;
       run = subst (λ es. HasRunTo c.args.config (core_state c.handle.new.core) es c.handle.new.replies.items c.handle.new.verdicts.items) (sym (map-append incoming_of at.yielded (c.in-Some.event ∷ [])))
           (run_more c.args.config (core_state at.core) (core_state c.handle.new.core) (map incoming_of at.yielded) (incoming_of c.in-Some.event) at.replies.items c.handle.new.replies.items at.verdicts.items c.handle.new.verdicts.items at.invariant.run
-          (λ h before. c.in_ok-handle.ensures 0 c.args.config h before));
+          (λ h before. c.in_ok-handle.ensures.follows 0 c.args.config h before));
+      «open» = c.in_ok-handle.ensures.open at.invariant.open;
     }
 
 pub overflow_sub-processed : goal.overflow_sub-processed
@@ -33,8 +35,8 @@ overflow_sub-processed c =
     let arrived : c.count_messages-arrived.result ≡ length (filter is_message (map incoming_of at.yielded)) = c.count_messages-arrived.ensures ∙ ap (λ es. length (filter is_message (map incoming_of es))) (c.as_slice.ensures.value ∙ sym all) in
     omega (arith, counted, arrived, c.unprocessed.ensures)
 
-pub returns : goal.returns
-returns c =
+pub returns-clause-run : goal.returns-clause-run
+returns-clause-run c =
     let at = c.loop-event in
     let none : into_iter_items at.event-iterator ≡ [] = nil_from_length (into_iter_items at.event-iterator) (sym at.event-iterator.rest.ok.0 ∙ c.in-None.ensures.steps.0) in
     let all : at.yielded ≡ c.args.events.items = sym (append-nil at.yielded) ∙ ap (λ l. at.yielded ++ l) (sym none) ∙ at.invariant.parts in

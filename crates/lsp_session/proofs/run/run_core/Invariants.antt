@@ -1,7 +1,7 @@
-use Rattle.std.proofs.Common.{◌≡◌, ◌++◌, map}
+use Rattle.std.proofs.Common.{◌≡◌, ◌++◌, map, None}
 use Rattle.std.specs.Vec.Iter.{into_iter_items}
 use Rattle.lsp_session.specs.Run.{incoming_of}
-use Rattle.lsp_session.specs.View.{core_state}
+use Rattle.lsp_session.specs.View.{core_state, last_fault}
 use Rattle.lsp_session.proofs.RunLemmas.{HasRunTo}
 use Rattle.lsp_session.proofs.run.run_core.Given as goal
 
@@ -10,4 +10,5 @@ abbrev pub invariant-loop-event : goal.invariant-loop-event
 invariant-loop-event l = record {
   parts : l.yielded ++ into_iter_items l.event-iterator ≡ l.fn.events.items;
   run : HasRunTo l.fn.config (core_state l.core) (map incoming_of l.yielded) l.replies.items l.verdicts.items;
+  «open» : last_fault l.core ≡ None;
 }

@@ -8,10 +8,10 @@ pub returns-in-Err-clause-served : goal.returns-in-Err-clause-served
 returns-in-Err-clause-served g c = rw c.from.ensures (fails_at_start c.args.start.config _ _ _ _ (of_core c.in-Err.fault))
 
 pub returns-in-Err-clause-reads : goal.returns-in-Err-clause-reads
-returns-in-Err-clause-reads g c = no_calls _ _
+returns-in-Err-clause-reads g c = no_calls _ _ _
 
 pub returns-in-Err-clause-writes : goal.returns-in-Err-clause-writes
-returns-in-Err-clause-writes g c = no_calls _ _
+returns-in-Err-clause-writes g c = no_calls _ _ _
 
 pub returns-in-Err-clause-cause : goal.returns-in-Err-clause-cause
 returns-in-Err-clause-cause g c =
@@ -21,10 +21,10 @@ pub returns-in-Err-start_pool-clause-served : goal.returns-in-Err-start_pool-cla
 returns-in-Err-start_pool-clause-served g c = fails_at_start c.args.start.config _ _ _ c.in-Err-start_pool.fault c.in-Err-start_pool.ensures
 
 pub returns-in-Err-start_pool-clause-reads : goal.returns-in-Err-start_pool-clause-reads
-returns-in-Err-start_pool-clause-reads g c = no_calls _ _
+returns-in-Err-start_pool-clause-reads g c = no_calls _ _ _
 
 pub returns-in-Err-start_pool-clause-writes : goal.returns-in-Err-start_pool-clause-writes
-returns-in-Err-start_pool-clause-writes g c = no_calls _ _
+returns-in-Err-start_pool-clause-writes g c = no_calls _ _ _
 
 pub returns-in-Err-start_pool-clause-cause : goal.returns-in-Err-start_pool-clause-cause
 returns-in-Err-start_pool-clause-cause g c =

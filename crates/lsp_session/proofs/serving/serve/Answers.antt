@@ -68,6 +68,12 @@ returns-clause-reads_calm g c = c.run.ensures.reads.calm
 pub returns-clause-writes_calm : goal.returns-clause-writes_calm
 returns-clause-writes_calm g c = c.run.ensures.writes.calm
 
+pub returns-clause-reads_reported : goal.returns-clause-reads_reported
+returns-clause-reads_reported g c = c.run.ensures.reads.reported
+
+pub returns-clause-writes_reported : goal.returns-clause-writes_reported
+returns-clause-writes_reported g c = c.run.ensures.writes.reported
+
 pub returns-clause-reads_once : goal.returns-clause-reads_once
 returns-clause-reads_once g c = c.run.ensures.reads.once
 

@@ -42,10 +42,10 @@ returns-in-Ok-Some-clause-served g c = λ config knows.
     rw c.in-Ok-Some.field-0-is at (c.in-Ok-Some.ensures.comes config (g.S.ByteSource.left (source_of c.args.reader.now)) (g.K.ByteSink.written c.args.writer.now) so_far.0 so_far.1)
 
 pub returns-in-Ok-Some-clause-reads : goal.returns-in-Ok-Some-clause-reads
-returns-in-Ok-Some-clause-reads g c = good_calls _ _ _ _ (more_calls _ _ _ _ c.loop-turn.invariant.reads c.loop-turn.invariant.reads_calm c.in-Ok-Some.ensures.reads)
+returns-in-Ok-Some-clause-reads g c = good_calls _ _ _ _ _ (more_calls _ _ _ _ _ c.loop-turn.invariant.reads c.loop-turn.invariant.reads_calm c.in-Ok-Some.ensures.reads)
 
 pub returns-in-Ok-Some-clause-writes : goal.returns-in-Ok-Some-clause-writes
-returns-in-Ok-Some-clause-writes g c = good_calls _ _ _ _ (more_calls _ _ _ _ c.loop-turn.invariant.writes c.loop-turn.invariant.writes_calm c.in-Ok-Some.ensures.writes)
+returns-in-Ok-Some-clause-writes g c = good_calls _ _ _ _ _ (more_calls _ _ _ _ _ c.loop-turn.invariant.writes c.loop-turn.invariant.writes_calm c.in-Ok-Some.ensures.writes)
 
 pub returns-in-Err-clause-served : goal.returns-in-Err-clause-served
 returns-in-Err-clause-served g c = λ config knows.
@@ -53,10 +53,10 @@ returns-in-Err-clause-served g c = λ config knows.
     c.in-Err.ensures.comes config (g.S.ByteSource.left (source_of c.args.reader.now)) (g.K.ByteSink.written c.args.writer.now) so_far.0 so_far.1
 
 pub returns-in-Err-clause-reads : goal.returns-in-Err-clause-reads
-returns-in-Err-clause-reads g c = bad_calls _ _ _ _ (more_calls _ _ _ _ c.loop-turn.invariant.reads c.loop-turn.invariant.reads_calm c.in-Err.ensures.reads)
+returns-in-Err-clause-reads g c = bad_calls _ _ _ _ (more_calls _ _ _ _ _ c.loop-turn.invariant.reads c.loop-turn.invariant.reads_calm c.in-Err.ensures.reads)
 
 pub returns-in-Err-clause-writes : goal.returns-in-Err-clause-writes
-returns-in-Err-clause-writes g c = bad_calls _ _ _ _ (more_calls _ _ _ _ c.loop-turn.invariant.writes c.loop-turn.invariant.writes_calm c.in-Err.ensures.writes)
+returns-in-Err-clause-writes g c = bad_calls _ _ _ _ (more_calls _ _ _ _ _ c.loop-turn.invariant.writes c.loop-turn.invariant.writes_calm c.in-Err.ensures.writes)
 
 pub returns-in-Err-clause-cause : goal.returns-in-Err-clause-cause
 returns-in-Err-clause-cause g c = more_cause _ _ _ _ _ _ c.in-Err.fault c.loop-turn.invariant.reads c.loop-turn.invariant.writes c.in-Err.ensures.cause

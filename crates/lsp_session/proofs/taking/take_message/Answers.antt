@@ -11,7 +11,7 @@ returns-in-Ok-clause-comes g c = λ config a b left v so_far not_exited frame.
     rw c.exit_in.ensures (message_comes config a left v sent new (serving-more config a b left v (written c.args.writer.now) sent old new c.args.body.now so_far not_exited frame (c.in-Ok.ensures.knows config) (c.in-Ok.ensures.ok config)))
 
 pub returns-in-Ok-clause-calls : goal.returns-in-Ok-clause-calls
-returns-in-Ok-clause-calls g c = good_calls _ _ _ _ c.in-Ok.ensures.calls
+returns-in-Ok-clause-calls g c = good_calls _ _ _ _ _ c.in-Ok.ensures.calls
 
 pub returns-in-Err-clause-comes : goal.returns-in-Err-clause-comes
 returns-in-Err-clause-comes g c = λ config a b left v so_far not_exited frame.

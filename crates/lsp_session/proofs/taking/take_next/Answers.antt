@@ -13,7 +13,7 @@ returns-in-Ok-Body-clause-comes g c = λ config a v so_far not_exited.
     rw keeps (comes frame)
 
 pub returns-in-Ok-Body-clause-reads : goal.returns-in-Ok-Body-clause-reads
-returns-in-Ok-Body-clause-reads g c = calm_calls _ _ c.take_message.result c.read_frame.ensures.counts (c.in-Ok-Body.ensures.calm c.requires) c.read_frame.ensures.once
+returns-in-Ok-Body-clause-reads g c = calm_calls _ _ _ c.take_message.result c.read_frame.ensures.counts (c.in-Ok-Body.ensures.calm c.requires) c.read_frame.ensures.once
 
 pub returns-in-Ok-Body-clause-cause : goal.returns-in-Ok-Body-clause-cause
 returns-in-Ok-Body-clause-cause g c = message_caused (g.S.ByteSource.counts (source_of c.args.reader.now)) (g.S.ByteSource.counts (source_of c.read_frame.new.self)) (g.K.ByteSink.counts c.args.writer.now) (g.K.ByteSink.counts c.take_message.new.writer) c.take_message.result c.take_message.ensures.fault
@@ -26,10 +26,10 @@ returns-in-Ok-End-clause-comes g c = λ config a v so_far not_exited.
     rw keeps (input_ends config a (left (source_of c.args.reader.now)) (left (source_of c.read_frame.new.self)) v (g.K.ByteSink.written c.args.writer.now) (core_state c.args.core.now) so_far not_exited shown)
 
 pub returns-in-Ok-End-clause-reads : goal.returns-in-Ok-End-clause-reads
-returns-in-Ok-End-clause-reads g c = calm_calls _ _ _ c.read_frame.ensures.counts (c.in-Ok-End.ensures.calm c.requires) c.read_frame.ensures.once
+returns-in-Ok-End-clause-reads g c = calm_calls _ _ _ _ c.read_frame.ensures.counts (c.in-Ok-End.ensures.calm c.requires) c.read_frame.ensures.once
 
 pub returns-in-Ok-End-clause-writes : goal.returns-in-Ok-End-clause-writes
-returns-in-Ok-End-clause-writes g c = no_calls _ _
+returns-in-Ok-End-clause-writes g c = no_calls _ _ _
 
 pub returns-in-Err-clause-comes : goal.returns-in-Err-clause-comes
 returns-in-Err-clause-comes g c = λ config a v so_far not_exited.
@@ -40,7 +40,7 @@ pub returns-in-Err-clause-reads : goal.returns-in-Err-clause-reads
 returns-in-Err-clause-reads g c = rw c.end_by.ensures (fault_calls _ _ c.in-Err.fault c.read_frame.ensures.counts (c.in-Err.ensures.calm c.requires) c.read_frame.ensures.once)
 
 pub returns-in-Err-clause-writes : goal.returns-in-Err-clause-writes
-returns-in-Err-clause-writes g c = no_calls _ _
+returns-in-Err-clause-writes g c = no_calls _ _ _
 
 pub returns-in-Err-clause-cause : goal.returns-in-Err-clause-cause
 returns-in-Err-clause-cause g c = rw c.end_by.ensures (fault_cause (g.S.ByteSource.counts (source_of c.args.reader.now)) (g.S.ByteSource.counts (source_of c.read_frame.new.self)) (g.K.ByteSink.counts c.args.writer.now) (g.K.ByteSink.counts c.args.writer.now) c.in-Err.fault (c.in-Err.ensures.cause c.requires))

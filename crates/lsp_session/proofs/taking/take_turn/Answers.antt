@@ -8,7 +8,7 @@ use Rattle.lsp_session.proofs.taking.take_turn.Goals as goal
 pub returns-in-Ok-clause-comes : goal.returns-in-Ok-clause-comes
 returns-in-Ok-clause-comes g c = λ config a v so_far not_exited.
     let handed = c.in-Ok.ensures in
-    c.take_next.ensures.comes config a v (serving-on config a (g.S.ByteSource.left (source_of c.args.reader.now)) v (g.K.ByteSink.written c.args.writer.now) (core_state c.args.core.now) (core_state c.hand_out.new.core) so_far handed.state (handed.works 0 config))
+    c.take_next.ensures.comes config a v (serving-on config a (g.S.ByteSource.left (source_of c.args.reader.now)) v (g.K.ByteSink.written c.args.writer.now) (core_state c.args.core.now) (core_state c.hand_out.new.core) so_far handed.state (λ h after. let hands = handed.hands 0 config h after in hands.works))
     (ap (λ s. is_exited s.phase) handed.state ∙ not_exited)
 
 pub returns-in-Err-clause-comes : goal.returns-in-Err-clause-comes
@@ -16,10 +16,10 @@ returns-in-Err-clause-comes g c = λ config a v so_far not_exited.
     fails_between config a (g.S.ByteSource.left (source_of c.args.reader.now)) v (g.K.ByteSink.written c.args.writer.now) (core_state c.args.core.now) c.in-Err.fault so_far c.in-Err.ensures.fault
 
 pub returns-in-Err-clause-reads : goal.returns-in-Err-clause-reads
-returns-in-Err-clause-reads g c = no_calls _ _
+returns-in-Err-clause-reads g c = no_calls _ _ _
 
 pub returns-in-Err-clause-writes : goal.returns-in-Err-clause-writes
-returns-in-Err-clause-writes g c = no_calls _ _
+returns-in-Err-clause-writes g c = no_calls _ _ _
 
 pub returns-in-Err-clause-cause : goal.returns-in-Err-clause-cause
 returns-in-Err-clause-cause g c = core_caused (g.S.ByteSource.counts (source_of c.args.reader.now)) (g.S.ByteSource.counts (source_of c.args.reader.now)) (g.K.ByteSink.counts c.args.writer.now) (g.K.ByteSink.counts c.args.writer.now) c.in-Err.fault c.in-Err.ensures.fault
