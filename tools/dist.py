@@ -62,7 +62,7 @@ def stripped(program):
     """The program without the names of its functions."""
     with tempfile.TemporaryDirectory() as folder:
         copy = pathlib.Path(folder) / "protols"
-        output("strip", "-o", str(copy), program)
+        output("strip", "--remove-section=.comment", "-o", str(copy), program)
         return copy.read_bytes()
 
 
