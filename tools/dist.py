@@ -71,12 +71,19 @@ def packed(data):
 
 
 def documents():
-    """What stands in the folder of documents of both packages, by its path there."""
-    found = {name: (ROOT / path).read_bytes() for name, path in (("README.md", "README.md"), ("DIAGNOSTICS.md", "docs/DIAGNOSTICS.md"))}
-    for path in sorted((ROOT / "editors").rglob("*")) if (ROOT / "editors").is_dir() else ():
-        if path.is_file():
-            found[path.relative_to(ROOT).as_posix()] = path.read_bytes()
-    return found
+    """What stands in the folder of documents of both packages, by its path there. Links to what isn't packed become plain words."""
+    found = {path: ROOT / path for path in ("README.md", "docs/DIAGNOSTICS.md")}
+    found.update({path.relative_to(ROOT).as_posix(): path for path in sorted((ROOT / "editors").rglob("*")) if path.is_file()})
+    placed = {path: path.removeprefix("docs/") for path in found}
+
+    def link(one):
+        path, mark, place = one[2].partition("#")
+        return f"[{one[1]}]({placed.get(path, path)}{mark}{place})" if not path or path in placed or ":" in path else one[1]
+
+    def text(file):
+        return re.sub(r"\[([^\]]*)\]\(([^)\s]+)\)", link, file.read_text(encoding="utf-8")).encode() if file.suffix == ".md" else file.read_bytes()
+
+    return {placed[path]: text(file) for path, file in found.items()}
 
 
 def written(epoch):
