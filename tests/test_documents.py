@@ -263,8 +263,8 @@ class Packaging(unittest.TestCase):
     def test_the_licence_is_one(self):
         for name in ("LICENSE", "README.md"):
             with self.subTest(file=name):
-                self.assertIn("SPDX-License-Identifier: Apache-2.0", (ROOT / name).read_text(encoding="utf-8"))
-        self.assertIn("/usr/share/common-licenses/Apache-2.0", (ROOT / "packaging/copyright").read_text(encoding="utf-8"))
+                self.assertTrue("SPDX-License-Identifier: Apache-2.0" in (ROOT / name).read_text(encoding="utf-8"))
+        self.assertTrue("/usr/share/common-licenses/Apache-2.0" in (ROOT / "packaging/copyright").read_text(encoding="utf-8"))
 
 
 class Layout(unittest.TestCase):

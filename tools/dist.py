@@ -73,7 +73,9 @@ def packed(data):
 def documents():
     """What stands in the folder of documents of both packages, by its path there. Links to what isn't packed become plain words."""
     found = {path: ROOT / path for path in ("README.md", "docs/DIAGNOSTICS.md")}
-    found.update({path.relative_to(ROOT).as_posix(): path for path in sorted((ROOT / "editors").rglob("*")) if path.is_file()})
+    # (what tries the set-ups isn't one)
+    set_ups = [path for path in sorted((ROOT / "editors").rglob("*")) if path.is_file() and not path.relative_to(ROOT / "editors").parts[0].startswith("try")]
+    found.update({path.relative_to(ROOT).as_posix(): path for path in set_ups})
     placed = {path: path.removeprefix("docs/") for path in found}
 
     def link(one):
