@@ -1,2 +1,3 @@
+pub mod SentJobs
 pub mod Pool
 pub mod Outcome

@@ -7,6 +7,7 @@
 
 mod fault;
 mod pool;
+mod sent_jobs;
 mod worker;
 
 pub use fault::PoolFault;

@@ -1,8 +1,11 @@
 // The workers, and the main thread's ends of their channels.
-ghost use Rattle.std.specs.Prelude.{◌≡◌, ◌+◌, ◌<◌, ◌↔◌, IsTrue, IfOk, IfErr, IfSome, OnOk, OnErr, None};
-ghost use Rattle.worker_pool.specs.Pool.{workers_for};
+ghost use Rattle.std.specs.Prelude.{◌≡◌, ◌+◌, ◌<◌, ◌↔◌, [], ◌∷◌, ◌++◌, length, IsTrue, IfOk, IfErr, IfSome, OnOk, OnErr, OnSome, None};
+ghost use Rattle.worker_pool.specs.Outcome.{stamp_of};
+ghost use Rattle.worker_pool.specs.Pool.{pool_of, workers_for};
+ghost use Rattle.worker_pool.specs.SentJobs.{noted, without_job, HasRoom};
 
 use crate::fault::PoolFault;
+use crate::sent_jobs::{MOST_JOBS, SentJob, SentJobs};
 use crate::worker::do_jobs;
 use crossbeam_channel::{Receiver, Sender};
 use piece_collector::Job;
@@ -12,10 +15,7 @@ use std::thread;
 use std::thread::{JoinHandle, Threads};
 use work_index::{Done, FileWork, Gate};
 
-// The places of each channel. At most this many jobs are out, so that each send finds a free place.
-const PLACES: usize = 256;
-
-/// Workers in threads of their own. Contracts see how many there are, and how many jobs are out: sent, and their result
+/// Workers in threads of their own. Contracts see how many there are, and the jobs that are out: sent, and their result
 /// not received.
 ///
 /// A pool can't be dropped: [`close`](Pool::close) ends it.
@@ -23,18 +23,16 @@ pub struct Pool {
     jobs: Sender<Job>,
     results: Receiver<Done>,
     workers: Vec<JoinHandle<()>>,
-    out: usize,
+    sent: SentJobs,
 }
 
 impl Model for Pool {
-    ghost use Rattle.std.specs.Prelude.{◌≤◌, vec_len};
-    ghost use Rattle.worker_pool.specs.Pool.{PoolView};
+    ghost use Rattle.std.specs.Prelude.{vec_len};
+    ghost use Rattle.worker_pool.specs.Pool.{PoolView, pool_of};
 
     ghost Value = { PoolView };
 
-    ghost view = { λ p. record { workers = vec_len p.workers; out = p.out } };
-
-    ghost invariant = { λ p. p.out ≤ 256 };
+    ghost view = { λ p. pool_of (vec_len p.workers) p.sent };
 }
 
 impl Pool {
@@ -49,16 +47,18 @@ impl Pool {
         workers: usize,
         gate: &Arc<G>,
     ) -> Result<Pool, PoolFault>
-        ensures { IfOk result (λ pool. pool ≡ record { workers = workers_for workers; out = 0 }) }
+        ensures { IfOk result (λ pool. pool ≡ pool_of (workers_for workers) []) }
     {
         let alloc = work.alloc();
-        let (jobs, their_jobs) = crossbeam_channel::bounded(alloc, PLACES)?;
-        let (their_results, results) = crossbeam_channel::bounded(alloc, PLACES)?;
+        // Each channel has a place for each job that may be out, so no send waits.
+        let (jobs, their_jobs) = crossbeam_channel::bounded(alloc, MOST_JOBS)?;
+        let (their_results, results) = crossbeam_channel::bounded(alloc, MOST_JOBS)?;
+        let sent = SentJobs::new(alloc)?;
         let mut pool = Pool {
             jobs,
             results,
             workers: Vec::new(alloc),
-            out: 0,
+            sent,
         };
         for _worker in 0..workers.clamp(1, 64) {
             if let Err(fault) = pool.add_worker(rt, work, &their_jobs, &their_results, gate) {
@@ -94,43 +94,58 @@ impl Pool {
         Ok(())
     }
 
-    /// Whether a job can be sent: fewer than 256 are out.
+    /// Whether a job can be sent: fewer than 256 are out, and their texts have at most 33,554,432 bytes (32 MiB). So it can as long as
+    /// none is out, however long its text is.
     pub fn has_room(&self) -> bool
-        ensures { IsTrue result ↔ (self.now.out < 256) }
+        ensures room { IsTrue result ↔ HasRoom self.now.sent }
+        ensures few { IsTrue result → self.now.out < 256 }
+        ensures none_out { self.now.out ≡ 0 → IsTrue result }
     {
-        self.out < PLACES
+        self.sent.has_room()
     }
 
     /// Sends a job, which one of the workers takes. It is out from then on.
     ///
-    /// Where it can't be sent, since no worker is left, it comes back, and nothing changes.
+    /// Where it can't be sent, since no worker is left, or since all texts that are out would have more bytes than a `usize` can count, it
+    /// comes back, and nothing changes.
     pub fn send<R: Wait>(&mut self, rt: &R, job: Job) -> Result<(), Job>
         requires { self.old.out < 256 }
-        ensures ok { OnOk result (self.new ≡ record self.old { out = self.old.out + 1 }) }
+        ensures ok { OnOk result (self.new ≡ pool_of self.old.workers (self.old.sent ++ noted job ∷ [])) }
+        ensures out { OnOk result (self.new.out ≡ self.old.out + 1) }
+        ensures bytes { OnOk result (self.new.bytes ≡ self.old.bytes + length job.text) }
         ensures back { IfErr result (λ back. back ≡ job) }
         ensures err { OnErr result (self.new ≡ self.old) }
     {
+        let sent = SentJob {
+            stamp: job.stamp(),
+            bytes: job.text().len(),
+        };
+        if !self.sent.can_count(sent.bytes) {
+            return Err(job);
+        }
         if let Err(refused) = self.jobs.send(rt, job) {
             return Err(refused.into_inner());
         }
-        self.out += 1;
+        self.sent.add(sent);
         Ok(())
     }
 
-    /// Waits until a worker has done a job, and gives what became of it. That job is no longer out.
+    /// Waits until a worker has done a job, and gives what became of it. That job is no longer out: of those with its stamp the one that was
+    /// sent first.
     ///
     /// Gives none where none can come, since no job is out or no worker is left. Then nothing changes.
     pub fn receive<R: Wait>(&mut self, rt: &R) -> Option<Done>
-        ensures some { IfSome result (λ _. self.old ≡ record self.new { out = self.new.out + 1 }) }
+        ensures some { IfSome result (λ done. self.new ≡ pool_of self.old.workers (without_job (stamp_of done) self.old.sent)) }
+        ensures one_less { OnSome result (self.old.out ≡ self.new.out + 1) }
         ensures none { result ≡ None → self.new ≡ self.old }
     {
-        if self.out == 0 {
+        if self.sent.is_empty() {
             return None;
         }
         let Ok(done) = self.results.recv(rt) else {
             return None;
         };
-        self.out -= 1;
+        self.sent.remove(stamp_of(&done));
         Some(done)
     }
 
@@ -141,12 +156,22 @@ impl Pool {
             jobs,
             results,
             workers,
-            out: _,
+            sent: _,
         } = self;
         drop(jobs);
         drop(results);
         for worker in workers {
             worker.join(rt);
         }
+    }
+}
+
+// The stamp of the job that this became of.
+fn stamp_of(done: &Done) -> u64
+    ensures { result ≡ stamp_of done.now }
+{
+    match done {
+        Done::Made(piece) => piece.stamp(),
+        Done::Failed { stamp, .. } => *stamp,
     }
 }
