@@ -73,6 +73,59 @@ def overlaps(n):
     return {"a.proto": f"{HEAD}message M {{\n{ranges}}}\n"}
 
 
+def small_files(n):
+    """n files of 100 bytes."""
+    return {f"f{k:06}.proto": f"{HEAD}message M{k:06} {{ M{k:06} m = 1; }}".ljust(99) + "\n" for k in range(n)}
+
+
+def importing(n, each):
+    """n files of which each imports so many of those behind it, and names what the next one declares."""
+    return {
+        f"f{k:05}.proto": HEAD + "".join(f'import "f{other:05}.proto";\n' for other in range(k + 1, min(n, k + 1 + each))) + f"message M{k} {{ M{min(n - 1, k + 1)} m = 1; }}\n"
+        for k in range(n)
+    }
+
+
+def all_before(n):
+    """n files of which each publicly imports all those before it, and names what the first one declares."""
+    return {f"f{k:05}.proto": HEAD + "".join(f'import public "f{other:05}.proto";\n' for other in range(k)) + f"message M{k} {{ M0 m = 1; }}\n" for k in range(n)}
+
+
+def named_chain(n):
+    """n files of which each publicly imports the next, and names what that one declares."""
+    return {
+        f"f{k:05}.proto": HEAD + f'import public "f{k + 1:05}.proto";\n' * (k + 1 < n) + f"message M{k} {{ M{min(n - 1, k + 1)} m = 1; }}\n" for k in range(n)
+    }
+
+
+def nested_in_long_package(n):
+    """A package whose name has 9 bytes for each of n messages that have a message with another one inside."""
+    messages = "".join(f"message M{k} {{ message N {{ message O {{}} }} }}\n" for k in range(n))
+    return {"a.proto": f"{HEAD}package {'.'.join(['componen'] * n)};\n{messages}"}
+
+
+def in_many_scopes(n):
+    """A package of 100 components, and n names of two components that nothing declares."""
+    fields = "".join(f"T{k}.U f{k} = {k + 1};\n" for k in range(n))
+    return {"a.proto": f"{HEAD}package {'.'.join(f'p{k}' for k in range(100))};\nmessage M {{\n{fields}}}\n"}
+
+
+def uses(files, each):
+    """A file that declares a message, and others that each name it so often."""
+    fields = "".join(f"M f{k} = {k + 1};\n" for k in range(each))
+    return {"a.proto": f"{HEAD}message M {{}}\n"} | {f"u{k:05}.proto": f'{HEAD}import "a.proto";\nmessage U{k} {{\n{fields}}}\n' for k in range(files)}
+
+
+def deep_option(n):
+    """An option with n braces in one another."""
+    return f"{HEAD}option o = {'{' * n}{'}' * n};\n"
+
+
+def deep_messages(n):
+    """n messages in one another, in one line."""
+    return f"{HEAD}{'message A{' * n}{'}' * n}\n"
+
+
 def repeated(words, size):
     """A text of at most so many bytes, with these words again and again in one line."""
     return {"a.proto": HEAD + words * ((size - len(HEAD)) // len(words))}
