@@ -198,7 +198,7 @@ fn read<'d, F: FolderReader>(
     let place = path_in(listing.alloc, root.dir, path.as_str())?;
     match reader.read_text(place.as_str(), length) {
         Ok(text) => {
-            make_room(listing.alloc, listing.files.len());
+            make_room(listing.alloc, listing.files.len())?;
             let root = root.number;
             Ok(listing.files.push(FoundFile { root, path, text })?)
         }
