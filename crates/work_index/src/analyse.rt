@@ -118,7 +118,7 @@ pub fn link_files<G: Gate>(
     let mut resolutions = Resolutions { links, diagnostics };
     for (place, piece) in pieces.iter().enumerate() {
         gate.enter(piece.path(), piece.stamp());
-        make_room(alloc, place);
+        make_room(alloc, place)?;
         push_linked(alloc, table, first + place, piece, &mut resolutions)?;
     }
     Ok(resolutions)
@@ -155,7 +155,7 @@ pub fn diagnose_files<G: Gate>(
     let mut diagnostics = Vec::new(alloc);
     for (place, piece) in pieces.iter().enumerate() {
         gate.enter(piece.path(), piece.stamp());
-        make_room(alloc, place);
+        make_room(alloc, place)?;
         push_diagnosed(alloc, table, first + place, piece, &mut diagnostics)?;
     }
     let links = Vec::new(alloc);

@@ -91,7 +91,7 @@ impl Work for FileWork {
     ghost is_product_of = { λ out text. (out.tree ≡ value_tree text) × (out.facts ≡ facts_of text) × (has_all out.asked (asked_of text) ≡ true) };
 
     fn work(&self, text: &str) -> Result<FileOut, AllocError> {
-        make_room(self.alloc, text.len());
+        make_room(self.alloc, text.len())?;
         let tree = tree_of(self.alloc, text)?;
         let facts = facts(self.alloc, text, &tree)?;
         let asked = self.asked(text, &facts, &tree)?;

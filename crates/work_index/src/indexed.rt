@@ -25,7 +25,7 @@ pub struct IndexedShares {
 pub fn index_share(alloc: Global, share: Share) -> Result<IndexedShare, AllocError>
     ensures { IfOk result (IsIndexed share) }
 {
-    make_room(alloc, 0);
+    make_room(alloc, 0)?;
     let part = PartTable::of(alloc, share.first, share.pieces.as_slice())?;
     Ok(IndexedShare { share, part })
 }
