@@ -1,0 +1,154 @@
+"""Allocations, reads and writes of the program that fail, each in turn: what goes out is a part of the output, and the fault has the number of what failed."""
+import json
+import pathlib
+import tempfile
+import unittest
+
+import stream
+from refusing import refused_runs, runs
+from stream import frames
+from test_serve import EXIT, FIRST_INPUT, FIRST_OUTPUT, INITIALIZE, PROTO3, SHUTDOWN, request
+
+SERVE = ("serve", "--workers", "1")
+INTERRUPTIONS = 1_000_000
+
+# How a run ends.
+EXITED, ENDED, OPTIONS = (b"", 0), (b"", 1), (b"error: out of memory\n", 2)
+
+
+def fault(number):
+    return b"protols: fault %d\n" % number, 3
+
+
+# Of the first session: the bytes that go out if the input has this many, from the first of them on, and the end where nothing more comes.
+PARTS = (
+    (0, 0, 0, ENDED),
+    (1, 129, 0, fault(106)),
+    (130, 130, 395, ENDED),
+    (131, 323, 395, fault(106)),
+    (324, 324, 395, ENDED),
+    (325, 459, 395, fault(106)),
+    (460, 460, 626, ENDED),
+    (461, 525, 626, fault(106)),
+    (526, 526, 686, ENDED),
+    (527, 580, 686, fault(106)),
+    (581, 581, 686, EXITED),
+)
+
+
+def opening(path, text):
+    document = {"uri": f"file:///w/{path}", "languageId": "proto", "version": 1, "text": text}
+    return json.dumps({"jsonrpc": "2.0", "method": "textDocument/didOpen", "params": {"textDocument": document}})
+
+
+def questions(path):
+    """All that is asked about a file, with a name in its third line."""
+    document = {"textDocument": {"uri": f"file:///w/{path}"}}
+    place = {**document, "position": {"line": 2, "character": 15}}
+    asked = [
+        ("workspace/diagnostic", {}),
+        ("textDocument/diagnostic", document),
+        ("workspace/symbol", {"query": "inner"}),
+        ("textDocument/definition", place),
+        ("textDocument/references", {**place, "context": {"includeDeclaration": True}}),
+        ("textDocument/rename", {**place, "newName": "Big"}),
+        ("textDocument/rename", {**place, "newName": "Other"}),
+    ]
+    return [request(number, method, json.dumps(params)) for number, (method, params) in enumerate(asked, 10)]
+
+
+# Files whose names stand for declarations of one another.
+NAMED = (
+    ("p.proto", PROTO3 + "package p;\nmessage Outer { message Inner { } }\nmessage Other { Outer.Inner a = 1; }\n"),
+    ("q.proto", PROTO3 + 'import "p.proto";\nmessage Q { .p.Outer.Inner b = 1; p.Outer c = 2; }\n'),
+)
+
+# A text with much that is wrong.
+BAD = PROTO3 + "message M {\n  int32 a = 1;\n  int32 = 2;\n  int32 b = 3;\n  option (o) = { x: 1; y { z: 2 } };\n  int32 c\n}\nmessage N { }\n"
+
+
+def in_ranges(answers):
+    """The numbers from 0 on that have the same answer, with the first and the last of them."""
+    ranges = []
+    for number, answer in enumerate(answers):
+        if not ranges or ranges[-1][2:] != answer:
+            ranges.append((number, number, *answer))
+        ranges[-1] = (ranges[-1][0], number, *answer)
+    return tuple(ranges)
+
+
+def serve(data, settings):
+    """What comes of a session with one worker under each of these settings: how many bytes of the first session went out, and the end."""
+    for run in runs(stream.command(SERVE), data, settings):
+        assert FIRST_OUTPUT.startswith(run.out), run
+        yield len(run.out), (run.err, run.status)
+
+
+class Devices(unittest.TestCase):
+    maxDiff = None
+
+    def test_an_input_that_ends_behind_each_byte(self):
+        parts = [next(serve(FIRST_INPUT[:most], [{}])) for most in range(len(FIRST_INPUT) + 1)]
+        self.assertEqual(in_ranges(parts), PARTS)
+
+    def test_an_input_that_fails_behind_each_byte(self):
+        parts = serve(FIRST_INPUT, [{"READ_ROOM": most} for most in range(len(FIRST_INPUT) + 1)])
+        wanted = [(0, 129, 0, fault(801)), (130, 459, 395, fault(801)), (460, 525, 626, fault(801)), (526, 580, 686, fault(801)), (581, 581, 686, EXITED)]
+        self.assertEqual(in_ranges(parts), tuple(wanted))
+
+    def test_an_output_of_single_bytes_that_fails_behind_each(self):
+        for ends in ({}, {"WRITE_ENDS": 1}):
+            answers = list(serve(FIRST_INPUT, [{"WRITE_ROOM": most, **ends} for most in range(len(FIRST_OUTPUT) + 1)]))
+            wanted = [(most, fault(802)) for most in range(len(FIRST_OUTPUT))] + [(len(FIRST_OUTPUT), EXITED)]
+            self.assertEqual(answers, wanted)
+
+    def test_interruptions(self):
+        for name, number in (("READ_INTERRUPTIONS", 801), ("WRITE_INTERRUPTIONS", 802)):
+            answers = list(serve(FIRST_INPUT, [{name: INTERRUPTIONS - 1}, {name: INTERRUPTIONS}]))
+            self.assertEqual(answers, [(len(FIRST_OUTPUT), EXITED), (0, fault(number))])
+
+    def refused_parts(self, name):
+        """The runs of the first session of which one call of this kind is another one, each with a part of the output."""
+        for run in refused_runs(stream.command(SERVE), FIRST_INPUT, name):
+            self.assertTrue(FIRST_OUTPUT.startswith(run.out), run)
+            yield run
+
+    def test_each_read_and_write_in_turn(self):
+        for name, number in (("FAIL_READ", 801), ("FAIL_WRITE", 802)):
+            ends = {(run.err, run.status) for run in self.refused_parts(name)}
+            self.assertEqual(ends, {fault(number)})
+
+    def test_each_read_and_write_of_a_single_byte(self):
+        for name in ("SHORTEN_READ", "SHORTEN_WRITE"):
+            ends = {(run.out, run.err, run.status) for run in self.refused_parts(name)}
+            self.assertEqual(ends, {(FIRST_OUTPUT, *EXITED)})
+
+
+class Allocations(unittest.TestCase):
+    def check_each(self, args, data, status):
+        """Each allocation that is refused leads to 803 or 804 behind a part of the output, or while the options are read, to an error of theirs. If something
+        else is done without that memory, all goes out."""
+        [whole] = runs(stream.command(args), data, [{}])
+        right = (whole.out, b"", status)
+        self.assertEqual((whole.out, whole.err, whole.status), right)
+        seen = set()
+        for run in refused_runs(stream.command(args), data):
+            with self.subTest(run):
+                self.assertTrue(whole.out.startswith(run.out))
+                if (run.out, run.err, run.status) != right:
+                    self.assertIn((run.err, run.status), {fault(803), fault(804)} if run.out else {fault(803), fault(804), OPTIONS})
+            seen.add((run.err, run.status))
+        self.assertLessEqual({fault(803), fault(804), OPTIONS}, seen)
+
+    def test_a_first_session(self):
+        self.check_each(SERVE, FIRST_INPUT, 0)
+
+    def test_questions_about_names(self):
+        messages = [INITIALIZE, *(opening(path, text) for path, text in NAMED), *questions("q.proto"), SHUTDOWN, EXIT]
+        self.check_each(SERVE, frames(messages), 0)
+
+    def test_a_check(self):
+        with tempfile.TemporaryDirectory() as folder:
+            for path, text in (*NAMED, ("bad.proto", BAD)):
+                pathlib.Path(folder, path).write_text(text)
+            self.check_each(("check", "--root", folder, "--workers", "1"), b"", 1)
