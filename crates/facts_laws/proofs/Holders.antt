@@ -46,13 +46,13 @@ entries_in nodes = in_body (map entries_of nodes)
 
 -- ---- elements
 
-first_in : {X : Type 0} (x : X) (xs : List X) → Contains (x ∷ xs) x
+pub first_in : {X : Type 0} (x : X) (xs : List X) → Contains (x ∷ xs) x
 first_in x xs = (0, omega arith, refl)
 
-later_in : {X : Type 0} (y : X) (xs : List X) (x : X) → Contains xs x → Contains (y ∷ xs) x
+pub later_in : {X : Type 0} (y : X) (xs : List X) (x : X) → Contains xs x → Contains (y ∷ xs) x
 later_in y xs x h = Contains-append_right (y ∷ []) xs x h
 
-none_in : {X : Type 0} (x : X) → Contains [] x → ⊥
+pub none_in : {X : Type 0} (x : X) → Contains [] x → ⊥
 none_in x h = let lt = h.1 in omega (arith, lt)
 
 pub cases_in : {X : Type 0} (y : X) (xs : List X) (x : X) → Contains (y ∷ xs) x → (y ≡ x) ⊎ Contains xs x
@@ -62,10 +62,10 @@ cases_in y xs x h = at h.0 h.1 h.2
     at zero lt e = inl e
     at (suc k) lt e = inr (k, omega (arith, lt), e)
 
-inside : {X : Type 0} (x y : X) → Some x ≡ Some y → x ≡ y
+pub inside : {X : Type 0} (x y : X) → Some x ≡ Some y → x ≡ y
 inside x y e = cc
 
-either : {A B C : Type 0} → (A → C) → (B → C) → A ⊎ B → C
+pub either : {A B C : Type 0} → (A → C) → (B → C) → A ⊎ B → C
 either f g (inl a) = f a
 either f g (inr b) = g b
 

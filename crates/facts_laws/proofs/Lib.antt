@@ -4,3 +4,6 @@ pub mod IdentifierLaws
 pub mod Nesting
 pub mod Holders
 pub mod Parents
+pub mod Scopes
+pub mod DeclKinds
+pub mod HaveScopes

@@ -38,7 +38,7 @@ IsBelow next None = Unit {0}
 IsBelow next (Some p) = p < next
 
 -- these stand in the whole list from this number on
-abbrev StandFrom : List Decl → ℕ → List Decl → Type 0
+abbrev pub StandFrom : List Decl → ℕ → List Decl → Type 0
 StandFrom all next ds = (rest : List Decl) × (drop next all ≡ ds ++ rest)
 
 -- declarations from this number on, and the entries that they are: each has the entry's name, and its parent is the entry's block
@@ -61,10 +61,10 @@ drop-front [] rest = refl
 drop-front (d ∷ ds) rest = drop-front ds rest
 
 -- behind those that stand first stand the others
-stand-left : (all : List Decl) (next : ℕ) (ds more : List Decl) → StandFrom all next (ds ++ more) → StandFrom all next ds
+pub stand-left : (all : List Decl) (next : ℕ) (ds more : List Decl) → StandFrom all next (ds ++ more) → StandFrom all next ds
 stand-left all next ds more h = (more ++ h.0, h.1 ∙ append_assoc ds more h.0)
 
-stand-right : (all : List Decl) (next : ℕ) (ds more : List Decl) → StandFrom all next (ds ++ more) → StandFrom all (next + length ds) more
+pub stand-right : (all : List Decl) (next : ℕ) (ds more : List Decl) → StandFrom all next (ds ++ more) → StandFrom all (next + length ds) more
 stand-right all next ds more h =
     (h.0, sym (drop-drop (length ds) next all) ∙ ap (drop (length ds)) (h.1 ∙ append_assoc ds more h.0) ∙ drop-front ds (more ++ h.0))
 

@@ -8,6 +8,7 @@ ghost use Rattle.file_facts.specs.declared.problem.Problem.{Problem};
 ghost use Rattle.file_facts.specs.Facts.{AreFacts, facts_in, facts_of};
 ghost use Rattle.file_facts.specs.Problems.{problem_order, variant_order};
 ghost use Rattle.facts_laws.specs.Parents.{ParentsHold};
+ghost use Rattle.facts_laws.specs.Scopes.{NamesHaveScopes};
 ghost use Rattle.syntax_tree.specs.Read.{value_tree};
 ghost use Rattle.file_facts.specs.Nesting.{NamesNest};
 ghost use Rattle.file_facts.specs.Order.{IsListOf, in_order as ordered};
@@ -54,3 +55,10 @@ pub fn names_nest()
     identifiers_law();
     size_law();
 }
+
+/// A law: the full name of a declaration of a text is its scope and its own name. The scope is the full name of the message or
+/// service that holds it, through any enums and oneofs, which add nothing, or else the package: so the values of an enum are its
+/// siblings. Its kind is that of the statement that declares it, and each statement of a proto3 file that declares a name has one.
+pub fn names_have_scopes()
+    ensures { (text : List ℕ) → NamesHaveScopes text (value_tree text).nodes (facts_of text) }
+{}
