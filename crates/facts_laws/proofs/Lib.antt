@@ -7,3 +7,12 @@ pub mod Parents
 pub mod Scopes
 pub mod DeclKinds
 pub mod HaveScopes
+pub mod Lists
+pub mod Judged
+pub mod Statements
+pub mod Counts
+pub mod BodyParts
+pub mod BodyChecks
+pub mod StatementChecks
+pub mod BodiesSaid
+pub mod FileSaid

@@ -1,2 +1,4 @@
 pub mod Parents
 pub mod Scopes
+pub mod Bodies
+pub mod FileDiagnostics

@@ -7,6 +7,7 @@ ghost use Rattle.file_facts.specs.declared.fact.FileFacts.{FileFacts};
 ghost use Rattle.file_facts.specs.declared.problem.Problem.{Problem};
 ghost use Rattle.file_facts.specs.Facts.{AreFacts, facts_in, facts_of};
 ghost use Rattle.file_facts.specs.Problems.{problem_order, variant_order};
+ghost use Rattle.facts_laws.specs.FileDiagnostics.{DiagnosticsAreSaid};
 ghost use Rattle.facts_laws.specs.Parents.{ParentsHold};
 ghost use Rattle.facts_laws.specs.Scopes.{NamesHaveScopes};
 ghost use Rattle.syntax_tree.specs.Read.{value_tree};
@@ -61,4 +62,9 @@ pub fn names_nest()
 /// siblings. Its kind is that of the statement that declares it, and each statement of a proto3 file that declares a name has one.
 pub fn names_have_scopes()
     ensures { (text : List ℕ) → NamesHaveScopes text (value_tree text).nodes (facts_of text) }
+{}
+
+/// A law: the diagnostics of a text and a tree, 201 to 318, are those that a rule for each of them says, and no others.
+pub fn diagnostics_are_said()
+    ensures { DiagnosticsAreSaid }
 {}
