@@ -104,7 +104,7 @@ module _ (P : Span → Type 0) (text : List ℕ) where
   first-has [] h = tt
   first-has (p ∷ more) h = All-head Have p more h
 
-  facts-have : (o : Option Diag) (syntaxes : List StatedSyntax) (tree : FileTree) → All P (package_components_in tree.nodes) → MatchOption (facts_at o syntaxes text tree).«package» ⊤ (λ p. All P p.components)
+  pub facts-have : (o : Option Diag) (syntaxes : List StatedSyntax) (tree : FileTree) → All P (package_components_in tree.nodes) → MatchOption (facts_at o syntaxes text tree).«package» ⊤ (λ p. All P p.components)
   facts-have None syntaxes tree h = first-has (packages text tree.nodes) (all-packages tree.nodes h)
   facts-have (Some d) syntaxes tree h = tt
 

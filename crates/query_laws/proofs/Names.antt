@@ -29,6 +29,10 @@ pub record StandApart (nodes : List Node) : Type 0 where
   pub types : All IsSome (type_components_in nodes)
   pub across : All (λ s. All (AreDisjoint s) (type_components_in nodes)) (names_in nodes)
   pub among : AllPairs AreDisjoint (type_components_in nodes)
+  pub names_among : AllPairs AreDisjoint (names_in nodes)
+  pub packages_among : AllPairs AreDisjoint (package_components_in nodes)
+  pub names_beside : All (λ s. All (AreDisjoint s) (package_components_in nodes)) (names_in nodes)
+  pub types_beside : All (λ s. All (AreDisjoint s) (package_components_in nodes)) (type_components_in nodes)
 
 stand-apart : (nodes : List Node) → NamesAreApart nodes → StandApart nodes
 stand-apart nodes h =
@@ -38,11 +42,16 @@ stand-apart nodes h =
     let some = All-permutation IsSome h.all (names ++ (types ++ packages)) h.same h.some in
     let first = pairs-with (λ a b. a.«end» < b.start) AreDisjoint IsSome (λ a b p q lt. inl lt) h.all h.some h.apart in
     let pairs = pairs-permuted AreDisjoint turned h.all (names ++ (types ++ packages)) h.same first in
-    let across = pairs-across AreDisjoint names (types ++ packages) pairs in record {
+    let across = pairs-across AreDisjoint names (types ++ packages) pairs in
+    let others = pairs-right AreDisjoint names (types ++ packages) pairs in record {
       names = all_left IsSome names (types ++ packages) some;
       types = all_left IsSome types packages (all_right IsSome names (types ++ packages) some);
       across = λ k d lt. all_left (AreDisjoint (get_or names k d)) types packages (across k d lt);
-      among = pairs-left AreDisjoint types packages (pairs-right AreDisjoint names (types ++ packages) pairs);
+      among = pairs-left AreDisjoint types packages others;
+      names_among = pairs-left AreDisjoint names (types ++ packages) pairs;
+      packages_among = pairs-right AreDisjoint types packages others;
+      names_beside = λ k d lt. all_right (AreDisjoint (get_or names k d)) types packages (across k d lt);
+      types_beside = pairs-across AreDisjoint types packages others;
     }
 
 -- the tree that counts is that of the text, or that of the empty one

@@ -6,9 +6,10 @@ use Rattle.std.specs.List.Sorted.{IsPermutation}
 use Rattle.std.proofs.lemmas.Bool.{cases_eq, cases_order}
 use Rattle.std.proofs.lemmas.List.{get_or_default}
 use Rattle.std.proofs.lemmas.List.Edits.{swapped_from_swap}
-use Rattle.std.proofs.lemmas.List.Elements.{All-nil, All-cons, All-append, All-head, All-map, All-tail}
+use Rattle.std.proofs.lemmas.List.Elements.{All-nil, All-cons, All-append, All-contains, All-head, All-map, All-tail}
 use Rattle.std.proofs.lemmas.List.Kept.{AllPairs-cons}
 use Rattle.std.proofs.lemmas.List.Sorted.{IsPermutation-keeps, IsPermutation-swap, length_permutation}
+use Rattle.facts_laws.proofs.Holders.{cases_in, either, first_in, later_in, none_in}
 use Rattle.facts_laws.proofs.Nesting.{all_left, all_right}
 
 -- what holds of all of a mapped list
@@ -122,3 +123,36 @@ module _ {X : Type 0} (R : X → X → Type 0) (turned : (x y : X) → R x y →
 
   pub pairs-permuted : (xs ys : List X) → IsPermutation xs ys → AllPairs R xs → AllPairs R ys
   pairs-permuted xs ys same pairs = IsPermutation-keeps xs (AllPairs R) pairs (λ l i j first second h. swapped l i j first second h) ys same
+
+-- ---- two lists in one order
+
+module _ {X : Type 0} (R : X → X → Type 0) (never : (x y : X) → R x y → R y x → ⊥) where
+  -- what stands behind the first is behind in the other list too
+  rest_in : (x : X) (xs ys : List X) → AllPairs R (x ∷ xs) → ((z : X) → Contains (x ∷ xs) z → Contains (x ∷ ys) z) → (z : X) → Contains xs z → Contains ys z
+  rest_in x xs ys pairs sub z c =
+      either (λ same. let before = All-contains (R x) xs z (pairs-head R x xs pairs) c in let again = subst (R x) (sym same) before in absurd (never x x again again)) (λ later. later)
+      (cases_in x ys z (sub z (later_in x xs z c)))
+
+  -- the first is the same
+  first_same : (x y : X) (xs ys : List X) → AllPairs R (x ∷ xs) → AllPairs R (y ∷ ys) → Contains (y ∷ ys) x → Contains (x ∷ xs) y → x ≡ y
+  first_same x y xs ys first second c d = by (cases_in y ys x c) (cases_in x xs y d)
+    where
+      by : (y ≡ x) ⊎ Contains ys x → (x ≡ y) ⊎ Contains xs y → x ≡ y
+      by (inl same) other = sym same
+      by (inr behind) (inl same) = same
+      by (inr behind) (inr later) =
+          let one = All-contains (R y) ys x (pairs-head R y ys second) behind in
+          let two = All-contains (R x) xs y (pairs-head R x xs first) later in
+          absurd (never x y two one)
+
+  pub one_ordered : (xs ys : List X) → AllPairs R xs → AllPairs R ys → ((z : X) → Contains xs z → Contains ys z) → ((z : X) → Contains ys z → Contains xs z) → xs ≡ ys
+  one_ordered [] [] first second sub sup = refl
+  one_ordered [] (y ∷ ys) first second sub sup = absurd (none_in y (sup y (first_in y ys)))
+  one_ordered (x ∷ xs) [] first second sub sup = absurd (none_in x (sub x (first_in x xs)))
+  one_ordered (x ∷ xs) (y ∷ ys) first second sub sup =
+      let same = first_same x y xs ys first second (sub x (first_in x xs)) (sup y (first_in y ys)) in
+      let turned = subst (λ z. AllPairs R (z ∷ ys)) (sym same) second in
+      let down = rest_in x xs ys first (λ z c. subst (λ y. Contains (y ∷ ys) z) (sym same) (sub z c)) in
+      let up = rest_in x ys xs turned (λ z c. sup z (subst (λ y. Contains (y ∷ ys) z) same c)) in
+      let rest = one_ordered xs ys (pairs-tail R x xs first) (pairs-tail R y ys second) down up in
+      λ i. same i ∷ rest i

@@ -112,7 +112,7 @@ module _ (each : ℕ → List Place) where
 -- ---- what the analysis of a workspace has of a file
 
 module _ (w : Workspace) where
-  abbrev uses_of_file : ℕ → List NameUse
+  abbrev pub uses_of_file : ℕ → List NameUse
   uses_of_file i = uses (all_facts w) i (view_of (graph_of (all_facts w)) i) (names_of_file (text_in w i) (facts_at (all_facts w) i) (value_tree (text_in w i)).nodes)
 
   uses-are : (i : ℕ) → i < length w → uses_in (analysis w) i ≡ uses_of_file i
@@ -221,17 +221,20 @@ module _ (w : Workspace) where
     abbrev nodes_at : ℕ → List Node
     nodes_at i = (value_tree (text_in w i)).nodes
 
-    uses-ahead : (r : DeclRef) (i : ℕ) → i < length w → AllPairs IsAhead (uses_of (analysis w) r i)
-    uses-ahead r i lt =
+    -- of two uses the first ends before the second starts
+    pub uses-end : (i : ℕ) → i < length w → AllPairs (λ u v. u.span.«end» < v.span.start) (uses_of_file i)
+    uses-end i lt =
         let us = uses_of_file i in
         let types = type_components_in (nodes_at i) in
         let h = apart (text_in w i) in
         let view = view_of (graph_of (all_facts w)) i in
         let starts = pairs-from_map (λ m n. m < n) (λ u. u.span.start) us (AllPairs-from_increasing (map (λ u. u.span.start) us) (ascend (all_facts w) i view (text_in w i) (facts_at (all_facts w) i))) in
         let known = of_uses (text_in w i) (λ s. Contains types s × IsSome s) (all_facts w) i view (facts_at (all_facts w) i) (nodes_at i) (λ k d there. (All-contains_itself types k d there, h.types k d there)) in
-        let ends : AllPairs (λ u v. u.span.«end» < v.span.start) us =
-        pairs-with (λ u v. u.span.start < v.span.start) (λ u v. u.span.«end» < v.span.start) (λ u. Contains types u.span × IsSome u.span) (λ u v p q lt. components-apart (nodes_at i) h u.span v.span p.0 q.0 q.1 lt) us known starts in
-        let all : AllPairs (λ u v. u.span.«end» < v.span.start) (uses_in (analysis w) i) = subst (AllPairs (λ u v. u.span.«end» < v.span.start)) (sym (uses-are i lt)) ends in
+        pairs-with (λ u v. u.span.start < v.span.start) (λ u v. u.span.«end» < v.span.start) (λ u. Contains types u.span × IsSome u.span) (λ u v p q lt. components-apart (nodes_at i) h u.span v.span p.0 q.0 q.1 lt) us known starts
+
+    uses-ahead : (r : DeclRef) (i : ℕ) → i < length w → AllPairs IsAhead (uses_of (analysis w) r i)
+    uses-ahead r i lt =
+        let all : AllPairs (λ u v. u.span.«end» < v.span.start) (uses_in (analysis w) i) = subst (AllPairs (λ u v. u.span.«end» < v.span.start)) (sym (uses-are i lt)) (uses-end i lt) in
         let kept = AllPairs-filter (λ u v. u.span.«end» < v.span.start) (λ u. is_of r u.target) (uses_in (analysis w) i) all in
         pairs-map IsAhead (λ u. place i u.span) (filter (λ u. is_of r u.target) (uses_in (analysis w) i)) (λ k m d lt there. inr (refl, kept k m d lt there))
 

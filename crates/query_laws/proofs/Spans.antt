@@ -1,7 +1,7 @@
 -- What holds of the names of a tree holds of the declarations of its text, and of the uses of its names.
 use Rattle.std.proofs.Common.{◌≡◌, ◌∙◌, ℕ, ◌+◌, Bool, true, false, cond, List, [], ◌∷◌, ◌++◌, length, map, Option, Some, None, refl, sym, ap, subst}
-use Rattle.std.specs.Prelude.{All, is_some, option_map}
-use Rattle.std.specs.List.{cons_option, enumerate_from, flat_map}
+use Rattle.std.specs.Prelude.{All, MatchOption, is_some, option_map, ⊤}
+use Rattle.std.specs.List.{AllPairs, cons_option, enumerate_from, flat_map}
 use Rattle.std.specs.Option.{option_map_or}
 use Rattle.std.proofs.lemmas.List.{map-append}
 use Rattle.std.proofs.lemmas.List.Elements.{All-nil, All-cons, All-append, All-head, All-map, All-tail}
@@ -11,10 +11,11 @@ use Rattle.syntax_tree.specs.declared.node.Node.TheOpen.{Node-F}
 use Rattle.syntax_tree.specs.declared.node.Node.TheFolds.{fold-roll-Node, ind-Node}
 use Rattle.syntax_tree.specs.declared.node.Span.{Span}
 use Rattle.syntax_tree.specs.declared.node.TypeName.{TypeName}
-use Rattle.syntax_tree.specs.Names.{joined as all_of, names_step as spans_step, names_of as spans_of, names_in as spans_in, type_names_step, type_names_of, type_names_in, type_components_in}
+use Rattle.syntax_tree.specs.Names.{joined as all_of, names_step as spans_step, names_of as spans_of, names_in as spans_in, package_components_in, type_names_step, type_names_of, type_names_in, type_components_in}
 use Rattle.syntax_tree.specs.Read.{value_tree}
 use Rattle.file_facts.specs.Decls.{Placed, in_turn as placed_in_turn, decls_step, decls_of, decls_in}
 use Rattle.file_facts.specs.declared.diagnostic.Diag.{Diag}
+use Rattle.file_facts.specs.declared.fact.Decl.{Decl}
 use Rattle.file_facts.specs.declared.fact.DeclKind.{DeclKind}
 use Rattle.file_facts.specs.declared.fact.DeclKind.TheVariants as kind
 use Rattle.file_facts.specs.declared.fact.FileFacts.{FileFacts}
@@ -33,7 +34,8 @@ use Rattle.proto_resolve.specs.declared.uses.NameUse.{NameUse}
 use Rattle.proto_resolve.specs.Names.{found, joined_all, scope_of, texts_of}
 use Rattle.proto_resolve.specs.Sites.{Named, component, in_turn, inner, is_scalar, names_in, names_of, names_of_file, names_step, package_scopes, site, type_names}
 use Rattle.proto_resolve.specs.Uses.{uses, uses_at, uses_in, uses_of}
-use Rattle.query_laws.proofs.Pairs.{from_map}
+use Rattle.facts_laws.proofs.IdentifierLaws.{facts-have}
+use Rattle.query_laws.proofs.Pairs.{from_map, pairs-from_map, pairs-nil}
 
 -- ---- declarations
 
@@ -94,6 +96,26 @@ facts-decls P None syntaxes text tree all =
     from_map P (λ d. d.name_span) (decls_in text tree.nodes kind.Field place None 0)
     (subst (All P) (sym (nodes-declare text tree.nodes kind.Field place None 0)) all)
 facts-decls P (Some d) syntaxes text tree all = All-nil (λ d. P d.name_span)
+
+facts-pairs : (R : Span → Span → Type 0) (o : Option Diag) (syntaxes : List StatedSyntax) (text : List ℕ) (tree : FileTree) → AllPairs R (spans_in tree.nodes)
+    → AllPairs (λ d e. R d.name_span e.name_span) (facts_at o syntaxes text tree).decls
+facts-pairs R None syntaxes text tree pairs =
+    let place = package_name (first_package (packages text tree.nodes)) in
+    pairs-from_map R (λ d. d.name_span) (decls_in text tree.nodes kind.Field place None 0)
+    (subst (AllPairs R) (sym (nodes-declare text tree.nodes kind.Field place None 0)) pairs)
+facts-pairs R (Some d) syntaxes text tree pairs = pairs-nil (λ (d e : Decl). R d.name_span e.name_span)
+
+-- of each two declarations of a text
+pub pairs_of_decls : (R : Span → Span → Type 0) (text : List ℕ) → AllPairs R (spans_in (value_tree text).nodes) → AllPairs (λ d e. R d.name_span e.name_span) (facts_of text).decls
+pairs_of_decls R text pairs =
+    let tree = value_tree text in
+    facts-pairs R (opaque text (stated text tree.nodes)) (stated text tree.nodes) text tree pairs
+
+-- the components of the package that counts
+pub of_package : (P : Span → Type 0) (text : List ℕ) → All P (package_components_in (value_tree text).nodes) → MatchOption (facts_of text).«package» ⊤ (λ p. All P p.components)
+of_package P text all =
+    let tree = value_tree text in
+    facts-have P text (opaque text (stated text tree.nodes)) (stated text tree.nodes) tree all
 
 -- the declarations of a text
 pub of_decls : (P : Span → Type 0) (text : List ℕ) → All P (spans_in (value_tree text).nodes) → All (λ d. P d.name_span) (facts_of text).decls

@@ -1,5 +1,6 @@
-// Laws of the places of a declaration. Each is proved for all workspaces, and its function does nothing.
+// Laws of what stands at an offset, and of the places of a declaration. Each is proved for all workspaces, and its function does nothing.
 ghost use Rattle.query_laws.specs.PlaceLaws.{PlacesAreApart, PlacesAscend, PlacesLieInTheTexts};
+ghost use Rattle.query_laws.specs.Standing.{OneListOfPlaces, OneNameHolds, PlacesAreAll, SymbolsStandThere};
 
 use analysis_laws::uses_in_order;
 use syntax_laws::{identifiers_law, names_apart, size_law};
@@ -23,4 +24,23 @@ pub fn places_apart()
     names_apart();
     size_law();
     uses_in_order();
+}
+
+/// A law: at an offset of a file at most one name stands: one that is declared, one that is used, or one of the file's package. The
+/// symbol at the offset is what that name stands for, and where no name stands there is none.
+pub fn one_symbol()
+    ensures one { OneNameHolds }
+    ensures exact { SymbolsStandThere }
+{
+    names_apart();
+    uses_in_order();
+}
+
+/// A law: the places of a declaration are the place of its own name, if that is asked for, and that of each use that stands for it,
+/// in all files, and no others. The list of them is the only one that comes by file, then offset.
+pub fn places_are_all()
+    ensures all { PlacesAreAll }
+    ensures only { OneListOfPlaces }
+{
+    places_in_order();
 }
