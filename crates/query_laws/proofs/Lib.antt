@@ -1,6 +1,7 @@
 pub mod Alike
 pub mod AllPlaces
 pub mod Edits
+pub mod NameScopes
 pub mod Names
 pub mod OneSymbol
 pub mod Pairs

@@ -1,3 +1,4 @@
 pub mod EditLaws
 pub mod PlaceLaws
+pub mod NameScopes
 pub mod Standing
