@@ -1,4 +1,5 @@
 """Editors over folders of many files, which the benchmarks time."""
+import json
 import os
 import pathlib
 import subprocess
@@ -40,39 +41,48 @@ def cost(command, cwd):
 
 
 class Editor:
-    """An editor over a folder: it opens one document, changes it, and asks for its diagnostics."""
+    """An editor over a folder: it opens one document, changes it, and asks for its diagnostics, or lets them be published."""
 
-    def __init__(self, holder, place, text, options=(), program=None):
+    def __init__(self, holder, place, text, options=(), program=None, client=stream.PULLING):
         self.uri = f"file://{holder}/{place}"
         self.text = text
-        command = [program, "serve"] if program else stream.command()
-        self.server = subprocess.Popen([*command, *options, "--root", holder], stdin=subprocess.PIPE, stdout=subprocess.PIPE)
-        self.ask('{"jsonrpc":"2.0","id":1,"method":"initialize","params":{}}')
+        self.server = stream.Server(("serve", *options, "--root", str(holder)), program)
+        self.ask(json.dumps({"jsonrpc": "2.0", "id": 1, "method": "initialize", "params": client}))
 
     def __enter__(self):
         return self
 
     def __exit__(self, *_):
-        self.server.stdin.close()
-        self.server.stdout.close()
-        self.server.wait()
+        self.server.close()
 
     def memory(self):
         """The most memory that the server has taken so far, in megabytes."""
-        lines = pathlib.Path(f"/proc/{self.server.pid}/status").read_text().splitlines()
+        lines = pathlib.Path(f"/proc/{self.server.process.pid}/status").read_text().splitlines()
         return next(int(line.split()[1]) for line in lines if line.startswith("VmHWM:")) / 1024
 
     def ask(self, *bodies):
         """The seconds from some messages to the reply to the last one, which tells no fault."""
         start = time.perf_counter()
-        self.server.stdin.write(stream.frames(bodies))
-        self.server.stdin.flush()
-        length = int(self.server.stdout.readline().split(b":")[1])
-        self.server.stdout.readline()
-        reply = self.server.stdout.read(length)
+        self.server.send_bytes(stream.frames(bodies))
+        reply = self.server.receive()
+        taken = time.perf_counter() - start
         if b'"items":[]' not in reply and b'"capabilities"' not in reply:
             raise SystemExit(f"the reply is {reply[:300]!r}")
-        return time.perf_counter() - start
+        return taken
+
+    def publish(self, documents, *notifications):
+        """The seconds from some notifications to the last of these publications, each a URI and a version, which tell no fault."""
+        expected = b"".join(
+            stream.frame(f'{{"jsonrpc":"2.0","method":"textDocument/publishDiagnostics","params":{{"diagnostics":[],"uri":"{uri}","version":{version}}}}}')
+            for uri, version in documents
+        )
+        start = time.perf_counter()
+        self.server.send_bytes(stream.frames(notifications))
+        told = self.server.receive_bytes(len(expected))
+        taken = time.perf_counter() - start
+        if told != expected:
+            raise SystemExit(f"it publishes {told[:300]!r}")
+        return taken
 
     def question(self):
         """The request for the diagnostics of the document."""
@@ -90,10 +100,10 @@ class Editor:
         """The notification that a document is closed."""
         return f'{{"jsonrpc":"2.0","method":"textDocument/didClose","params":{{"textDocument":{{"uri":"{uri}"}}}}}}'
 
-    def changing(self, uri, line, text):
+    def changing(self, uri, line, text, version=2):
         """The notification that a text is put in front of a line of a document."""
         place = f'{{"line":{line},"character":0}}'
-        return f'{{"jsonrpc":"2.0","method":"textDocument/didChange","params":{{"textDocument":{{"uri":"{uri}","version":2}},"contentChanges":[{{"range":{{"start":{place},"end":{place}}},"text":"{text}"}}]}}}}'
+        return f'{{"jsonrpc":"2.0","method":"textDocument/didChange","params":{{"textDocument":{{"uri":"{uri}","version":{version}}},"contentChanges":[{{"range":{{"start":{place},"end":{place}}},"text":"{text}"}}]}}}}'
 
     def open(self):
         return self.after(self.opening(self.uri, self.text))

@@ -69,7 +69,7 @@ class Editor:
         self.root, self.number = f"file://{root}/", 0
         self.texts, self.opened = {}, {}
         self.server = stream.Server(("serve", "--root", root))
-        self.ask("initialize", {"capabilities": {"textDocument": {"diagnostic": {}}}})
+        self.ask("initialize", stream.PULLING)
 
     def close(self):
         """Ends the session, which has to end well."""

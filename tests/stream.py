@@ -21,6 +21,9 @@ NUMBERS = (1, 3, 4, 64)
 
 SEPARATOR = b"\r\n\r\n"
 
+# The params of `initialize` of a client that asks for diagnostics. To one that doesn't say so they are published.
+PULLING = {"capabilities": {"textDocument": {"diagnostic": {}}}}
+
 
 def command(args=("serve",)):
     """The words that start the program. A program that isn't there is a failure and never a test passed over."""
@@ -44,7 +47,7 @@ def document_bodies(text):
     """What an editor sends that opens a text, asks for its diagnostics under the id 2, and ends the session."""
     uri = "file:///w/a.proto"
     messages = [
-        {"id": 1, "method": "initialize", "params": {}},
+        {"id": 1, "method": "initialize", "params": PULLING},
         {"method": "textDocument/didOpen", "params": {"textDocument": {"uri": uri, "version": 1, "text": text}}},
         {"id": 2, "method": "textDocument/diagnostic", "params": {"textDocument": {"uri": uri}}},
         {"id": 3, "method": "shutdown"},
@@ -91,11 +94,13 @@ def check_with_each(words, cwd=None):
 
 
 class Server:
-    """A running program whose input stays open while its replies are read."""
+    """A running program whose input stays open while its replies are read. What it says while it is told something is kept: neither waits for the other."""
 
-    def __init__(self, args=("serve",)):
+    def __init__(self, args=("serve",), program=None):
         pipe = subprocess.PIPE
-        self.process = subprocess.Popen(command(args), stdin=pipe, stdout=pipe, stderr=pipe, bufsize=0)
+        self.process = subprocess.Popen([program, *args] if program else command(args), stdin=pipe, stdout=pipe, stderr=pipe, bufsize=0)
+        os.set_blocking(self.process.stdin.fileno(), False)
+        self.heard = bytearray()
 
     def __enter__(self):
         return self
@@ -111,26 +116,39 @@ class Server:
 
     def send_bytes(self, data):
         """Sends these bytes as they are."""
+        data = data[self.process.stdin.write(data) or 0 :]
         while data:
-            data = data[self.process.stdin.write(data) :]
+            out = [] if self.process.stdout.closed else [self.process.stdout]
+            readable, writable, _ = select.select(out, [self.process.stdin], [])
+            if readable:
+                self.heard += os.read(self.process.stdout.fileno(), PIECE)
+            if writable:
+                data = data[self.process.stdin.write(data) or 0 :]
 
-    def receive(self, timeout=LIMIT):
-        """The body of the next frame, of which exactly the bytes are read."""
-        deadline = time.monotonic() + timeout
-        header = b""
-        while not header.endswith(SEPARATOR):
-            header += self._read(1, deadline)
-        digits = header.removeprefix(b"Content-Length: ").removesuffix(SEPARATOR)
+    def receive(self, timeout=None):
+        """The body of the next frame."""
+        deadline = time.monotonic() + (timeout or LIMIT)
+        while SEPARATOR not in self.heard:
+            self._hear(deadline)
+        start = self.heard.index(SEPARATOR)
+        digits = self.heard[:start].removeprefix(b"Content-Length: ")
         if not digits.isdigit():
-            raise AssertionError(f"not the header of a frame: {header!r}")
-        body = bytearray()
-        while len(body) < int(digits):
-            body += self._read(min(int(digits) - len(body), PIECE), deadline)
-        return bytes(body)
+            raise AssertionError(f"not the header of a frame: {bytes(self.heard[:start])!r}")
+        del self.heard[: start + len(SEPARATOR)]
+        return self.receive_bytes(int(digits), timeout)
+
+    def receive_bytes(self, count, timeout=None):
+        """The next so many bytes."""
+        deadline = time.monotonic() + (timeout or LIMIT)
+        while len(self.heard) < count:
+            self._hear(deadline)
+        data = bytes(self.heard[:count])
+        del self.heard[:count]
+        return data
 
     def is_silent(self, seconds):
         """Whether nothing, not even the end of the output, comes for that long."""
-        return not self._is_readable(seconds)
+        return not self.heard and not self._is_readable(seconds)
 
     def wait(self, timeout=LIMIT):
         """The exit status of a program that has to end although its input stays open."""
@@ -145,15 +163,15 @@ class Server:
             out, err = self.process.communicate(timeout=timeout)
         except subprocess.TimeoutExpired:
             raise AssertionError(f"no end within {timeout} seconds behind the end of the input") from None
-        return out, err, self.process.returncode
+        return bytes(self.heard) + out, err, self.process.returncode
 
     def _is_readable(self, seconds):
         return bool(select.select([self.process.stdout], [], [], max(seconds, 0))[0])
 
-    def _read(self, most, deadline):
+    def _hear(self, deadline):
         if not self._is_readable(deadline - time.monotonic()):
             raise AssertionError("no reply came in time, while the input is open")
-        data = os.read(self.process.stdout.fileno(), most)
+        data = os.read(self.process.stdout.fileno(), PIECE)
         if not data:
             raise AssertionError("the output ended in place of a reply")
-        return data
+        self.heard += data

@@ -89,7 +89,7 @@ class Asker:
 
     def __init__(self, server, folder, texts):
         self.server, self.folder, self.texts = server, folder, texts
-        self.say(id=0, method="initialize", params={})
+        self.say(id=0, method="initialize", params=stream.PULLING)
         server.receive()
 
     def say(self, **body):

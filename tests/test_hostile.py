@@ -74,7 +74,7 @@ class Hostile(FolderTest):
                 server.send(json.dumps({"jsonrpc": "2.0", **body}))
                 return json.loads(server.receive())
 
-            ask(id=1, method="initialize", params={"capabilities": {"textDocument": {"diagnostic": {}}}})
+            ask(id=1, method="initialize", params={**stream.PULLING, "rootUri": f"file://{self.root}"})
             for n in range(N):
                 uri = f"file://{self.root}/f{n}.proto"
                 text = f'{hostile.HEAD}import "f{n - 1}.proto";\nmessage M{n} {{ M{n - 1} m = 1; }}\n' if n else f"{hostile.HEAD}message M0 {{ }}\n"

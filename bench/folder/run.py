@@ -9,6 +9,7 @@ if the program takes more than twice the time of the C program, if twice the fil
 the time of one, or if the folder of many entries takes more than 0.2 s.
 
 The program is crates/protols/out/protols, or another one that the variable PROTOLS names: `make build` builds it."""
+import json
 import pathlib
 import shutil
 import sys
@@ -36,7 +37,7 @@ MOST_ENTRIES = 0.2
 
 INPUT = stream.frames(
     [
-        '{"jsonrpc":"2.0","id":1,"method":"initialize","params":{}}',
+        json.dumps({"jsonrpc": "2.0", "id": 1, "method": "initialize", "params": stream.PULLING}),
         '{"jsonrpc":"2.0","id":2,"method":"shutdown"}',
         '{"jsonrpc":"2.0","method":"exit"}',
     ]

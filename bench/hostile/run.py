@@ -152,7 +152,7 @@ class Client:
 
     def __init__(self, room, server):
         self.server = server
-        self.send(id=1, method="initialize", params={"rootUri": f"file://{room}"})
+        self.send(id=1, method="initialize", params={**stream.PULLING, "rootUri": f"file://{room}"})
         server.receive()
 
     def send(self, **body):

@@ -7,7 +7,6 @@ In a tree of its own each file uses the same name ten times: the references of t
 
 usage: run.py [FILES..]"""
 import json
-import os
 import pathlib
 import sys
 import tempfile
@@ -36,24 +35,12 @@ def written(folder, count, text_of):
         file.write_text(text_of(n))
 
 
-def received(server):
-    """The body of the next frame, read in large pieces."""
-    pipe, header, parts = server.process.stdout.fileno(), b"", []
-    while not header.endswith(stream.SEPARATOR):
-        header += os.read(pipe, 1)
-    left = int(header.split(b":")[1])
-    while left:
-        parts.append(os.read(pipe, left))
-        left -= len(parts[-1])
-    return b"".join(parts)
-
-
 def asked(server, method, params):
     """The reply to a request, and the seconds that it took."""
     body = json.dumps({"jsonrpc": "2.0", "id": 2, "method": method, "params": params})
     start = time.perf_counter()
     server.send_bytes(stream.frame(body))
-    reply = received(server)
+    reply = server.receive()
     return reply, time.perf_counter() - start
 
 
@@ -103,8 +90,8 @@ def queries(folder, count):
 
 def began(server, count):
     """Waits for the analysis of the tree."""
-    server.send_bytes(stream.frame(json.dumps({"jsonrpc": "2.0", "id": 1, "method": "initialize", "params": {}})))
-    received(server)
+    server.send_bytes(stream.frame(json.dumps({"jsonrpc": "2.0", "id": 1, "method": "initialize", "params": stream.PULLING})))
+    server.receive()
     _, first = asked(server, "workspace/symbol", {"query": "no.such.name"})
     print(f"{count:>7,} files: the analysis {first:.1f} s, {resident(server) / 1024:,.0f} MB resident", flush=True)
 

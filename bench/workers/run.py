@@ -46,7 +46,7 @@ def first_answer(holder, size, workers):
     with Editor(holder, path(size // 2), ordinary(size // 2), ("--workers", str(workers))) as editor:
         editor.ask(editor.question())
         taken = time.perf_counter() - began
-        place = pathlib.Path(f"/proc/{editor.server.pid}/task/{editor.server.pid}/schedstat")
+        place = pathlib.Path(f"/proc/{editor.server.process.pid}/task/{editor.server.process.pid}/schedstat")
         return taken, taken - int(place.read_text().split()[0]) / 1e9, editor.memory()
 
 
@@ -68,7 +68,7 @@ def idle_seconds(holder):
     """The processor seconds that a server takes in 10 seconds of the clock without a message."""
     with Editor(holder, path(0), ordinary(0), ("--workers", "4")) as editor:
         editor.open()
-        stat = pathlib.Path(f"/proc/{editor.server.pid}/stat")
+        stat = pathlib.Path(f"/proc/{editor.server.process.pid}/stat")
 
         def used():
             return sum(map(int, stat.read_text().rpartition(")")[2].split()[11:13])) / os.sysconf("SC_CLK_TCK")
