@@ -88,13 +88,17 @@ def place(line, character):
     return f'{{"character":{character},"line":{line}}}'
 
 
-def report(id_text, *bad_tokens):
-    """The reply to a request for diagnostics: for each bad token its message, its start and its end."""
-    items = ",".join(
+def listed(*bad_tokens):
+    """The diagnostics of bad tokens: for each its message, its start and its end."""
+    return "[%s]" % ",".join(
         f'{{"code":201,"message":"{message}","range":{{"end":{place(*end)},"start":{place(*start)}}},"severity":1,"source":"protols"}}'
         for message, start, end in bad_tokens
     )
-    return f'{{"id":{id_text},"jsonrpc":"2.0","result":{{"items":[{items}],"kind":"full"}}}}'
+
+
+def report(id_text, *bad_tokens):
+    """The reply to a request for diagnostics."""
+    return f'{{"id":{id_text},"jsonrpc":"2.0","result":{{"items":{listed(*bad_tokens)},"kind":"full"}}}}'
 
 
 CHARACTER, NUMBER, STRING, COMMENT = "illegal character", "malformed number", "unfinished string", "unfinished comment"
