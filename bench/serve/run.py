@@ -5,18 +5,28 @@ The first documents are ordinary proto3, which has no diagnostic; the others are
 for each. Of each kind every text is twice as long as the one before, so that the time and the memory may about double.
 A time is the best of 5, in turn, once with a file as the input and once through a pipe, as an editor speaks to the
 server. The memory is the most that was resident when the reply had come, also as a multiple of the text and the reply
-together."""
+together.
+
+Then it types into a document of a folder of 1,000 and 10,000 files: what is asked for beside what is published, also with 200 documents open.
+These are medians of 200 characters, in turn. 100 changes come in one write, and 500 documents are opened one after the other, each behind the
+publications of the one before: 125,250 in all, of which none may be left out.
+
+usage: run.py [texts] [publishing]"""
 import itertools
 import json
 import pathlib
+import statistics
 import subprocess
 import sys
+import tempfile
 import time
 
 HERE = pathlib.Path(__file__).resolve().parent
 sys.path[:0] = [str(HERE.parent), str(HERE.parent.parent / "tests")]
 import lab
 import stream
+import trees
+from editors import Editor, put_tree
 
 TIMES = 5
 
@@ -64,7 +74,7 @@ def signs(size):
 def messages(text):
     """What an editor sends: the bodies up to the question, and those that end the server."""
     document = {"uri": URI, "languageId": "proto", "version": 1, "text": text}
-    initialize = {"id": 1, "method": "initialize", "params": {"capabilities": {"textDocument": {"diagnostic": {}}}}}
+    initialize = {"id": 1, "method": "initialize", "params": stream.PULLING}
     opening = {"method": "textDocument/didOpen", "params": {"textDocument": document}}
     question = {"id": 2, "method": "textDocument/diagnostic", "params": {"textDocument": {"uri": URI}}}
     ending = [{"id": 3, "method": "shutdown"}, {"method": "exit"}]
@@ -131,9 +141,83 @@ def print_row(name, size, before, now):
     )
 
 
-def main():
+# An editor that says nothing of diagnostics.
+PUBLISHED = {"capabilities": {}}
+
+# The most that a character may take above one with a question, in seconds, with one document open and with 200.
+ABOVE, ABOVE_OF_MANY = 0.0002, 0.002
+MANY = 200
+KEYSTROKES = 200
+
+# Changes in one write and documents opened in turn, and the seconds that they may take.
+CHANGES, CHANGES_SECONDS = 100, 0.1
+OPENS, OPENS_SECONDS = 500, 2
+
+
+def new_document(holder, n):
+    """A document that is no file, and its text."""
+    return f"file://{holder}/new{n:03}.proto", f'syntax = "proto3";\npackage new.p{n % 7};\nmessage M{n} {{ }}\n'
+
+
+def typed(holder, size, count):
+    """The median of the seconds from a character to the reply to a question, and to the last publication, where so many documents are open."""
+    place, text = trees.path(size // 2), trees.ordinary(size // 2)
+    with Editor(holder, place, text) as asking, Editor(holder, place, text, client=PUBLISHED) as published:
+        asking.open()
+        documents = [(published.uri, 1)]
+        published.publish(documents, published.opening(published.uri, text))
+        for uri, its_text in (new_document(holder, n) for n in range(count - 1)):
+            asking.after(asking.opening(uri, its_text))
+            # (behind the files of the folder, by their paths)
+            documents.append((uri, 1))
+            published.publish(documents, published.opening(uri, its_text))
+        documents[0] = published.uri, 2
+        pairs = [(asking.change(0, " "), published.publish(documents, published.changing(published.uri, 0, " "))) for _ in range(KEYSTROKES)]
+        return [statistics.median(column) for column in zip(*pairs)]
+
+
+def changed_at_once(holder, size):
+    """The seconds from many changes in one write to the last publication, the best of 5."""
+    with Editor(holder, trees.path(size // 2), trees.ordinary(size // 2), client=PUBLISHED) as editor:
+        editor.publish([(editor.uri, 1)], editor.opening(editor.uri, editor.text))
+        versions = range(2, 2 + CHANGES)
+        return min(
+            editor.publish([(editor.uri, it) for it in versions], *(editor.changing(editor.uri, 0, " ", it) for it in versions)) for _ in range(TIMES)
+        )
+
+
+def opened_in_turn():
+    """The seconds for documents that are opened one after the other, the best of 3, in a folder without files."""
+    bests = []
+    for _ in range(3):
+        with tempfile.TemporaryDirectory() as holder, Editor(holder, "none.proto", "", client=PUBLISHED) as editor:
+            new = [new_document(holder, n) for n in range(OPENS)]
+            bests.append(sum(editor.publish([(uri, 1) for uri, _ in new[: n + 1]], editor.opening(*new[n])) for n in range(OPENS)))
+    return min(bests)
+
+
+def publishing():
+    """Prints the figures of publishing, and says whether they are within the limits."""
     kept = True
-    print(lab.machine())
+
+    def show(name, seconds, most, more=""):
+        print(f"{name:>42} {seconds * 1000:>9.3f} ms, at most {most * 1000:,.1f}{more}", flush=True)
+        return seconds <= most
+
+    for size in (1_000, 10_000):
+        with tempfile.TemporaryDirectory() as holder:
+            put_tree(pathlib.Path(holder), size)
+            for count, most in ((1, ABOVE), (MANY, ABOVE_OF_MANY)):
+                asked, told = typed(holder, size, count)
+                kept = show(f"above a question, {size:,} files, {count} open", told - asked, most, f" ({asked * 1000:.3f} ms asked, {told * 1000:.3f} ms published)") and kept
+            if size == 1_000:
+                kept = show(f"{CHANGES} changes in one write", changed_at_once(holder, size), CHANGES_SECONDS) and kept
+    return show(f"{OPENS} documents opened in turn", opened_in_turn(), OPENS_SECONDS) and kept
+
+
+def growing():
+    """Prints the table of texts, and says whether times and memory grow well."""
+    kept = True
     print(f"{'text':>8} {'bytes':>9} {'file':>10} growth {'pipe':>10} growth {'memory':>10} growth {'reply':>11} multiple")
     kinds = [("ordinary", ordinary, [1_000_000, 2_000_000, 4_000_000, 8_000_000]), ("#", signs, [25_000, 50_000, 100_000, 200_000])]
     for name, make, sizes in kinds:
@@ -142,9 +226,15 @@ def main():
             kept = kept and (before is None or grows_well(before, now))
             print_row(name, size, before, now)
             before = now
+    return kept
+
+
+def main(words):
+    print(lab.machine())
+    kept = all([measure() for name, measure in (("texts", growing), ("publishing", publishing)) if not words or name in words])
     print("kept" if kept else "NOT kept")
     return 0 if kept else 1
 
 
 if __name__ == "__main__":
-    sys.exit(main())
+    sys.exit(main(sys.argv[1:]))
