@@ -1,5 +1,5 @@
 // What is known of the files of a workspace.
-ghost use Rattle.std.specs.Prelude.{◌≡◌, ◌<◌, ◌≤◌, List, ℕ, Option, Some, [], Contains, false, is_some, length, slice_index_or, IfOk, IfSome, if◌then◌else◌};
+ghost use Rattle.std.specs.Prelude.{◌≡◌, ◌<◌, ◌≤◌, List, ℕ, Option, Some, [], Contains, false, is_some, length, slice_index_or, string_bytes, IfOk, IfSome, if◌then◌else◌};
 ghost use Rattle.std.specs.Cmp.Lexicographic.{slice_cmp};
 ghost use Rattle.std.specs.Ordering.{nat_cmp};
 ghost use Rattle.std.specs.declared.cmp.Ordering.TheVariants.{Less};
@@ -9,6 +9,7 @@ ghost use Rattle.work_index.specs.Workspace.{analysis};
 ghost use Rattle.lsp_workspace.specs.Files.{Files, workspace};
 ghost use Rattle.lsp_workspace.specs.Kept.{AreNumbersNow, DifferAt, FollowMove, HasArrival, HasArrived, IsKept, IsOf, is_current, with_number};
 
+use arrayvec::ArrayVec;
 use import_graph::FileNo;
 use piece_collector::{Board, Piece};
 use std::alloc::{AllocError, Global};
@@ -34,21 +35,21 @@ pub enum Moves {
 pub struct Known {
     pub analysis: Analysis,
     /// The numbers of the files of which it is that left since or got other texts.
-    pub changed: Vec<FileNo>,
+    pub changed: ArrayVec<FileNo, MOST_CHANGED>,
     /// Which files came or left since, so that files may have other numbers now.
     pub moves: Moves,
 }
 
 impl Known {
     /// An analysis of the files as they are. Takes no memory.
-    pub fn current(alloc: Global, analysis: Analysis) -> Known
+    pub fn current(analysis: Analysis) -> Known
         ensures analysis { result.analysis ≡ analysis }
         ensures changed { result.changed.items ≡ [] }
         ensures moves { result.moves ≡ Moves.Stayed }
     {
         Known {
             analysis,
-            changed: Vec::new(alloc),
+            changed: ArrayVec::new(),
             moves: Moves::Stayed,
         }
     }
@@ -77,7 +78,7 @@ impl Known {
     }
 }
 
-// What is known after one more of its files left or got another text: nothing where too many files have, or where memory was refused.
+// What is known after one more of its files left or got another text: nothing if too many files have.
 fn marked(known: Known, file: FileNo, stays: bool) -> Option<Known>
     ensures analysis { IfSome result (λ k. k.analysis ≡ known.analysis) }
     ensures changed { IfSome result (λ k. k.changed.items ≡ with_number file known.changed.items) }
@@ -90,51 +91,47 @@ fn marked(known: Known, file: FileNo, stays: bool) -> Option<Known>
     if known.changed.as_slice().contains(&file) {
         return Some(known);
     }
-    if known.changed.len() >= MOST_CHANGED {
-        return None;
-    }
-    match known.changed.push(file) {
+    match known.changed.try_push(file) {
         Ok(()) => Some(known),
         Err(_) => None,
     }
 }
 
 // Which files came or left, after a text was set, or lost, at a path that is that of none of the files that are known.
-fn moves_after(alloc: Global, moves: &Moves, path: &str, stays: bool) -> Result<Moves, AllocError>
-    ensures { IfOk result (λ after. FollowMove moves.now after path.now stays) }
+fn moves_after(moves: &Moves, path: String, stays: bool) -> Moves
+    ensures { FollowMove moves.now result (string_bytes path) stays }
 {
     let is_alone = match moves {
         Moves::Stayed => true,
-        Moves::Came(own) => own.as_str() == path,
+        Moves::Came(own) => own.as_str() == path.as_str(),
         Moves::Others => false,
     };
     if stays && is_alone {
-        return Ok(Moves::Came(String::from_str(alloc, path)?));
+        return Moves::Came(path);
     }
-    Ok(Moves::Others)
+    Moves::Others
 }
 
-// What is known then: nothing where memory was refused.
-fn with_move(alloc: Global, known: Known, path: &str, stays: bool) -> Option<Known>
-    ensures analysis { IfSome result (λ k. k.analysis ≡ known.analysis) }
-    ensures changed { IfSome result (λ k. k.changed.items ≡ known.changed.items) }
-    ensures moves { IfSome result (λ k. FollowMove known.moves k.moves path.now stays) }
+// What is known then.
+fn with_move(known: Known, path: String, stays: bool) -> Known
+    ensures analysis { result.analysis ≡ known.analysis }
+    ensures changed { result.changed.items ≡ known.changed.items }
+    ensures moves { FollowMove known.moves result.moves (string_bytes path) stays }
 {
     let mut known = known;
-    let moves = moves_after(alloc, &known.moves, path, stays).ok()?;
-    known.moves = moves;
-    Some(known)
+    known.moves = moves_after(&known.moves, path, stays);
+    known
 }
 
-/// What is known after a path has another text, or none: nothing where too many of the files that are known left or got other texts,
-/// or where memory was refused.
-pub fn known_after(alloc: Global, known: Option<Known>, path: &str, stays: bool) -> Option<Known>
-    ensures { (text : Option (List ℕ)) (old new : Files) → DifferAt path.now text old new → stays ≡ is_some text → IfSome known (λ k. IsOf k (workspace old)) → IfSome result (λ k. IsOf k (workspace new)) }
+/// What is known after a path has another text, or none: nothing if too many of the files that are known left or got other texts.
+/// Takes no memory.
+pub fn known_after(known: Option<Known>, path: String, stays: bool) -> Option<Known>
+    ensures { (text : Option (List ℕ)) (old new : Files) → DifferAt (string_bytes path) text old new → stays ≡ is_some text → IfSome known (λ k. IsOf k (workspace old)) → IfSome result (λ k. IsOf k (workspace new)) }
 {
     let known = known?;
-    match known.analysis.number_of(path) {
+    match known.analysis.number_of(path.as_str()) {
         Some(file) => marked(known, file, stays),
-        None => with_move(alloc, known, path, stays),
+        None => Some(with_move(known, path, stays)),
     }
 }
 

@@ -146,11 +146,12 @@ impl Workspace {
         ensures exhausted { result ≡ Err BoardFault.Exhausted → (let board = self.new.board in board.last) ≡ 18446744073709551615 }
         ensures err { OnErr result ((self.new.board ≡ self.old.board) × ((q : List ℕ) → text_at q self.new.files ≡ text_at q self.old.files)) }
     {
+        let own = String::from_str(self.alloc, path)?;
         let copy = files::copied(self.alloc, &document.text)?;
         files::make_room(self.alloc, &mut self.files, path)?;
         tell(self.alloc, &mut self.board, path, Some(copy))?;
         files::open(&mut self.files, path, uri, document);
-        self.known = known_after(self.alloc, self.known.take(), path, true);
+        self.known = known_after(self.known.take(), own, true);
         Ok(())
     }
 
@@ -167,10 +168,11 @@ impl Workspace {
         let Some(document) = files::edited(self.alloc, &self.files, path, edits)? else {
             return Ok(());
         };
+        let own = String::from_str(self.alloc, path)?;
         let copy = files::copied(self.alloc, &document.text)?;
         tell(self.alloc, &mut self.board, path, Some(copy))?;
         files::set_document(&mut self.files, path, document);
-        self.known = known_after(self.alloc, self.known.take(), path, true);
+        self.known = known_after(self.known.take(), own, true);
         Ok(())
     }
 
@@ -201,11 +203,12 @@ impl Workspace {
         if !files::is_open(&self.files, path) {
             return Ok(());
         }
+        let own = String::from_str(self.alloc, path)?;
         let kept = files::shared_kept(&self.files, path)?;
         let stays = kept.is_some();
         tell(self.alloc, &mut self.board, path, kept)?;
         files::close(&mut self.files, path);
-        self.known = known_after(self.alloc, self.known.take(), path, stays);
+        self.known = known_after(self.known.take(), own, stays);
         Ok(())
     }
 
@@ -286,13 +289,13 @@ impl Workspace {
                 unreachable!();
             };
             let analysis = analyse_with(self.alloc, known.analysis, piece)?;
-            self.known = Some(Known::current(self.alloc, analysis));
+            self.known = Some(Known::current(analysis));
             return Ok(());
         }
         let lent = self.board.lend_all()?;
         let analysis = analyse(self.alloc, self.known.take(), lent.pieces());
         self.board.take_back(lent);
-        self.known = Some(Known::current(self.alloc, analysis?));
+        self.known = Some(Known::current(analysis?));
         Ok(())
     }
 
@@ -338,7 +341,7 @@ impl Workspace {
         match analyse_in_shares(rt, self.alloc, lent, workers, gate) {
             Ok((back, analysis)) => {
                 self.board.take_back(back);
-                self.known = Some(Known::current(self.alloc, analysis));
+                self.known = Some(Known::current(analysis));
                 Ok(())
             }
             Err(fault) => {

@@ -24,7 +24,7 @@ invariant_of-self-2 c =
     let texts : TextsChangeAt path t old new = subst (λ f. TextsChangeAt path t old f) (sym c.close.ensures) at_once in
     let kept : IsKept old c.self.inside.board c.take.result = subst (λ (k : Option Known). IsKept old c.self.inside.board k) (sym c.take.ensures.value) c.self.invariant in
     keeps path t c.is_some-stays.result old new c.self.inside.board c.tell.new.board c.take.result c.known_after.result kept order c.tell.ensures.here c.in_ok-tell.ensures.texts texts
-    c.is_some-stays.ensures c.known_after.ensures
+    c.is_some-stays.ensures (rw c.in_ok-own.ensures.ok at c.known_after.ensures)
 
 pub returns-clause-board : goal.returns-clause-board
 returns-clause-board c =
