@@ -91,7 +91,7 @@ class Gate:
         self.programs = [it.parent.parent.name for it in sorted(root.glob("crates/*/src/main.rt"))]
 
     def copy_files(self):
-        """Copies the repository for `rt ci`, without what was built; the edits of must-fail/ lie apart until their crate is proved."""
+        """Copies the repository for `rt ci`, without what was built; the edits of must-fail/ lie apart."""
         left = {str(self.root): {".git", "out"}, **{str(it): {"out"} for it in self.root.glob("crates/*")}}
         shutil.copytree(self.root, self.copy, symlinks=True, ignore=lambda at, names: left.get(at, set()) & {*names})
         # (it is the top of a repository)
@@ -110,10 +110,8 @@ class Gate:
         found = PROVED.match(line)
         if found and found[1] in self.untried:
             self.untried.remove(found[1])
-            if (self.apart / found[1]).exists():
-                # (rt ci has looked for edits before its first proof)
-                (self.apart / found[1]).rename(self.copy / "crates" / found[1] / "must-fail")
-            self.edits.start([sys.executable, str(kit.ROOT / "tools/wrong_bodies.py"), found[1], "--gate", "--jobs", "1", "--root", str(self.copy)], self.copy)
+            words = ["--gate", "--jobs", "1", "--root", str(self.copy), "--apart", str(self.apart)]
+            self.edits.start([sys.executable, str(kit.ROOT / "tools/wrong_bodies.py"), found[1], *words], self.copy)
 
     def start_tests(self, names):
         for name in names:

@@ -1,10 +1,9 @@
 """What the tools of this folder share: the kit's command `rt` as a module, the crates of this repository, and tasks side by side.
 
 Relied on of the kit: `rt` on the PATH is a Python file with `rtlib.py` beside it. Of `rt`: KIT, processors(), free(), checked(), read_edit(),
-must_fail(), with REFUSED and AT_LIMIT in some kits, linked(), unread(), read_files(). Of `rtlib`: RATTLE, STALE, LIMIT, crates_below(), guarded(), lock(),
+must_fail(), with REFUSED, AT_LIMIT and linked() in some kits, unread(), read_files(). Of `rtlib`: RATTLE, STALE, LIMIT, crates_below(), guarded(), lock(),
 text_of(), sum_of(), files_of() and the class Crate with name, folder, said, is_program, of_kit, deps, rlib, out, makes_rlib(), below(), stamp(), stream(),
-need(), words(), is_built(), has_kept(), build_rlib(), check(), run(), has_tests() and test_whole(). Of `rt ci`: RT_JOBS, that it looks for edits before
-its first proof, the lines `rt: NAME proved` and `rt: NAME is kept: ..`, and the last one.
+need(), words(), is_built(), has_kept(), build_rlib(), check(), run(), has_tests() and test_whole(). Of `rt ci`: RT_JOBS, the lines `rt: NAME proved` and `rt: NAME is kept: ..`, and the last one.
 """
 import collections
 import contextlib
@@ -54,6 +53,14 @@ def load():
 
 rt = load()
 rtlib = rt.rtlib
+
+
+def linked(kept, to):
+    """Makes a folder of kept work whose files are links to those of another: a check writes new files and changes none."""
+    if hasattr(rt, "linked"):
+        rt.linked(kept, to)
+    else:
+        shutil.copytree(kept, to, copy_function=os.link)
 
 
 def logic():

@@ -1,7 +1,7 @@
 #!/usr/bin/env python3
 """Tries the wrong bodies in crates/*/wrong-bodies/*.edit: the prover has to refuse each. Several are tried in one check.
 
-usage: wrong_bodies.py [CRATE..] [--root FOLDER] [--jobs N] [--must-fail] [--anew] [--alone] [--gate] [--show]
+usage: wrong_bodies.py [CRATE..] [--root FOLDER] [--jobs N] [--must-fail] [--anew] [--alone] [--gate] [--apart FOLDER] [--show]
 
 An edit has the form of the kit's must-fail edits: a line `file: src/NAME.rt`, then pairs of lines `old: TEXT` and `new: TEXT`, each TEXT once in that
 file. Its verdict is
@@ -18,7 +18,8 @@ Bodies of other functions don't count, but for those that a caller sees; nor do 
 one body rests on the whole crate. Comments, layout and an edit's description don't count. What is current isn't tried again; --anew tries all.
 --must-fail takes the edits of must-fail/ in the same way, and keeps their verdicts in the crate's out/. --alone tries each edit in a check of its
 own. --gate, beside an `rt ci` that has proved these crates or after it, takes the libraries as that has built them, whose statements alone are read. It
-tries the edits of must-fail/ too, each time, and also fails where verdicts.json names an edit that isn't there.
+tries the edits of must-fail/ too, each time, and also fails where verdicts.json names an edit that isn't there. --apart says where these lie if not in
+the crates: in FOLDER/NAME.
 
 The status is 0 if each edit is refused, else 1. The last line is `N refused, M not; ..`.
 
@@ -214,6 +215,11 @@ class Edit:
             return False
         self.path, self.number, self.new, self.function = path, number, whole, function
         return is_body
+
+
+def place_of(given, crate, folder):
+    """Where the edits of a folder of a crate lie."""
+    return f"{given.apart}/{crate.name}" if given.apart and folder == OF_THE_KIT else f"{crate.folder}/{folder}"
 
 
 def edits_in(folder, has_record=True):
@@ -445,7 +451,7 @@ class Trial:
                 return call(self.room)
         with self.slots, tempfile.TemporaryDirectory(prefix="wrong-bodies-", dir=f"{self.crate.folder}/out") as room:
             self.checks += 1
-            kit.rt.linked(kept, f"{room}/kept")
+            kit.linked(kept, f"{room}/kept")
             return call(f"{room}/kept")
 
     def together(self, group):
@@ -510,7 +516,7 @@ class Trial:
 
     def sort_out(self):
         """Settles the edits that need no check, and gives those that are left with their texts, and the recorded ones that aren't there."""
-        found = [it for folder, has_record in self.given.folders for it in edits_in(f"{self.crate.folder}/{folder}", has_record)]
+        found = [it for folder, has_record in self.given.folders for it in edits_in(place_of(self.given, self.crate, folder), has_record)]
         good = [it for it, is_edit in found if is_edit]
         self.verdicts = {it: (BAD, "an edit is a file right in its folder, with a plain name that ends in .edit") for it, is_edit in found if not is_edit}
         record, key = self.record(), self.key()
@@ -546,6 +552,7 @@ def arguments(words):
     asks = argparse.ArgumentParser(description=__doc__, formatter_class=argparse.RawDescriptionHelpFormatter)
     asks.add_argument("crates", nargs="*")
     asks.add_argument("--root")
+    asks.add_argument("--apart")
     asks.add_argument("--jobs", type=int, default=0)
     for flag in ("--must-fail", "--anew", "--alone", "--gate", "--show"):
         asks.add_argument(flag, action="store_true")
@@ -575,7 +582,7 @@ def main(words):
     lacking = {*given.crates} - {it.name for it in crates}
     if lacking:
         sys.exit(f"wrong_bodies: crates.txt names no crate {', '.join(sorted(lacking))}")
-    crates = [it for it in crates if (not given.crates or it.name in given.crates) and any(os.path.isdir(f"{it.folder}/{folder}") for folder, _ in given.folders)]
+    crates = [it for it in crates if (not given.crates or it.name in given.crates) and any(os.path.isdir(place_of(given, it, folder)) for folder, _ in given.folders)]
     # (an `rt ci` beside it holds the crates, and proves none of these again)
     held = [] if given.gate else kit.hold(kit.in_order({*crates, *(below for crate in crates for below in crate.below())}))
     slots, surfaces, printing = threading.Semaphore(given.jobs), Surfaces(), threading.Lock()
