@@ -464,9 +464,9 @@ pub works-job : (o : ℕ) (config : Configuration) (core : CoreState) (h : List 
 works-job o config core h after = record { after = Give ∷ h; is_after = after; came = refl; count = refl }
 
 -- where a job was asked for and none was left
-pub hands-none : NoJobChangesNothing → (o : ℕ) (config : Configuration) (mid new : CoreState) (h : List Event) (is_full : Type 0) → WorksOn o config mid h
-    → ((g : List Event) → IsAfter o config mid g → IsAfter o config new (Give ∷ g)) → ((g : List Event) → IsAfter o config mid g → IsFirstWanted o (board_events config g) None) → HandsOut o config new h is_full
-hands-none same o config mid new h is_full w gives none =
+pub hands-none : NoJobChangesNothing → (o : ℕ) (config : Configuration) (mid new : CoreState) (h : List Event) (no_room : Type 0) → WorksOn o config mid h
+    → ((g : List Event) → IsAfter o config mid g → IsAfter o config new (Give ∷ g)) → ((g : List Event) → IsAfter o config mid g → IsFirstWanted o (board_events config g) None) → HandsOut o config new h no_room
+hands-none same o config mid new h no_room w gives none =
     let wanted = none w.after w.is_after in
     record {
       works = record { after = Give ∷ w.after; is_after = gives w.after w.is_after; came = w.came; count = w.count };

@@ -179,8 +179,8 @@ notified (Exited after_shutdown) s method params = s
 -- ---- what is published
 
 -- nothing to a client that asks for diagnostics itself
-abbrev pub to_client : ClientData → Pending → Pending
-to_client client pending = if client.pulls_diagnostics then Now [] else pending
+abbrev pub for_client : ClientData → Pending → Pending
+for_client client pending = if client.pulls_diagnostics then Now [] else pending
 
 -- after an open, each open document
 abbrev pub after_open : Option (List ℕ) → Pending
@@ -204,17 +204,17 @@ cleared (Some uri) = Clear uri
 abbrev pub after_close : Files → Option (List ℕ) → Pending
 after_close files path = cleared (option_and_then (open_uri files) path)
 
-abbrev pub running_told : State → Option Method → Data → Pending
-running_told s (Some DidOpen) params = after_open (opened_path s params)
-running_told s (Some DidChange) params = after_change s.files (changed_path s params)
-running_told s (Some DidSave) params = after_change s.files (path_in s params)
-running_told s (Some DidClose) params = after_close s.files (path_in s params)
-running_told s _ params = Now []
+abbrev pub running_publishes : State → Option Method → Data → Pending
+running_publishes s (Some DidOpen) params = after_open (opened_path s params)
+running_publishes s (Some DidChange) params = after_change s.files (changed_path s params)
+running_publishes s (Some DidSave) params = after_change s.files (path_in s params)
+running_publishes s (Some DidClose) params = after_close s.files (path_in s params)
+running_publishes s _ params = Now []
 
 -- what is left to be answered to a notification
-abbrev pub told : Phase → State → Option Method → Data → Pending
-told Running s method params = to_client s.client (running_told s method params)
-told _ s method params = Now []
+abbrev pub publishes : Phase → State → Option Method → Data → Pending
+publishes Running s method params = for_client s.client (running_publishes s method params)
+publishes _ s method params = Now []
 
 -- ---- the turns of messages
 
@@ -223,7 +223,7 @@ received s parse_error = refuse s None ParseError
 received s (invalid_request id) = refuse s id InvalidRequest
 received s response = silent s
 received s (request id method params) = requested s.phase s id method params
-received s (notification method params) = record { state = notified s.phase s method params; pending = told s.phase s method params }
+received s (notification method params) = record { state = notified s.phase s method params; pending = publishes s.phase s method params }
 
 -- after an exit every message is dropped
 abbrev pub turn_in : Phase → State → MessageData → Turn

@@ -80,10 +80,10 @@ pub record WorksOn (opening : ℕ) (config : Configuration) (core : CoreState) (
   pub came : messages after ≡ messages h
   pub count : processed after ≡ processed h
 
--- the same where jobs went out until no more may be out, as `is_full` says, or no text is left to be worked on
-pub record HandsOut (opening : ℕ) (config : Configuration) (core : CoreState) (h : List Event) (is_full : Type 0) : Type 0 where
+-- the same where jobs went out until there is no room for more, or no text is wanted
+pub record HandsOut (opening : ℕ) (config : Configuration) (core : CoreState) (h : List Event) (no_room : Type 0) : Type 0 where
   pub works : WorksOn opening config core h
-  pub stops : is_full ⊎ IsFirstWanted opening (board_events config works.after) None
+  pub stops : no_room ⊎ IsFirstWanted opening (board_events config works.after) None
 
 -- the bodies of the replies to one more message
 abbrev pub replies_after : Configuration → List (List ℕ) → List ℕ → List (List ℕ)

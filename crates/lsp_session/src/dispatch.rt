@@ -7,6 +7,7 @@ ghost use Rattle.lsp_session.specs.Core.{Event, Give, IsAfter, Advances, board_e
 ghost use Rattle.lsp_session.specs.Run.{event_of, has_failed, incoming_of_done, verdicts_of};
 ghost use Rattle.lsp_session.specs.Steps.{Knows, Awaits, WorksOn, HandsOut, Progresses, replies_after};
 ghost use Rattle.lsp_session.specs.View.{core_state};
+ghost use Rattle.worker_pool.specs.SentJobs.{HasRoom};
 
 use crate::reply::Reply;
 use crate::session_core::Core;
@@ -39,10 +40,10 @@ fn hand_out_next<R: Wait>(rt: &R, core: &mut Core, pool: &mut Pool) -> Result<bo
     }
 }
 
-/// Hands out jobs, in the order of the paths, until none is left or 256 are out. `Memory` where memory is refused or
+/// Hands out jobs, in the order of the paths, until no text is wanted or the pool has no room. `Memory` where memory is refused or
 /// a job can't be sent, else the fault that the core has answered before.
 pub fn hand_out<R: Wait>(rt: &R, core: &mut Core, pool: &mut Pool) -> Result<(), ServeFault>
-    ensures hands { OnOk result ((opening : ℕ) (config : Configuration) (h : List Event) → IsAfter opening config (core_state core.old) h → HandsOut opening config (core_state core.new) h (¬ (pool.new.out < 256))) }
+    ensures hands { OnOk result ((opening : ℕ) (config : Configuration) (h : List Event) → IsAfter opening config (core_state core.old) h → HandsOut opening config (core_state core.new) h (¬ HasRoom pool.new.sent)) }
     ensures state { OnOk result ((core_state core.new).state ≡ (core_state core.old).state) }
     ensures fault { IfErr result IsOfCore }
 {

@@ -1,8 +1,8 @@
 //! A session with an editor (Language Server Protocol 3.17): what the server keeps, and what it replies.
 //!
 //! A [`Core`] takes the bodies of messages and gives the bodies of replies; it knows no streams. It gives a [`Job`] for each text,
-//! and takes what is made of it in any order; what is answered from an analysis waits until all work is there: requests, and the
-//! diagnostics that are published to an editor that doesn't ask for them. [`serve`] reads the
+//! and takes what is made of it in any order. Requests about files wait until all work is there, and so does each notification after which
+//! diagnostics are published, to an editor that doesn't ask for them. [`serve`] reads the
 //! messages from a stream of frames, lets workers do the work, and writes the replies to another stream, until the editor ends the
 //! session or the stream ends. [`run_core`] runs a core over a list of messages and of work that is brought. [`check`] lists what is wrong
 //! in the files of a configuration, without an editor.

@@ -71,8 +71,8 @@ impl Pending {
     }
 
     /// What is left for this client: nothing is published to one that asks for diagnostics itself.
-    pub fn to_client(self, client: ClientCapabilities) -> Pending
-        ensures { pending_view result ≡ spec.to_client (client_view client) (pending_view self) }
+    pub fn for_client(self, client: ClientCapabilities) -> Pending
+        ensures { pending_view result ≡ spec.for_client (client_view client) (pending_view self) }
     {
         if client.pulls_diagnostics {
             Pending::Nothing

@@ -115,7 +115,7 @@ fn run<
 /// Serves a session: reads the messages of an editor from the frames of `reader`, and writes a frame to `writer` for
 /// each reply, before the next message is read. So many `workers` lex and parse the texts in threads of their own, and gather
 /// their facts; 0 counts as 1, and over 64 as 64. Each enters the gate before it works on a text. A text is handed
-/// out as soon as fewer than 256 are with the workers, not only when a message asks for it. If a message needs a whole analysis, as
+/// out as soon as the workers have room for one more, not only when a message asks for it. If a message needs a whole analysis, as
 /// many threads resolve the names of the files, but never more than there are files; each enters the gate before each of its files.
 /// After changes of at most 64 texts, and if files came or left, this thread does it alone.
 ///

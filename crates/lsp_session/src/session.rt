@@ -150,7 +150,7 @@ impl Session {
         params: Value,
     ) -> Result<Pending, BoardFault>
         ensures state { OnOk result (state_of self.new workspace.new ≡ spec.running_notification (state_of self.old workspace.old) method (view params)) }
-        ensures pending { IfOk result (λ p. pending_view p ≡ spec.running_told (state_of self.old workspace.old) method (view params)) }
+        ensures pending { IfOk result (λ p. pending_view p ≡ spec.running_publishes (state_of self.old workspace.old) method (view params)) }
         ensures board { OnOk result ((opening : ℕ) (events : List Event) → IsAfter opening workspace.old.board events
             → IsAfter opening workspace.new.board (working.events_by_method (state_of self.old workspace.old) method (view params) workspace.new.files ++ events)) }
         ensures exhausted { result ≡ Err BoardFault.Exhausted → IsExhausted workspace.new.board }
@@ -179,7 +179,7 @@ impl Session {
         ensures state { OnOk result (state_of self.new workspace.new
             ≡ spec.notified (phase_of self.old) (state_of self.old workspace.old) method (view params)) }
         ensures pending { IfOk result (λ p. pending_view p
-            ≡ spec.told (phase_of self.old) (state_of self.old workspace.old) method (view params)) }
+            ≡ spec.publishes (phase_of self.old) (state_of self.old workspace.old) method (view params)) }
         ensures board { OnOk result ((opening : ℕ) (events : List Event) → IsAfter opening workspace.old.board events
             → IsAfter opening workspace.new.board (working.events_in_phase (phase_of self.old) (state_of self.old workspace.old) method (view params) workspace.new.files ++ events)) }
         ensures exhausted { result ≡ Err BoardFault.Exhausted → IsExhausted workspace.new.board }
@@ -188,7 +188,7 @@ impl Session {
             (Phase::Running, _) => {
                 let client = self.client;
                 let pending = self.running_notification(workspace, method, params)?;
-                Ok(pending.to_client(client))
+                Ok(pending.for_client(client))
             }
             (Phase::Uninitialized, Some(Method::Exit)) => {
                 self.phase = Phase::Exited {

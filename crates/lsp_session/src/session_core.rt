@@ -26,8 +26,8 @@ use std::thread::Threads;
 use work_index::{AnalyseFault, Done, Gate};
 
 /// A session that takes the bodies of messages and gives the bodies of replies. The work on the texts is done outside: the core
-/// gives jobs, and takes what is made of them, in any order. What is answered from an analysis waits until the work on each text is there,
-/// and all later messages wait behind it: the requests about files, and, where diagnostics are published, each notification about a document.
+/// gives jobs, and takes what is made of them, in any order. Requests about files wait until the work on each text is there, and so does each
+/// notification after which something is published; all later messages wait behind them.
 ///
 /// After a fault each call that answers a `Result` answers that fault, and changes nothing then.
 #[derive(Drop)]

@@ -27,4 +27,4 @@ pub returns-in-Ok-false-clause-state : goal.returns-in-Ok-false-clause-state
 returns-in-Ok-false-clause-state g c = c.in-Ok-false.ensures.state ∙ c.jobs.invariant.state
 
 pub returns-clause-hands : goal.returns-clause-hands
-returns-clause-hands g c = λ opening config h after. record { works = c.jobs.invariant.works opening config h after; stops = inl (λ room. false≢true (sym c.jobs-test.false ∙ c.has_room.ensures.1 room)) }
+returns-clause-hands g c = λ opening config h after. record { works = c.jobs.invariant.works opening config h after; stops = inl (λ room. false≢true (sym c.jobs-test.false ∙ c.has_room.ensures.room.1 room)) }
