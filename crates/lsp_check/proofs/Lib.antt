@@ -1,2 +1,5 @@
+mod CountLemmas
+mod Crossing
+mod LineLemmas
 mod LinesLemmas
 mod ListedShares

@@ -6,11 +6,11 @@ use Rattle.std.specs.declared.alloc.AllocError.{AllocError}
 use Rattle.std.specs.declared.thread.PromisedHandle.{PromisedHandle}
 use Rattle.std.specs.declared.thread.Promise as Promise
 use Rattle.std.specs.PromisedHandle.{KeepsEach}
-use Rattle.work_index.specs.Workspace.{Workspace}
 use Rattle.work_index.proofs.Kept.{KeptAt, kept_at}
 use Rattle.lsp_check.specs.Steps.{AreAnswered, AreLinesBetween, left_from}
-use Rattle.lsp_check.specs.declared.listing.ShareLines.{ShareLines}
-use Rattle.lsp_check.specs.declared.listing.ShareListed.{ShareListed}
+use Rattle.lsp_check.specs.declared.listed.Listed.{Listed}
+use Rattle.lsp_check.specs.declared.shares.ShareLines.{ShareLines}
+use Rattle.lsp_check.specs.declared.shares.ShareListed.{ShareListed}
 use Rattle.lsp_check.proofs.LinesLemmas.{none-left}
 
 abbrev pub Answer : Type 0
@@ -26,35 +26,35 @@ abbrev fine : ShareLines → Answer
 fine p = Ok p
 
 -- the promises are of consecutive files of the workspace, the first of which begins at n, and the last ends at m
-abbrev pub AreConsecutive : ℕ → ℕ → Workspace → List Handle → Type 0
-AreConsecutive n m w [] = n ≡ m
-AreConsecutive n m w (h ∷ hs) = (h.promise.first ≡ n) × ((h.promise.files.value ≡ w) × AreConsecutive h.promise.end m w hs)
+abbrev pub AreConsecutive : ℕ → ℕ → Listed → List Handle → Type 0
+AreConsecutive n m l [] = n ≡ m
+AreConsecutive n m l (h ∷ hs) = (h.promise.first ≡ n) × ((h.promise.listed.value ≡ l) × AreConsecutive h.promise.end m l hs)
 
 -- one more promise
-pub one_more : (n m : ℕ) (w : Workspace) (hs : List Handle) (h : Handle) → AreConsecutive n m w hs → h.promise.first ≡ m → h.promise.files.value ≡ w → AreConsecutive n h.promise.end w (hs ++ h ∷ [])
-one_more n m w [] h c first files = (first ∙ sym c, (files, refl))
-one_more n m w (x ∷ hs) h c first files = (c.0, (c.1.0, one_more x.promise.end m w hs h c.1.1 first files))
+pub one_more : (n m : ℕ) (l : Listed) (hs : List Handle) (h : Handle) → AreConsecutive n m l hs → h.promise.first ≡ m → h.promise.listed.value ≡ l → AreConsecutive n h.promise.end l (hs ++ h ∷ [])
+one_more n m l [] h c first files = (first ∙ sym c, (files, refl))
+one_more n m l (x ∷ hs) h c first files = (c.0, (c.1.0, one_more x.promise.end m l hs h c.1.1 first files))
 
-module _ (g : Promise.Ghosts ShareListed Answer) (keep : (p : ShareListed) (r : Answer) → g.kept_by p r → IfOk r (λ share. AreLinesBetween p.first p.end p.files.value share.lines.items)) where
-  together : (hs : List Handle) (shares : List ShareLines) (n m : ℕ) (w : Workspace) → length hs ≡ length shares → AreConsecutive n m w hs
-      → ((i : ℕ) (r : Answer) → slice_get (map Ok shares) i ≡ Some r → KeptAt g hs i r) → left_from n w ≡ lines_in shares ++ left_from m w
-  together [] [] n m w len c kept = ap (λ k. left_from k w) c
-  together [] (p ∷ shares) n m w len c kept = absurd (omega (arith, len))
-  together (h ∷ hs) [] n m w len c kept = absurd (omega (arith, len))
-  together (h ∷ hs) (p ∷ shares) n m w len c kept =
+module _ (g : Promise.Ghosts ShareListed Answer) (keep : (p : ShareListed) (r : Answer) → g.kept_by p r → IfOk r (λ share. AreLinesBetween p.first p.end p.listed.value share.lines.items)) where
+  together : (hs : List Handle) (shares : List ShareLines) (n m : ℕ) (l : Listed) → length hs ≡ length shares → AreConsecutive n m l hs
+      → ((i : ℕ) (r : Answer) → slice_get (map Ok shares) i ≡ Some r → KeptAt g hs i r) → left_from n l ≡ lines_in shares ++ left_from m l
+  together [] [] n m l len c kept = ap (λ k. left_from k l) c
+  together [] (p ∷ shares) n m l len c kept = absurd (omega (arith, len))
+  together (h ∷ hs) [] n m l len c kept = absurd (omega (arith, len))
+  together (h ∷ hs) (p ∷ shares) n m l len c kept =
       let k = kept 0 (Ok p) refl in
       let same : h ≡ k.handle = same_Some h k.handle k.stands in
-      let made : AreLinesBetween h.promise.first h.promise.end h.promise.files.value p.lines.items = keep h.promise (Ok p) (subst (λ (x : Handle). g.kept_by x.promise (Ok p)) (sym same) k.kept) in
-      let here : AreLinesBetween n h.promise.end w p.lines.items = subst (λ v. AreLinesBetween n h.promise.end v p.lines.items) c.1.0 (subst (λ k. AreLinesBetween k h.promise.end h.promise.files.value p.lines.items) c.0 made) in
-      let rest = together hs shares h.promise.end m w (omega (arith, len)) c.1.1 (λ i r at. let x = kept (suc i) r at in record { handle = x.handle; stands = x.stands; kept = x.kept }) in
-      here.joined ∙ ap (λ l. p.lines.items ++ l) rest ∙ sym (append_assoc p.lines.items (lines_in shares) (left_from m w))
+      let made : AreLinesBetween h.promise.first h.promise.end h.promise.listed.value p.lines.items = keep h.promise (Ok p) (subst (λ (x : Handle). g.kept_by x.promise (Ok p)) (sym same) k.kept) in
+      let here : AreLinesBetween n h.promise.end l p.lines.items = subst (λ v. AreLinesBetween n h.promise.end v p.lines.items) c.1.0 (subst (λ k. AreLinesBetween k h.promise.end h.promise.listed.value p.lines.items) c.0 made) in
+      let rest = together hs shares h.promise.end m l (omega (arith, len)) c.1.1 (λ i r at. let x = kept (suc i) r at in record { handle = x.handle; stands = x.stands; kept = x.kept }) in
+      here.joined ∙ ap (λ l. p.lines.items ++ l) rest ∙ sym (append_assoc p.lines.items (lines_in shares) (left_from m l))
 
   -- what the joined threads promised is what is asked of the answers
-  pub all_answered : (m : ℕ) (w : Workspace) (hs : List Handle) (rs : List Answer) (n : ℕ) → AreConsecutive 0 m w hs → length w ≤ m
-      → n ≡ length hs → length rs ≡ n → KeepsEach g n hs rs → AreAnswered w rs
-  all_answered m w hs rs n c whole count len keeps =
+  pub all_answered : (m : ℕ) (l : Listed) (hs : List Handle) (rs : List Answer) (n : ℕ) → AreConsecutive 0 m l hs → length l.files ≤ m
+      → n ≡ length hs → length rs ≡ n → KeepsEach g n hs rs → AreAnswered l rs
+  all_answered m l hs rs n c whole count len keeps =
       λ shares same.
       let kept : (i : ℕ) (r : Answer) → slice_get (map Ok shares) i ≡ Some r → KeptAt g hs i r = λ i r at. kept_at g hs rs n count len keeps i r (ap (λ xs. slice_get xs i) same ∙ at) in
       let long : length hs ≡ length shares = omega (arith, count, len, ap length same, length-map shares fine) in
-      let all = together hs shares 0 m w long c kept in
-      sym (all ∙ ap (λ l. lines_in shares ++ l) (none-left w m whole) ∙ append-nil (lines_in shares))
+      let all = together hs shares 0 m l long c kept in
+      sym (all ∙ ap (λ l. lines_in shares ++ l) (none-left l m whole) ∙ append-nil (lines_in shares))

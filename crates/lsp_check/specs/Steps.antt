@@ -1,5 +1,5 @@
 -- What the private steps of a check promise each other.
-use Rattle.std.specs.Prelude.{◌≡◌, ℕ, List, ◌++◌, Option, Result, Ok, string_bytes, drop, flat_map, map}
+use Rattle.std.specs.Prelude.{◌≡◌, ℕ, List, [], ◌++◌, Option, Result, Ok, string_bytes, slice_index_or, drop, flat_map, map}
 use Rattle.std.specs.List.{enumerate_from}
 use Rattle.std.specs.declared.alloc.AllocError.{AllocError}
 use Rattle.std.specs.Io.KnownBytes.{Appends}
@@ -8,9 +8,10 @@ use Rattle.piece_collector.specs.History.{failure_on, stands_at}
 use Rattle.piece_collector.specs.declared.verdict.Verdict.TheVariants.{Taken}
 use Rattle.work_index.specs.declared.done.Done.{Done}
 use Rattle.work_index.specs.declared.done.Done.TheVariants as job
-use Rattle.work_index.specs.Workspace.{Workspace, analysis}
-use Rattle.lsp_check.specs.Listing.{numbered_lines, listing}
-use Rattle.lsp_check.specs.declared.listing.ShareLines.{ShareLines}
+use Rattle.work_index.specs.Workspace.{analysis}
+use Rattle.lsp_check.specs.Listing.{file_lines, lines_with}
+use Rattle.lsp_check.specs.declared.listed.Listed.{Listed}
+use Rattle.lsp_check.specs.declared.shares.ShareLines.{ShareLines}
 
 -- of these bytes a front went out, and `left` is left
 pub record Sent (old new : Option (List ℕ)) (all left : List ℕ) : Type 0 where
@@ -28,16 +29,25 @@ abbrev pub IsCountedFailure : ℕ → List Event → Done → Type 0
 IsCountedFailure opening events (job.Made piece) = ⊥
 IsCountedFailure opening events (job.Failed path stamp) = failure_on stamp (stands_at opening events (string_bytes path)) ≡ Taken
 
--- ---- lines that threads make
+-- ---- the lines of the files, one file after the other
+
+-- the lines of the file with a number
+abbrev pub lines_at : Listed → ℕ → List ℕ
+lines_at l n = file_lines l.how l.roots.items (analysis l.files) (n, slice_index_or l.files n ([], []))
 
 -- the lines of the files from a number on
-abbrev pub left_from : ℕ → Workspace → List ℕ
-left_from n w = flat_map (numbered_lines (analysis w)) (enumerate_from n (drop n w))
+abbrev pub left_from : ℕ → Listed → List ℕ
+left_from n l = flat_map (file_lines l.how l.roots.items (analysis l.files)) (enumerate_from n (drop n l.files))
+
+abbrev pub all_lines : Listed → List ℕ
+all_lines l = lines_with l.how l.roots.items l.files
+
+-- ---- lines that threads make
 
 -- these are the lines of the files from one number on, up to the one before another
-pub record AreLinesBetween (first end : ℕ) (w : Workspace) (lines : List ℕ) : Type 0 where
-  pub joined : left_from first w ≡ lines ++ left_from end w
+pub record AreLinesBetween (first end : ℕ) (l : Listed) (lines : List ℕ) : Type 0 where
+  pub joined : left_from first l ≡ lines ++ left_from end l
 
 -- where no answer is a refusal, they are the lines of all files
-abbrev pub AreAnswered : Workspace → List (Result ShareLines AllocError) → Type 0
-AreAnswered w answers = (shares : List ShareLines) → answers ≡ map Ok shares → flat_map (λ share. share.lines.items) shares ≡ listing w
+abbrev pub AreAnswered : Listed → List (Result ShareLines AllocError) → Type 0
+AreAnswered l answers = (shares : List ShareLines) → answers ≡ map Ok shares → flat_map (λ share. share.lines.items) shares ≡ all_lines l

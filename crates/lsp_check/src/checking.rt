@@ -1,23 +1,24 @@
 // The check of a workspace, without an editor.
 ghost use Rattle.std.specs.Prelude.{◌≡◌, ◌+◌, ◌≤◌, [], ◌++◌, flat_map, IfOk, IfErr, OnOk, OnErr};
 ghost use Rattle.std.specs.Io.KnownBytes.{Appends};
-ghost use Rattle.doc_text.specs.declared.encoding.Encoding.TheVariants.{Utf16};
 ghost use Rattle.lsp_frame.specs.Counts.{NoneFell, NoError};
 ghost use Rattle.lsp_workspace.specs.Files.{workspace};
-ghost use Rattle.lsp_check.specs.Listing.{lines_of, listing, has_errors};
-ghost use Rattle.lsp_check.specs.Steps.{Sent};
+ghost use Rattle.lsp_check.specs.Lines.{written};
+ghost use Rattle.lsp_check.specs.Listing.{listing, has_errors, listed, checked_of};
+ghost use Rattle.lsp_check.specs.Steps.{Sent, all_lines};
 ghost use Rattle.lsp_config.specs.Configuration.{files_of};
 ghost use Rattle.lsp_config.specs.Fault.{ComesWhileChecking, NoErrorUnless};
 ghost use Rattle.lsp_config.specs.Sending.{SendsPrefix};
 
-use crate::diagnosing::diagnose_files;
-use crate::lines::{diagnostic_count, has_errors, push_lines};
-use crate::listing::{ShareLines, lines_in_shares};
-use doc_text::{Encoding, Walk};
+use crate::diagnosing::{DiagnosedRoots, diagnose_files};
+use crate::format::Format;
+use crate::lines::ListedFile;
+use crate::listed::Listed;
+use crate::shares::{ShareLines, lines_in_shares};
+use crate::wanted::{Asked, Checked, Listing};
 use file_facts::Diag;
 use lsp_config::{Config, CoreFault, ServeFault};
 use lsp_frame::{ByteSink, write_bytes};
-use lsp_workspace::DiagnosedFiles;
 use std::alloc::Global;
 use std::marker::Send;
 use std::mem;
@@ -57,27 +58,25 @@ fn flush<K: ByteSink>(writer: &mut K, room: &mut Vec<u8>) -> Result<(), ServeFau
     }
 }
 
-// Adds to the room the lines of some diagnostics of a file, along whose text the walk goes, and writes the room if it is full.
+// Adds to the room the lines of some diagnostics of a file, and writes the room if it is full.
 fn add_part<K: ByteSink>(
     writer: &mut K,
     room: &mut Vec<u8>,
-    path: &str,
-    walk: &mut Walk<'_>,
+    file: &mut ListedFile<'_>,
     diags: &[Diag],
 ) -> Result<(), ServeFault>
-    requires { walk.old.encoding ≡ Utf16 }
-    ensures same { walk.new ≡ walk.old }
+    ensures same { file.new ≡ file.old }
 
     // Of what the room held and the lines behind it a front went out, and the room holds the others.
-    ensures ok { OnOk result (Sent (K.written writer.old) (K.written writer.new) (room.old.items ++ lines_of path.now walk.old.text diags.now) room.new.items) }
-    ensures err { OnErr result (SendsPrefix (K.written writer.old) (K.written writer.new) (room.old.items ++ lines_of path.now walk.old.text diags.now)) }
+    ensures ok { OnOk result (Sent (K.written writer.old) (K.written writer.new) (room.old.items ++ written file.old diags.now) room.new.items) }
+    ensures err { OnErr result (SendsPrefix (K.written writer.old) (K.written writer.new) (room.old.items ++ written file.old diags.now)) }
     ensures fault { IfErr result (ComesWhileChecking (K.counts writer.old) (K.counts writer.new)) }
     ensures counts { NoneFell (K.counts writer.old) (K.counts writer.new) }
     ensures calm { OnOk result (NoError (K.counts writer.old) (K.counts writer.new)) }
     ensures reported { IfErr result (NoErrorUnless ServeFault.Write (K.counts writer.old) (K.counts writer.new)) }
     ensures once { (K.counts writer.new).errors ≤ (K.counts writer.old).errors + 1 }
 {
-    let Ok(()) = push_lines(room, path, walk, diags) else {
+    let Ok(()) = file.push_lines(room, diags) else {
         return Err(ServeFault::Memory);
     };
     if room.len() < FULL {
@@ -90,50 +89,43 @@ fn add_part<K: ByteSink>(
 fn add_lines<K: ByteSink>(
     writer: &mut K,
     room: &mut Vec<u8>,
-    path: &str,
-    text: &str,
+    file: &mut ListedFile<'_>,
     diags: &[Diag],
 ) -> Result<(), ServeFault>
-    ensures ok { OnOk result (Sent (K.written writer.old) (K.written writer.new) (room.old.items ++ lines_of path.now text.now diags.now) room.new.items) }
-    ensures err { OnErr result (SendsPrefix (K.written writer.old) (K.written writer.new) (room.old.items ++ lines_of path.now text.now diags.now)) }
+    ensures ok { OnOk result (Sent (K.written writer.old) (K.written writer.new) (room.old.items ++ written file.old diags.now) room.new.items) }
+    ensures err { OnErr result (SendsPrefix (K.written writer.old) (K.written writer.new) (room.old.items ++ written file.old diags.now)) }
     ensures fault { IfErr result (ComesWhileChecking (K.counts writer.old) (K.counts writer.new)) }
     ensures counts { NoneFell (K.counts writer.old) (K.counts writer.new) }
     ensures calm { OnOk result (NoError (K.counts writer.old) (K.counts writer.new)) }
     ensures reported { IfErr result (NoErrorUnless ServeFault.Write (K.counts writer.old) (K.counts writer.new)) }
     ensures once { (K.counts writer.new).errors ≤ (K.counts writer.old).errors + 1 }
 {
-    let mut walk = Walk::new(text, Encoding::Utf16);
     let mut left = diags;
     'parts: while !left.is_empty() {
         let (part, more) = left.split_at(left.len().min(LINES));
-        add_part(writer, room, path, &mut walk, part)?;
+        add_part(writer, room, file, part)?;
         left = more;
     }
     Ok(())
 }
 
-// Makes and writes the lines of the files of a workspace, one file after the other.
+// Makes and writes the lines that are asked for, one file after the other.
 fn send_in_turn<K: ByteSink>(
     alloc: Global,
     writer: &mut K,
-    files: &DiagnosedFiles,
+    listed: &Listed,
 ) -> Result<(), ServeFault>
-    ensures ok { OnOk result (Appends (K.written writer.old) (K.written writer.new) (listing files.now)) }
-    ensures err { OnErr result (SendsPrefix (K.written writer.old) (K.written writer.new) (listing files.now)) }
+    ensures ok { OnOk result (Appends (K.written writer.old) (K.written writer.new) (all_lines listed.now)) }
+    ensures err { OnErr result (SendsPrefix (K.written writer.old) (K.written writer.new) (all_lines listed.now)) }
     ensures fault { IfErr result (ComesWhileChecking (K.counts writer.old) (K.counts writer.new)) }
     ensures calm { OnOk result (NoError (K.counts writer.old) (K.counts writer.new)) }
     ensures reported { IfErr result (NoErrorUnless ServeFault.Write (K.counts writer.old) (K.counts writer.new)) }
     ensures once { (K.counts writer.new).errors ≤ (K.counts writer.old).errors + 1 }
 {
     let mut room = Vec::new(alloc);
-    for number in 0..files.file_count() {
-        add_lines(
-            writer,
-            &mut room,
-            files.path(number),
-            files.text(number),
-            files.diagnosis().diagnostics(number),
-        )?;
+    for number in 0..listed.files.file_count() {
+        let mut file = listed.file(alloc, number);
+        add_lines(writer, &mut room, &mut file, listed.diagnostics(number))?;
     }
     flush(writer, &mut room)
 }
@@ -154,75 +146,77 @@ fn send_shares<K: ByteSink>(writer: &mut K, shares: Vec<ShareLines>) -> Result<(
     Ok(())
 }
 
-// Has threads make the lines of the files of a workspace, in shares of at least so many diagnostics, and writes them.
+// Has threads make the lines that are asked for, in shares of at least so many diagnostics, and writes them.
 fn send_by_threads<R: Threads + Wait, K: ByteSink>(
     rt: &R,
     alloc: Global,
     writer: &mut K,
-    files: &DiagnosedFiles,
+    listed: &Listed,
     least: usize,
 ) -> Result<(), ServeFault>
-    ensures ok { OnOk result (Appends (K.written writer.old) (K.written writer.new) (listing files.now)) }
-    ensures err { OnErr result (SendsPrefix (K.written writer.old) (K.written writer.new) (listing files.now)) }
+    ensures ok { OnOk result (Appends (K.written writer.old) (K.written writer.new) (all_lines listed.now)) }
+    ensures err { OnErr result (SendsPrefix (K.written writer.old) (K.written writer.new) (all_lines listed.now)) }
     ensures fault { IfErr result (ComesWhileChecking (K.counts writer.old) (K.counts writer.new)) }
     ensures calm { OnOk result (NoError (K.counts writer.old) (K.counts writer.new)) }
     ensures reported { IfErr result (NoErrorUnless ServeFault.Write (K.counts writer.old) (K.counts writer.new)) }
     ensures once { (K.counts writer.new).errors ≤ (K.counts writer.old).errors + 1 }
 {
-    match lines_in_shares(rt, alloc, files, least) {
+    match lines_in_shares(rt, alloc, listed, least) {
         Ok(shares) => send_shares(writer, shares),
         Err(fault) => Err(ServeFault::from(CoreFault::from(fault))),
     }
 }
 
-// Writes the lines of the files of a workspace. If they are neither few nor very many, and there are several workers, threads make them.
+// Writes the lines that are asked for. If they are neither few nor very many, and there are several workers, threads make them.
 fn send_all<R: Threads + Wait, K: ByteSink>(
     rt: &R,
     alloc: Global,
     writer: &mut K,
-    files: &DiagnosedFiles,
+    listed: &Listed,
     workers: usize,
 ) -> Result<(), ServeFault>
-    ensures ok { OnOk result (Appends (K.written writer.old) (K.written writer.new) (listing files.now)) }
-    ensures err { OnErr result (SendsPrefix (K.written writer.old) (K.written writer.new) (listing files.now)) }
+    ensures ok { OnOk result (Appends (K.written writer.old) (K.written writer.new) (all_lines listed.now)) }
+    ensures err { OnErr result (SendsPrefix (K.written writer.old) (K.written writer.new) (all_lines listed.now)) }
     ensures fault { IfErr result (ComesWhileChecking (K.counts writer.old) (K.counts writer.new)) }
     ensures calm { OnOk result (NoError (K.counts writer.old) (K.counts writer.new)) }
     ensures reported { IfErr result (NoErrorUnless ServeFault.Write (K.counts writer.old) (K.counts writer.new)) }
     ensures once { (K.counts writer.new).errors ≤ (K.counts writer.old).errors + 1 }
 {
-    let count = diagnostic_count(files);
+    let count = listed.line_count();
     if workers < 2 || count < FEW || count > MANY {
-        return send_in_turn(alloc, writer, files);
+        return send_in_turn(alloc, writer, listed);
     }
-    send_by_threads(rt, alloc, writer, files, count.div_ceil(workers.min(64)))
+    send_by_threads(rt, alloc, writer, listed, count.div_ceil(workers.min(64)))
 }
 
-// Writes the lines of the files of a workspace, and answers whether there is an error.
+// Writes the lines that are asked for, and answers what was found.
 fn send_and_judge<R: Threads + Wait, K: ByteSink>(
     rt: &R,
     alloc: Global,
     writer: &mut K,
-    files: &DiagnosedFiles,
+    listed: &Listed,
     workers: usize,
-) -> Result<bool, ServeFault>
-    ensures prefix { SendsPrefix (K.written writer.old) (K.written writer.new) (listing files.now) }
-    ensures whole { OnOk result (Appends (K.written writer.old) (K.written writer.new) (listing files.now)) }
-    ensures errors { IfOk result (λ found. found ≡ has_errors files.now) }
+) -> Result<Checked, ServeFault>
+    ensures prefix { SendsPrefix (K.written writer.old) (K.written writer.new) (all_lines listed.now) }
+    ensures whole { OnOk result (Appends (K.written writer.old) (K.written writer.new) (all_lines listed.now)) }
+    ensures checked { IfOk result (λ found. found ≡ checked_of listed.now.how listed.now.files) }
     ensures fault { IfErr result (ComesWhileChecking (K.counts writer.old) (K.counts writer.new)) }
     ensures calm { OnOk result (NoError (K.counts writer.old) (K.counts writer.new)) }
     ensures reported { IfErr result (NoErrorUnless ServeFault.Write (K.counts writer.old) (K.counts writer.new)) }
     ensures once { (K.counts writer.new).errors ≤ (K.counts writer.old).errors + 1 }
 {
-    send_all(rt, alloc, writer, files, workers)?;
-    Ok(has_errors(files))
+    send_all(rt, alloc, writer, listed, workers)?;
+    Ok(listed.checked())
 }
 
-/// Checks the files of a configuration: writes a line for each diagnostic, and answers whether one is an error.
+/// Checks the files of a configuration: writes a line for each diagnostic of the files that are asked for, as it is asked for, and answers
+/// how many of these files there are, and how many errors.
 ///
-/// A line is `path:line:column: number message`, with line and column from 1 and columns in UTF-16 units, and ends with a
-/// line feed. The lines come by path, and those of a file by start, end, number and words. They are gathered in memory and
+/// The lines come by path, and those of a file by start, end, number and words. Each ends with a line feed. They are gathered in memory and
 /// written whenever they come to 64 KiB, and at the end: at most 4,096 lines beyond 64 KiB are in memory at a time. But if there are
 /// several workers and 1,024 to 65,536 diagnostics, threads make all lines, each those of consecutive files, and these are written then.
+///
+/// All files are analysed, whichever are asked for.
 ///
 /// As many threads as there are `workers` do the work on the texts, and then as many, but never more than there are files, link them: 0
 /// counts as 1, and over 64 as 64. If threads make the lines, there are at most as many, and one more if files without diagnostics are left
@@ -235,6 +229,49 @@ fn send_and_judge<R: Threads + Wait, K: ByteSink>(
 /// The only faults are `Write` where the sink failed, `Memory` where memory was refused, also to a worker, or where a job
 /// couldn't be sent, and `ThreadRefused` where a thread was or where no worker is left. Whatever it ends with, what was written
 /// is a prefix of the lines, and all of them where no fault came.
+pub fn check_as<R: Threads + Wait + Clone + Send + Drop + 'static, K: ByteSink, G: Gate + 'static>(
+    rt: &R,
+    alloc: Global,
+    writer: &mut K,
+    gate: &Arc<G>,
+    asked: Asked,
+) -> Result<Checked, ServeFault>
+    // At every return what was written is a prefix of the lines, and all of them at `Ok`.
+    ensures prefix { SendsPrefix (K.written writer.old) (K.written writer.new) (listed asked.how (files_of asked.config)) }
+    ensures whole { OnOk result (Appends (K.written writer.old) (K.written writer.new) (listed asked.how (files_of asked.config))) }
+
+    // It answers how many files are asked for, and how many of their diagnostics are errors.
+    ensures checked { IfOk result (λ found. found ≡ checked_of asked.how (workspace (files_of asked.config))) }
+
+    // The faults are those of memory and threads, and the sink's, which is reported only where the sink failed in the call.
+    ensures fault { IfErr result (ComesWhileChecking (K.counts writer.old) (K.counts writer.new)) }
+
+    // It ends well only where no error of the sink came, an error is reported as `Write`, and nothing more is written after one.
+    ensures calm { OnOk result (NoError (K.counts writer.old) (K.counts writer.new)) }
+    ensures reported { IfErr result (NoErrorUnless ServeFault.Write (K.counts writer.old) (K.counts writer.new)) }
+    ensures once { (K.counts writer.new).errors ≤ (K.counts writer.old).errors + 1 }
+{
+    let Asked {
+        config,
+        how,
+        workers,
+    } = asked;
+    match diagnose_files(rt, alloc, gate, config, workers) {
+        Ok(found) => {
+            let DiagnosedRoots { files, roots } = found;
+            let listed = Listed { how, files, roots };
+            let checked = send_and_judge(rt, alloc, writer, &listed, workers);
+            mem::forget(listed);
+            checked
+        }
+        Err(fault) => Err(fault),
+    }
+}
+
+/// Checks the files of a configuration: writes a line for each diagnostic, and answers whether one is an error.
+///
+/// A line is `path:line:column: number message`, with line and column from 1 and columns in UTF-16 units, and ends with a
+/// line feed. Lines, threads, memory and faults are as [`check_as`] says.
 pub fn check<R: Threads + Wait + Clone + Send + Drop + 'static, K: ByteSink, G: Gate + 'static>(
     rt: &R,
     alloc: Global,
@@ -258,12 +295,18 @@ pub fn check<R: Threads + Wait + Clone + Send + Drop + 'static, K: ByteSink, G: 
     ensures reported { IfErr result (NoErrorUnless ServeFault.Write (K.counts writer.old) (K.counts writer.new)) }
     ensures once { (K.counts writer.new).errors ≤ (K.counts writer.old).errors + 1 }
 {
-    match diagnose_files(rt, alloc, gate, config, workers) {
-        Ok(files) => {
-            let found = send_and_judge(rt, alloc, writer, &files, workers);
-            mem::forget(files);
-            found
-        }
+    let how = Listing {
+        format: Format::Plain,
+        folders: Vec::new(alloc),
+        only: None,
+    };
+    let asked = Asked {
+        config,
+        how,
+        workers,
+    };
+    match check_as(rt, alloc, writer, gate, asked) {
+        Ok(checked) => Ok(checked.errors > 0),
         Err(fault) => Err(fault),
     }
 }

@@ -1,16 +1,19 @@
 // The work on the files of a configuration, and their analysis, by workers.
-ghost use Rattle.std.specs.Prelude.{◌≡◌, ◌+◌, ◌<◌, ◌∷◌, ℕ, List, true, IfOk, IfErr, OnOk};
+ghost use Rattle.std.specs.Prelude.{◌≡◌, ◌+◌, ◌<◌, ◌∷◌, ◌++◌, ℕ, List, true, IfOk, IfErr, OnOk};
 ghost use Rattle.piece_collector.specs.Board.{IsAfter, IsFull};
 ghost use Rattle.piece_collector.specs.Events.{Event, NextJob};
 ghost use Rattle.lsp_config.specs.Configuration.{files_of};
 ghost use Rattle.lsp_config.specs.Fault.{IsOfWorkers};
 ghost use Rattle.lsp_workspace.specs.Files as texts;
+ghost use Rattle.lsp_workspace.specs.View.{file_view, files_view};
+ghost use Rattle.lsp_workspace.specs.Files.{text_of};
+ghost use Rattle.lsp_check.specs.Listing.{root_of_text, file_roots};
 ghost use Rattle.lsp_check.specs.Steps.{event_of, IsCountedFailure};
 
 use lsp_config::{Config, CoreFault, ServeFault};
-use lsp_workspace::{DiagnosedFiles, Workspace};
+use lsp_workspace::{DiagnosedFiles, FileEntry, Files, Workspace};
 use piece_collector::Verdict;
-use std::alloc::Global;
+use std::alloc::{AllocError, Global};
 use std::marker::Send;
 use std::sync::{Arc, Wait};
 use std::thread::Threads;
@@ -156,6 +159,35 @@ fn work_on_all<R: Threads + Wait + Clone + Send + Drop + 'static, G: Gate + 'sta
     }
 }
 
+// The files of a workspace with what is wrong in them, and the number of the root of each.
+#[derive(Drop)]
+pub struct DiagnosedRoots {
+    pub files: DiagnosedFiles,
+    pub roots: Vec<Option<usize>>,
+}
+
+// Adds the number of the root of a file, if it has a text.
+fn add_root(roots: &mut Vec<Option<usize>>, file: &FileEntry) -> Result<(), AllocError>
+    ensures { OnOk result (roots.new.items ≡ roots.old.items ++ root_of_text file.now.root (text_of (file_view file.now))) }
+{
+    match file.text() {
+        Some(_) => roots.push(file.root)?,
+        None => {}
+    }
+    Ok(())
+}
+
+// The number of the root under which each file that has a text was found.
+fn roots_of(alloc: Global, files: &Files) -> Result<Vec<Option<usize>>, AllocError>
+    ensures { IfOk result (λ roots. roots.items ≡ file_roots (files_view files.now.entries)) }
+{
+    let mut roots = Vec::with_capacity(alloc, files.len())?;
+    for (path, file) in files.iter() {
+        add_root(&mut roots, file)?;
+    }
+    Ok(roots)
+}
+
 // Has threads find what is wrong in the files of a workspace on which all work is done.
 fn diagnose<R: Threads + Wait, G: Gate>(
     rt: &R,
@@ -173,8 +205,30 @@ fn diagnose<R: Threads + Wait, G: Gate>(
     }
 }
 
-/// The files of a configuration with what is wrong in them. So many workers do the work on the texts, and have ended by then; so many
-/// threads link the files. Each enters the gate before it works on a text, and before it links a file.
+// Has threads find what is wrong in the files of a workspace on which all work is done, and tells their roots.
+fn diagnose_with_roots<R: Threads + Wait, G: Gate>(
+    rt: &R,
+    alloc: Global,
+    gate: &G,
+    files: Workspace,
+    workers: usize,
+) -> Result<DiagnosedRoots, ServeFault>
+    requires { IsFull files.board }
+    ensures files { IfOk result (λ found. found.files ≡ texts.workspace files.files) }
+    ensures roots { IfOk result (λ found. found.roots.items ≡ file_roots files.files) }
+    ensures fault { IfErr result IsOfWorkers }
+{
+    let Ok(roots) = roots_of(alloc, files.files()) else {
+        return Err(ServeFault::Memory);
+    };
+    match diagnose(rt, gate, files, workers) {
+        Ok(files) => Ok(DiagnosedRoots { files, roots }),
+        Err(fault) => Err(fault),
+    }
+}
+
+/// The files of a configuration with what is wrong in them, and their roots. So many workers do the work on the texts, and have ended by then;
+/// so many threads link the files. Each enters the gate before it works on a text, and before it links a file.
 ///
 /// `Memory` if memory was refused, or a job couldn't be sent, and `ThreadRefused` if a thread was, or if no worker is left.
 pub fn diagnose_files<R: Threads + Wait + Clone + Send + Drop + 'static, G: Gate + 'static>(
@@ -183,11 +237,12 @@ pub fn diagnose_files<R: Threads + Wait + Clone + Send + Drop + 'static, G: Gate
     gate: &Arc<G>,
     config: Config,
     workers: usize,
-) -> Result<DiagnosedFiles, ServeFault>
-    ensures files { IfOk result (λ found. found ≡ texts.workspace (files_of config)) }
+) -> Result<DiagnosedRoots, ServeFault>
+    ensures files { IfOk result (λ found. found.files ≡ texts.workspace (files_of config)) }
+    ensures roots { IfOk result (λ found. found.roots.items ≡ file_roots (files_of config)) }
     ensures fault { IfErr result IsOfWorkers }
 {
     let mut files = start_workspace(alloc, config)?;
     work_on_all(rt, alloc, gate, &mut files, workers)?;
-    diagnose(rt, &**gate, files, workers)
+    diagnose_with_roots(rt, alloc, &**gate, files, workers)
 }

@@ -3,7 +3,16 @@
 
 mod checking;
 mod diagnosing;
+mod format;
+mod github_line;
+mod gnu_line;
+mod json_line;
 mod lines;
-mod listing;
+mod listed;
+mod plain_line;
+mod shares;
+mod wanted;
 
-pub use checking::check;
+pub use checking::{check, check_as};
+pub use format::Format;
+pub use wanted::{Asked, Checked, Listing};

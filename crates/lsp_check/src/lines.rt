@@ -1,103 +1,129 @@
 // What is wrong in a file, as a command line shows it.
-ghost use Rattle.std.specs.Prelude.{◌≡◌, ◌++◌, decimal, IfOk, OnOk};
-ghost use Rattle.std.specs.List.{list_any};
-ghost use Rattle.doc_text.specs.declared.encoding.Encoding.TheVariants.{Utf16};
-ghost use Rattle.lsp_check.specs.Listing.{place_of, words_of, line_at, lines_of, is_error, has_errors};
+ghost use Rattle.std.specs.Prelude.{◌≡◌, ◌++◌, OnOk};
+ghost use Rattle.lsp_check.specs.Lines.{start_of, end_of, line_as, written};
 
-use doc_text::{Position, Walk};
-use file_facts::{Diag, Problem};
-use itoa::Buffer;
-use lsp_workspace::DiagnosedFiles;
-use sqlite_items::Items;
-use std::alloc::AllocError;
+use crate::format::Format;
+use crate::github_line::push_github_line;
+use crate::gnu_line::push_gnu_line;
+use crate::json_line::{Finding, push_json_line};
+use crate::plain_line::push_plain_line;
+use doc_text::{Encoding, Position, Walk};
+use file_facts::Diag;
+use std::alloc::{AllocError, Global};
+use std::marker::Model;
 
-fn push_number(out: &mut Vec<u8>, number: u128) -> Result<(), AllocError>
-    ensures { OnOk result (out.new.items ≡ out.old.items ++ decimal number) }
-{
-    let mut digits = Buffer::new();
-    out.extend_from_slice(digits.format(number).as_bytes())?;
-    Ok(())
+// A file whose lines are made: how, its folder as it is shown, its path below it, and walks along its text to where diagnostics begin and
+// to where they end.
+#[derive(Drop)]
+pub struct ListedFile<'a> {
+    alloc: Global,
+    format: Format,
+    folder: &'a str,
+    path: &'a str,
+    starts: Walk<'a>,
+    ends: Walk<'a>,
 }
 
-// Adds where a diagnostic stands.
-fn push_place(out: &mut Vec<u8>, path: &str, place: Position) -> Result<(), AllocError>
-    ensures { OnOk result (out.new.items ≡ out.old.items ++ place_of path.now place) }
-{
-    out.extend_from_slice(path.as_bytes())?;
-    out.extend_from_slice(b":")?;
-    push_number(out, place.line as u128 + 1)?;
-    out.extend_from_slice(b":")?;
-    push_number(out, place.character as u128 + 1)?;
-    Ok(())
+impl<'a> Model for ListedFile<'a> {
+    ghost use Rattle.std.specs.Prelude.{◌≡◌};
+    ghost use Rattle.doc_text.specs.declared.encoding.Encoding.TheVariants.{Utf16};
+    ghost use Rattle.lsp_check.specs.Lines.{ListedFileData};
+
+    ghost Value = { ListedFileData };
+
+    ghost view = { λ f. record { format = f.format; folder = f.folder.now; path = f.path.now; text = f.starts.text } };
+
+    ghost invariant = { λ f. (f.starts.encoding ≡ Utf16) × (f.ends ≡ f.starts) };
 }
 
-// Adds what a diagnostic says, and the line's end.
-fn push_message(out: &mut Vec<u8>, message: Problem) -> Result<(), AllocError>
-    ensures { OnOk result (out.new.items ≡ out.old.items ++ words_of message) }
-{
-    out.extend_from_slice(b": ")?;
-    push_number(out, message.code() as u128)?;
-    out.extend_from_slice(b" ")?;
-    out.extend_from_slice(message.text().as_bytes())?;
-    out.extend_from_slice(b"\n")?;
-    Ok(())
-}
-
-// Adds the line of a diagnostic of a file at a position.
-fn push_line(
-    out: &mut Vec<u8>,
-    path: &str,
-    place: Position,
-    message: Problem,
-) -> Result<(), AllocError>
-    ensures { OnOk result (out.new.items ≡ out.old.items ++ line_at path.now place message) }
-{
-    push_place(out, path, place)?;
-    push_message(out, message)?;
-    Ok(())
-}
-
-// Adds the lines of some diagnostics of a file, whose text the walk goes along.
-pub fn push_lines(
-    out: &mut Vec<u8>,
-    path: &str,
-    walk: &mut Walk<'_>,
-    diags: &[Diag],
-) -> Result<(), AllocError>
-    requires { walk.old.encoding ≡ Utf16 }
-    ensures lines { OnOk result (out.new.items ≡ out.old.items ++ lines_of path.now walk.old.text diags.now) }
-    ensures same { walk.new ≡ walk.old }
-{
-    for diag in diags {
-        push_line(out, path, walk.position_of(diag.start), diag.message)?;
+impl<'a> ListedFile<'a> {
+    // A file of a folder, with this path below it and this text.
+    pub fn new(
+        alloc: Global,
+        format: Format,
+        folder: &'a str,
+        path: &'a str,
+        text: &'a str,
+    ) -> ListedFile<'a>
+        ensures { result ≡ record { format = format; folder = folder.now; path = path.now; text = text.now } }
+    {
+        ListedFile {
+            alloc,
+            format,
+            folder,
+            path,
+            starts: Walk::new(text, Encoding::Utf16),
+            ends: Walk::new(text, Encoding::Utf16),
+        }
     }
-    Ok(())
-}
 
-fn is_error(diag: &Diag) -> bool
-    ensures { result ≡ is_error diag.now }
-{
-    diag.message.severity() == 1
-}
-
-fn any_error(diags: &Items<Diag>) -> bool
-    ensures { result ≡ list_any is_error diags.now }
-{
-    diags.as_slice().iter().any(is_error)
-}
-
-// Whether one of the diagnostics of the workspace is an error, and not an information.
-pub fn has_errors(files: &DiagnosedFiles) -> bool
-    ensures { result ≡ has_errors files.now }
-{
-    files.diagnosis().all_diagnostics().iter().any(any_error)
-}
-
-// How many diagnostics there are; the highest number if there are more.
-pub fn diagnostic_count(files: &DiagnosedFiles) -> usize {
-    let mut count = 0usize;
-    for diags in files.diagnosis().all_diagnostics() {
-        count = count.saturating_add(diags.as_slice().len());
+    // Where a diagnostic begins.
+    fn start_of(&mut self, diag: &Diag) -> Position
+        ensures position { result ≡ start_of self.old diag.now }
+        ensures same { self.new ≡ self.old }
+    {
+        self.starts.position_of(diag.start)
     }
-    count
+
+    // The first place behind it.
+    fn end_of(&mut self, diag: &Diag) -> Position
+        ensures position { result ≡ end_of self.old diag.now }
+        ensures same { self.new ≡ self.old }
+    {
+        self.ends.position_of(diag.end)
+    }
+
+    // Adds the JSON line of a diagnostic that begins at a position.
+    fn push_object(
+        &mut self,
+        out: &mut Vec<u8>,
+        start: Position,
+        diag: &Diag,
+    ) -> Result<(), AllocError>
+        requires { start ≡ start_of self.old diag.now }
+        ensures line { OnOk result (out.new.items ≡ out.old.items ++ line_as Format.Json self.old diag.now) }
+        ensures same { self.new ≡ self.old }
+    {
+        let finding = Finding {
+            folder: self.folder,
+            path: self.path,
+            start,
+            end: self.end_of(diag),
+            diag: *diag,
+        };
+        push_json_line(self.alloc, out, &finding)
+    }
+
+    // Adds the line of a diagnostic.
+    fn push_line(&mut self, out: &mut Vec<u8>, diag: &Diag) -> Result<(), AllocError>
+        ensures line { OnOk result (out.new.items ≡ out.old.items ++ line_as self.old.format self.old diag.now) }
+        ensures same { self.new ≡ self.old }
+    {
+        let start = self.start_of(diag);
+        match self.format {
+            Format::Plain => push_plain_line(out, self.path, start, diag.message),
+            Format::Gnu => push_gnu_line(out, self.folder, self.path, start, diag.message),
+            Format::Github => {
+                push_github_line(
+                    self.alloc,
+                    out,
+                    self.folder,
+                    self.path,
+                    (start, diag.message),
+                )
+            }
+            Format::Json => self.push_object(out, start, diag),
+        }
+    }
+
+    // Adds the lines of some diagnostics.
+    pub fn push_lines(&mut self, out: &mut Vec<u8>, diags: &[Diag]) -> Result<(), AllocError>
+        ensures lines { OnOk result (out.new.items ≡ out.old.items ++ written self.old diags.now) }
+        ensures same { self.new ≡ self.old }
+    {
+        for diag in diags {
+            self.push_line(out, diag)?;
+        }
+        Ok(())
+    }
 }

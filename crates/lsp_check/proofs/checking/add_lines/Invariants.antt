@@ -1,21 +1,20 @@
 use Rattle.std.proofs.Common.{◌≡◌, ◌++◌, length}
-use Rattle.doc_text.specs.declared.encoding.Encoding.TheVariants.{Utf16}
 use Rattle.lsp_frame.specs.Counts.{NoneFell, NoError}
-use Rattle.lsp_check.specs.Listing.{lines_of}
+use Rattle.lsp_check.specs.Lines.{written}
 use Rattle.lsp_check.specs.Steps.{Sent}
 use Rattle.lsp_check.proofs.checking.add_lines.Given as goal
 
 -- what the room holds, and the lines of the diagnostics that are left, didn't go out yet
 abbrev pub invariant-parts : goal.invariant-parts
 invariant-parts g l =
-    let written = g.K.ByteSink.written in
+    let sent_to = g.K.ByteSink.written in
     let counts = g.K.ByteSink.counts in
-    let lines = lines_of l.path l.text in
+    let lines = written l.initial.file in
     record {
       none_fell : NoneFell (counts l.initial.writer) (counts l.writer);
       no_error : NoError (counts l.initial.writer) (counts l.writer);
-      walk : l.walk ≡ record { encoding = Utf16; text = l.text };
-      sent : Sent (written l.initial.writer) (written l.writer) (l.initial.room.items ++ lines l.diags) (l.room.items ++ lines l.left);
+      same : l.file ≡ l.initial.file;
+      sent : Sent (sent_to l.initial.writer) (sent_to l.writer) (l.initial.room.items ++ lines l.diags) (l.room.items ++ lines l.left);
     }
 
 abbrev pub decreases-parts : goal.decreases-parts

@@ -1,13 +1,11 @@
+use Rattle.std.proofs.Common.{ap, ◌∙◌, nat_lt}
+use Rattle.lsp_config.specs.Configuration.{files_of}
+use Rattle.lsp_workspace.specs.Files.{workspace}
+use Rattle.lsp_check.specs.declared.format.Format.TheVariants.{Plain}
+use Rattle.lsp_check.specs.declared.wanted.Checked.{Checked}
+use Rattle.lsp_check.proofs.CountLemmas.{all-errors}
 use Rattle.lsp_check.proofs.checking.check.Goals as goal
-
-pub returns-in-Ok-clause-prefix : goal.returns-in-Ok-clause-prefix
-returns-in-Ok-clause-prefix g c =
-    rw c.in-Ok.ensures.files at c.send_and_judge-found.ensures.prefix
-
-pub returns-in-Ok-clause-whole : goal.returns-in-Ok-clause-whole
-returns-in-Ok-clause-whole g c =
-    rw c.in-Ok.ensures.files at c.send_and_judge-found.ensures.whole
 
 pub returns-in-Ok-clause-errors : goal.returns-in-Ok-clause-errors
 returns-in-Ok-clause-errors g c =
-    rw c.in-Ok.ensures.files at c.send_and_judge-found.ensures.errors
+    ap (λ (k : Checked). nat_lt 0 k.errors) c.in-Ok.ensures.checked ∙ all-errors Plain c.new.result (workspace (files_of c.args.config))

@@ -1,7 +1,6 @@
 use Rattle.std.proofs.Common.{◌++◌}
 use Rattle.lsp_frame.specs.Counts.{NoneFell, NoError}
-use Rattle.lsp_check.specs.Listing.{listing}
-use Rattle.lsp_check.specs.Steps.{Sent, left_from}
+use Rattle.lsp_check.specs.Steps.{Sent, all_lines, left_from}
 use Rattle.lsp_check.proofs.checking.send_in_turn.Given as goal
 
 -- what the room holds, and the lines of the files that are left, didn't go out yet
@@ -12,5 +11,5 @@ invariant-loop-number g l =
     record {
       none_fell : NoneFell (counts l.initial.writer) (counts l.writer);
       no_error : NoError (counts l.initial.writer) (counts l.writer);
-      sent : Sent (written l.initial.writer) (written l.writer) (listing l.files) (l.room.items ++ left_from l.number l.files);
+      sent : Sent (written l.initial.writer) (written l.writer) (all_lines l.listed) (l.room.items ++ left_from l.number l.listed);
     }

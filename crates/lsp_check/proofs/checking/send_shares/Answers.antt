@@ -1,4 +1,4 @@
-use Rattle.std.proofs.Common.{rules, ◌≡◌, ◌+◌, ◌++◌, flat_map, drop, length}
+use Rattle.std.proofs.Common.{rules, ◌+◌, flat_map, drop, length}
 use Rattle.std.proofs.lemmas.Iterator.Adapters.{YieldsList-from_vec}
 use Rattle.std.proofs.lemmas.Iterator.Consumers.{YieldsList-so_far, YieldsList-turn}
 use Rattle.lsp_config.proofs.SendingLemmas.{front-behind}

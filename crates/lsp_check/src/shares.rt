@@ -1,12 +1,8 @@
 // The lines of the files of a workspace, made by threads.
-ghost use Rattle.std.specs.Prelude.{◌≡◌, ◌<◌, ◌≤◌, ◌++◌, length, map, flat_map, slice_index_or, [], Ok, IfOk, OnOk};
-ghost use Rattle.lsp_check.specs.Listing.{numbered_lines, listing};
-ghost use Rattle.lsp_check.specs.Steps.{AreAnswered, AreLinesBetween};
-ghost use Rattle.work_index.specs.Workspace.{analysis};
+ghost use Rattle.std.specs.Prelude.{◌≡◌, ◌<◌, ◌≤◌, ◌++◌, length, map, flat_map, Ok, IfOk, OnOk};
+ghost use Rattle.lsp_check.specs.Steps.{AreAnswered, AreLinesBetween, all_lines, lines_at};
 
-use crate::lines::push_lines;
-use doc_text::{Encoding, Walk};
-use lsp_workspace::DiagnosedFiles;
+use crate::listed::Listed;
 use std::alloc::{AllocError, Global};
 use std::snapshot::Snapshot;
 use std::sync::Wait;
@@ -23,80 +19,84 @@ pub struct ShareLines {
 // The lines come of the files from the number `first` on, up to the one before `end`.
 #[derive(Drop)]
 struct ShareListed {
-    files: Snapshot<DiagnosedFiles>,
+    listed: Snapshot<Listed>,
     first: usize,
     end: usize,
 }
 
 impl Promise<Result<ShareLines, AllocError>> for ShareListed {
-    ghost kept_by = { λ p answer. IfOk answer (λ share. AreLinesBetween p.first p.end p.files.value share.lines.items) };
+    ghost kept_by = { λ p answer. IfOk answer (λ share. AreLinesBetween p.first p.end p.listed.value share.lines.items) };
 }
 
 // Adds the lines of a file.
-fn push_file(out: &mut Vec<u8>, files: &DiagnosedFiles, file: usize) -> Result<(), AllocError>
-    requires { file < length files.now }
-    ensures { OnOk result (out.new.items ≡ out.old.items ++ numbered_lines (analysis files.now) (file, slice_index_or files.now file ([], []))) }
+fn push_file(
+    alloc: Global,
+    out: &mut Vec<u8>,
+    listed: &Listed,
+    number: usize,
+) -> Result<(), AllocError>
+    requires { number < length listed.now.files }
+    ensures { OnOk result (out.new.items ≡ out.old.items ++ lines_at listed.now number) }
 {
-    let mut walk = Walk::new(files.text(file), Encoding::Utf16);
-    let diags = files.diagnosis().diagnostics(file);
-    push_lines(out, files.path(file), &mut walk, diags)
+    let mut file = listed.file(alloc, number);
+    file.push_lines(out, listed.diagnostics(number))
 }
 
 // The lines of a share: the work of one thread.
 fn share_lines(
     alloc: Global,
-    files: &DiagnosedFiles,
+    listed: &Listed,
     first: usize,
     end: usize,
 ) -> Result<ShareLines, AllocError>
     requires order { first ≤ end }
-    requires within { end ≤ length files.now }
-    ensures { IfOk result (λ share. AreLinesBetween first end files.now share.lines.items) }
+    requires within { end ≤ length listed.now.files }
+    ensures { IfOk result (λ share. AreLinesBetween first end listed.now share.lines.items) }
 {
     let mut lines = Vec::new(alloc);
-    for file in first..end {
-        push_file(&mut lines, files, file)?;
+    for number in first..end {
+        push_file(alloc, &mut lines, listed, number)?;
     }
     Ok(ShareLines { lines })
 }
 
 // The number behind the last file of a share that begins with this file: the share has at least so many diagnostics, or else all that are left.
-fn end_of_share(files: &DiagnosedFiles, first: usize, least: usize) -> usize
-    requires { first < length files.now }
+fn end_of_share(listed: &Listed, first: usize, least: usize) -> usize
+    requires { first < length listed.now.files }
     ensures after { first < result }
-    ensures within { result ≤ length files.now }
+    ensures within { result ≤ length listed.now.files }
 {
     let mut found = 0usize;
-    for file in first..files.file_count() {
-        found = found.saturating_add(files.diagnosis().diagnostics(file).len());
+    for number in first..listed.files.file_count() {
+        found = found.saturating_add(listed.diagnostics(number).len());
         if found >= least {
-            return file + 1;
+            return number + 1;
         }
     }
-    files.file_count()
+    listed.files.file_count()
 }
 
 // Has a thread make the lines of each share, and waits for all of them.
 fn list_shares<R: Threads + Wait>(
     rt: &R,
     alloc: Global,
-    files: &DiagnosedFiles,
+    listed: &Listed,
     least: usize,
 ) -> Result<Vec<Result<ShareLines, AllocError>>, AnalyseFault>
-    ensures { IfOk result (λ answers. AreAnswered files.now answers.items) }
+    ensures { IfOk result (λ answers. AreAnswered listed.now answers.items) }
 {
     thread::scope(
         thread::scope_env(),
         rt,
         |scope| -> Result<Vec<Result<ShareLines, AllocError>>, AnalyseFault>
-            ensures { IfOk result (λ answers. AreAnswered files.entry.now answers.items) }
+            ensures { IfOk result (λ answers. AreAnswered listed.entry.now answers.items) }
         {
             let mut handles = Vec::new(alloc);
             let mut first = 0usize;
-            'shares: while first < files.file_count() {
-                let end = end_of_share(files, first, least);
+            'shares: while first < listed.files.file_count() {
+                let end = end_of_share(listed, first, least);
                 let promise = ShareListed {
-                    files: Snapshot::of(files),
+                    listed: Snapshot::of(listed),
                     first,
                     end,
                 };
@@ -104,9 +104,9 @@ fn list_shares<R: Threads + Wait>(
                     promise,
                     move || -> Result<ShareLines, AllocError>
                         requires order { first ≤ end }
-                        requires within { end ≤ length files.now }
-                        ensures { IfOk result (λ share. AreLinesBetween first end files.entry.now share.lines.items) }
-                    { share_lines(alloc, files, first, end) },
+                        requires within { end ≤ length listed.now.files }
+                        ensures { IfOk result (λ share. AreLinesBetween first end listed.entry.now share.lines.items) }
+                    { share_lines(alloc, listed, first, end) },
                 ) else {
                     return Err(AnalyseFault::ThreadRefused);
                 };
@@ -139,11 +139,11 @@ fn none_refused(
 pub fn lines_in_shares<R: Threads + Wait>(
     rt: &R,
     alloc: Global,
-    files: &DiagnosedFiles,
+    listed: &Listed,
     least: usize,
 ) -> Result<Vec<ShareLines>, AnalyseFault>
-    ensures { IfOk result (λ shares. flat_map (λ share. share.lines.items) shares.items ≡ listing files.now) }
+    ensures { IfOk result (λ shares. flat_map (λ share. share.lines.items) shares.items ≡ all_lines listed.now) }
 {
-    let answers = list_shares(rt, alloc, files, least)?;
+    let answers = list_shares(rt, alloc, listed, least)?;
     Ok(none_refused(alloc, answers)?)
 }
