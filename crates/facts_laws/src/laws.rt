@@ -57,14 +57,15 @@ pub fn names_nest()
     size_law();
 }
 
-/// A law: the full name of a declaration of a text is its scope and its own name. The scope is the full name of the message or
-/// service that holds it, through any enums and oneofs, which add nothing, or else the package: so the values of an enum are its
-/// siblings. Its kind is that of the statement that declares it, and each statement of a proto3 file that declares a name has one.
+/// A law: the full name of a declaration of a text is its name in the scope of the message or service that holds it, or else of the
+/// package, and its kind is that of the statement that declares it. An enum and a oneof add nothing to the scope, so the values of
+/// an enum are its siblings. In a proto3 file each name that a statement declares is that of a declaration.
 pub fn names_have_scopes()
     ensures { (text : List ℕ) → NamesHaveScopes text (value_tree text).nodes (facts_of text) }
 {}
 
-/// A law: the diagnostics of a text and a tree, 201 to 318, are those that a rule for each of them says, and no others.
+/// A law: the diagnostics of a text and a tree, 201 to 318, are those that a rule for each of them says of its statements, in
+/// integers, and no others.
 pub fn diagnostics_are_said()
     ensures { DiagnosticsAreSaid }
 {}

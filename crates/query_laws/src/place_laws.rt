@@ -26,8 +26,8 @@ pub fn places_apart()
     uses_in_order();
 }
 
-/// A law: at an offset of a file at most one name stands: one that is declared, one that is used, or one of the file's package. The
-/// symbol at the offset is what that name stands for, and where no name stands there is none.
+/// A law: at most one name of a file stands at an offset, one that is declared, one that is used, or one of the file's package, and
+/// the symbol there is what it stands for. Where no name stands there is none.
 pub fn one_symbol()
     ensures one { OneNameHolds }
     ensures exact { SymbolsStandThere }
