@@ -39,12 +39,14 @@ facts-scoped : (o : Option Diag) (syntaxes : List StatedSyntax) (text : List ℕ
 facts-scoped None syntaxes text tree =
     let place = package_name (first_package (packages text tree.nodes)) in record {
       scope = λ i d at. let own = is_scoped text tree.nodes place i d at in (own.0, own.1);
+      only = one_scope text place (decls_in text tree.nodes kind.Field place None 0);
       full_name = full_name-is text tree.nodes place;
       kind_is = kind-is text tree.nodes place;
       declared = λ k name is stated. stated-declared stated text place None 0;
     }
 facts-scoped (Some d) syntaxes text tree = record {
   scope = λ i d at. absurd (cc (at));
+  only = one_scope text [] [];
   full_name = λ i d s at has. absurd (cc (at));
   kind_is = λ d c. absurd (none_in d c);
   declared = λ k name is stated. absurd (cc (is));

@@ -60,6 +60,7 @@ pub data HasScope (package_is : List ℕ) (decls : List Decl) : ℕ → List ℕ
 -- declares its name. In a file that is analysed each name that a statement declares is that of a declaration.
 pub record NamesHaveScopes (text : List ℕ) (nodes : List Node) (facts : FileFacts) : Type 0 where
   pub scope : (i : ℕ) (d : Decl) → slice_get facts.decls i ≡ Some d → (s : List ℕ) × HasScope (package_name facts.«package») facts.decls i s
+  pub only : (i : ℕ) (s t : List ℕ) → HasScope (package_name facts.«package») facts.decls i s → HasScope (package_name facts.«package») facts.decls i t → s ≡ t
   pub full_name : (i : ℕ) (d : Decl) (s : List ℕ) → slice_get facts.decls i ≡ Some d → HasScope (package_name facts.«package») facts.decls i s → d.full_name ≡ joined s (text_at text d.name_span)
   pub kind_is : (d : Decl) → Contains facts.decls d → DeclaresAs kind.Field nodes d.kind d.name_span
   pub declared : (k : DeclKind) (name : Span) → facts.syntax ≡ Proto3 → DeclaresAs kind.Field nodes k name → Any (λ d. (d.kind ≡ k) × (d.name_span ≡ name)) facts.decls
