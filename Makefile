@@ -5,7 +5,7 @@ PROGRAM := crates/protols/out/protols
 # The crates whose wrong bodies `make wrong-bodies` tries, and whose proofs `make times` times; none means all.
 CRATE ?=
 
-.PHONY: all build run test quick wrong-bodies times docs dist install clean need-rt
+.PHONY: all build run test quick wrong-bodies times docs dist editors install clean need-rt
 
 all: build
 
@@ -52,6 +52,10 @@ docs:
 dist: build
 	@python3 tools/dist.py
 	@if command -v lintian > /dev/null; then lintian --fail-on error dist/*.deb; fi
+
+# The editors that are installed, without a screen, with the set-ups in editors/. It is no part of the gate.
+editors: build
+	@python3 editors/try.py
 
 install: build
 	install -D -m 755 $(PROGRAM) $(DESTDIR)$(PREFIX)/bin/protols
