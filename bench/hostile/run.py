@@ -1,10 +1,11 @@
 #!/usr/bin/env python3
-"""Times `protols check` on trees and texts that somebody made to be slow, and `protols serve` on edits of such texts and on many documents
-opened in turn.
+"""Times `protols check` on trees and texts that somebody made to be slow, and `protols serve` on streams that somebody made to be slow, on edits of such
+texts and on many documents opened in turn.
 
-Each input comes in two sizes. Twice the input may take at most 2.4 times the time, from 50 ms on, and the larger one may take no more time and
-memory than its line below says. The status is 1 where a limit isn't kept. Documents that are opened one after the other have a limit for 4,000, and
-none for their growth: each one gives the files behind its place other numbers.
+Each input comes in two sizes. Twice the input may take at most 2.4 times the time, from 50 ms on, and 2.4 times the memory, from 50 MB on, and the larger
+one may take no more time and memory than its line below says. The status is 1 where a limit isn't kept. What is known not to keep the 2.4 has a line that says
+how much it takes instead. Documents that are opened one after the other have a limit for 4,000, and none for their growth: each one gives the files behind
+its place other numbers.
 
 A time is the best of 3 for what takes less than a second, and memory is what was resident at most. The program is crates/protols/out/protols, or
 the one that PROTOLS names.
@@ -25,8 +26,8 @@ sys.path[:0] = [str(HERE.parent), str(HERE.parent.parent / "tests")]
 import hostile
 import stream
 
-# The most that twice the size may take, as a multiple of the time; what takes less than this many seconds isn't judged.
-GROWTH, LEAST = 2.4, 0.05
+# The most that twice the size may take, as a multiple of the time and of the memory; what takes less than so many seconds, or MB, isn't judged.
+GROWTH, LEAST, LEAST_MEGABYTES = 2.4, 0.05, 50
 MEBIBYTES = 1_048_576
 REPEATED = [";", "}", "{", "#", "a", "A=1;", "message A{}", "message A{A a=1;}"]
 stream.LIMIT = 600
@@ -34,7 +35,7 @@ stream.LIMIT = 600
 
 class Line(typing.NamedTuple):
     """An input: what it is, the smaller of its two sizes, and what the larger one may take of seconds and of MB, if that is said. The larger
-    one is twice the smaller, or another one that makes the input twice as long."""
+    one is twice the smaller, or another one that makes the input twice as long. `growth` is what that may take, as a multiple of the time and the memory."""
 
     name: str
     tree: typing.Callable
@@ -42,6 +43,7 @@ class Line(typing.NamedTuple):
     seconds: float = 0
     megabytes: float = 0
     larger: int = 0
+    growth: float = GROWTH
 
 
 LINES = [
@@ -50,12 +52,19 @@ LINES = [
     Line("names of the components of a package of n", hostile.of_components, 2_000),
     Line("200 undeclared names in the package a.a.a..", hostile.one_component, 8_000),
     Line("n files that import all n publicly", hostile.all_of_all, 566, 0.6, larger=800),
-    Line("a ring of n public imports", hostile.ring, 2_000),
+    Line("a ring of n public imports", hostile.ring, 10_000),
     Line("a chain of n public imports", hostile.chain, 2_000),
     Line("a hub of n public imports", hostile.hub, 2_000),
     Line("n messages in a package with a long name", hostile.long_names, 2_000, 0, 30),
     Line("n messages of one name", hostile.equal_names, 50_000),
     Line("n reserved ranges that overlap", hostile.overlaps, 25_000),
+    Line("n files of 100 bytes", hostile.small_files, 49_999),
+    Line("n files that import 500 each", lambda n: hostile.importing(n, 500), 2_500),
+    Line("n names in 100 scopes", hostile.in_many_scopes, 100_000),
+    # The three that are known to take more (docs/ARCHITECTURE.md): each full name is written out, and each file's view is made for itself.
+    Line("a package with a long name and n messages in messages", hostile.nested_in_long_package, 2_000, growth=5),
+    Line("a chain of n public imports that each name a type", hostile.named_chain, 8_000, growth=5),
+    Line("n files that publicly import all before them", hostile.all_before, 1_131, larger=1_600, growth=4),
     *[Line(f"n MiB of {words!r}", lambda n, words=words: hostile.repeated(words, n * MEBIBYTES), 8, 3, 1_300) for words in REPEATED],
 ]
 
@@ -67,6 +76,63 @@ def messages(count):
 def twice_equal(count):
     text = hostile.HEAD + "message M {}\n" * count
     return {"a.proto": text, "b.proto": text}
+
+
+# The first message of each session.
+INITIALIZE = {"id": 1, "method": "initialize", "params": {"capabilities": {"textDocument": {"diagnostic": {}}}}}
+URI = "file:///w/a.proto"
+
+
+def open_of(uri, text):
+    return {"method": "textDocument/didOpen", "params": {"textDocument": {"uri": uri, "languageId": "proto", "version": 1, "text": text}}}
+
+
+def change_of(uri, version, line, character, text, replaced=0):
+    """The message that puts a text in at a position, in place of so many characters."""
+    changes = [{"range": {"start": {"line": line, "character": character}, "end": {"line": line, "character": character + replaced}}, "text": text}]
+    return {"method": "textDocument/didChange", "params": {"textDocument": {"uri": uri, "version": version}, "contentChanges": changes}}
+
+
+def ordinary(size):
+    """A text of so many bytes at least, of ordinary messages."""
+    text = "".join(f"message Message{n} {{\n  string name = 1;\n  repeated int64 values = 2;\n}}\n" for n in range(size // 60))
+    return hostile.HEAD + text
+
+
+def opens_of_one(n):
+    """n opens of one document of a megabyte, each with another text, and no request."""
+    text = ordinary(1_000_000)
+    for number in range(n):
+        yield open_of(URI, f"{text}// {number}\n")
+
+
+def signs(n):
+    """A document of n bad signs, and a request for its diagnostics."""
+    yield open_of(URI, hostile.HEAD + "#" * n)
+    yield {"id": 2, "method": "textDocument/diagnostic", "params": {"textDocument": {"uri": URI}}}
+
+
+def changes(text, place_of):
+    """A document, and changes of it that each put another letter in place of one in a comment."""
+
+    def messages(n):
+        yield open_of(URI, text)
+        for number in range(n):
+            yield change_of(URI, number + 2, *place_of(number), "xyz"[number % 3], 1)
+
+    return messages
+
+
+SHORT_LINES = hostile.HEAD + "// a line of thirty-two bytes..\n" * 312
+ONE_LINE = hostile.HEAD + "//" + "." * 10_000
+
+STREAMS = [
+    Line("n opens of a document of 1 MB", opens_of_one, 500, 0, 1_000),
+    Line("n letters in a document of 10 KB with short lines", changes(SHORT_LINES, lambda n: (1 + n % 312, 2)), 100_000, 5),
+    Line("n letters in a document of 10 KB in one line", changes(ONE_LINE, lambda n: (1, 2 + n % 10_000)), 100_000, 5),
+    # (the reply has 160 bytes for each sign, and may take three times its length)
+    Line("n bad signs, and the reply about them", signs, 2_097_152, 0, 2_020),
+]
 
 
 class Edit(typing.NamedTuple):
@@ -86,6 +152,13 @@ EDITS = [
     Edit("a message above n of one name, with another such file", twice_equal, lambda n: "message New {}\n", 20_000, 0.3),
 ]
 
+# How many times a name is used, in files of so many uses each, and what is asked about it.
+USES, USES_EACH = [500_000, 1_000_000], 10_000
+QUESTIONS = {
+    "references": {"context": {"includeDeclaration": True}},
+    "rename": {"newName": "Renamed"},
+}
+
 # How many documents are opened one after the other, each count twice the one before, and the seconds that the largest count may take.
 OPENS = [1_000, 2_000, 4_000]
 OPENS_SECONDS = 2
@@ -101,30 +174,44 @@ def put(folder, files):
 MEASURE = """
 import os, sys, time
 start = time.perf_counter()
-files = [(os.POSIX_SPAWN_OPEN, 0, os.devnull, os.O_RDONLY, 0), (os.POSIX_SPAWN_OPEN, 1, os.devnull, os.O_WRONLY, 0)]
-_, status, used = os.wait4(os.posix_spawn(sys.argv[1], sys.argv[1:], os.environ, file_actions=files), 0)
+files = [(os.POSIX_SPAWN_OPEN, 0, sys.argv[1], os.O_RDONLY, 0), (os.POSIX_SPAWN_OPEN, 1, os.devnull, os.O_WRONLY, 0)]
+_, status, used = os.wait4(os.posix_spawn(sys.argv[2], sys.argv[2:], os.environ, file_actions=files), 0)
 print(time.perf_counter() - start, used.ru_maxrss, os.waitstatus_to_exitcode(status))
 """
 
 
-def checked(folder):
-    """The seconds and the MB that a check of a folder takes."""
-    words = [sys.executable, "-I", "-S", "-c", MEASURE, *stream.command(["check", "--root", folder])]
-    run = subprocess.run(words, stdin=subprocess.DEVNULL, capture_output=True, text=True)
+def measured(words, source=os.devnull):
+    """The seconds and the MB that a run of the program with these words and this input takes."""
+    command = [sys.executable, "-I", "-S", "-c", MEASURE, source, *stream.command(words)]
+    run = subprocess.run(command, stdin=subprocess.DEVNULL, capture_output=True, text=True)
     seconds, kilobytes, status = run.stdout.split()
     if status not in ("0", "1"):
-        sys.exit(f"protols check ended with {status}: {run.stderr[-300:]}")
+        sys.exit(f"protols {words[0]} ended with {status}: {run.stderr[-300:]}")
     return float(seconds), int(kilobytes) / 1_000
 
 
-def best(files):
-    """The least time of 3 checks, or of one if that takes a second or more, and the MB of the first."""
+def best(words, source=os.devnull):
+    """The least time of 3 runs, or of one if that takes a second or more, and the MB of the first."""
+    seconds, megabytes = measured(words, source)
+    if seconds < 1:
+        seconds = min(seconds, *(measured(words, source)[0] for _ in range(2)))
+    return seconds, megabytes
+
+
+def best_check(files):
+    """The same of a check of a folder with these files."""
     with tempfile.TemporaryDirectory() as room:
         put(pathlib.Path(room), files)
-        seconds, megabytes = checked(room)
-        if seconds < 1:
-            seconds = min(seconds, *(checked(room)[0] for _ in range(2)))
-        return seconds, megabytes
+        return best(["check", "--root", room])
+
+
+def best_session(messages):
+    """The same of a session with these messages, whose input is a file."""
+    with tempfile.NamedTemporaryFile() as source:
+        for message in [INITIALIZE, *messages, {"id": 0, "method": "shutdown"}, {"method": "exit"}]:
+            source.write(stream.frame(json.dumps({"jsonrpc": "2.0", **message}, ensure_ascii=False)))
+        source.flush()
+        return best(["serve"], source.name)
 
 
 def show(name, size, seconds, megabytes, limits):
@@ -135,12 +222,13 @@ def show(name, size, seconds, megabytes, limits):
     return not broken
 
 
-def judged(line):
+def judged(line, measure):
     larger = line.larger or 2 * line.size
-    small, _ = best(line.tree(line.size))
-    large, megabytes = best(line.tree(larger))
+    small, less = measure(line.tree(line.size))
+    large, megabytes = measure(line.tree(larger))
     limits = [
-        (f"{large / small:.1f} times the time of half the size", large <= GROWTH * small or large < LEAST),
+        (f"{large / small:.1f} times the time of half the size", large <= line.growth * small or large < LEAST),
+        (f"{megabytes / less:.1f} times the memory of half the size", megabytes <= line.growth * less or megabytes < LEAST_MEGABYTES),
         (f"over {line.seconds} s", not line.seconds or large <= line.seconds),
         (f"over {line.megabytes} MB", not line.megabytes or megabytes <= line.megabytes),
     ]
@@ -148,18 +236,18 @@ def judged(line):
 
 
 class Client:
-    """A server over a folder, which sends what it is asked for by JSON-RPC 2.0."""
+    """A server over a folder, which is sent messages of JSON-RPC 2.0."""
 
-    def __init__(self, room, server):
+    def __init__(self, server):
         self.server = server
-        self.send(id=1, method="initialize", params={**stream.PULLING, "rootUri": f"file://{room}"})
+        self.send(**INITIALIZE)
         server.receive()
 
     def send(self, **body):
         self.server.send(json.dumps({"jsonrpc": "2.0", **body}))
 
     def open(self, uri, text):
-        self.send(method="textDocument/didOpen", params={"textDocument": {"uri": uri, "languageId": "proto", "version": 1, "text": text}})
+        self.send(**open_of(uri, text))
 
     def diagnostics(self, uri):
         self.send(id=2, method="textDocument/diagnostic", params={"textDocument": {"uri": uri}})
@@ -173,13 +261,11 @@ def edited(files, added):
         place, text = next(iter(files.items()))
         uri = f"file://{room}/{place}"
         with stream.Server(["serve", "--root", room]) as server:
-            client = Client(room, server)
+            client = Client(server)
             client.open(uri, text)
             client.diagnostics(uri)
             start = time.perf_counter()
-            at = {"line": 1, "character": 0}
-            changes = [{"range": {"start": at, "end": at}, "text": added}]
-            client.send(method="textDocument/didChange", params={"textDocument": {"uri": uri, "version": 2}, "contentChanges": changes})
+            client.send(**change_of(uri, 2, 1, 0, added))
             client.diagnostics(uri)
             return time.perf_counter() - start
 
@@ -193,10 +279,42 @@ def judged_edit(edit):
     return show(edit.name, 2 * edit.size, large, 0, limits)
 
 
+def asked(count):
+    """For each of the questions about a name with so many uses the seconds from the request to the end of its reply; and the most MB that the server had then."""
+    with tempfile.TemporaryDirectory() as room:
+        put(pathlib.Path(room), hostile.uses(count // USES_EACH, USES_EACH))
+        with stream.Server(["serve", "--root", room]) as server:
+            client = Client(server)
+            client.diagnostics(f"file://{room}/a.proto")
+            found = {}
+            for method, more in QUESTIONS.items():
+                at = {"textDocument": {"uri": f"file://{room}/a.proto"}, "position": {"line": 1, "character": 8}}
+                start = time.perf_counter()
+                client.send(id=3, method=f"textDocument/{method}", params={**at, **more})
+                length = len(server.receive(stream.LIMIT))
+                status = pathlib.Path(f"/proc/{server.process.pid}/status").read_text()
+                peak = next(int(line.split()[1]) for line in status.splitlines() if line.startswith("VmHWM:"))
+                found[method] = (time.perf_counter() - start, peak * 1_024 / 1e6, length / 1e6)
+            return found
+
+
+def judged_uses():
+    """Whether what is asked about a name that is used very often keeps its limits."""
+    small, large = (asked(count) for count in USES)
+    well = True
+    for method, (seconds, megabytes, reply) in large.items():
+        limits = [
+            (f"{seconds / small[method][0]:.1f} times the time of half the uses", seconds <= GROWTH * small[method][0]),
+            (f"{megabytes / small[method][1]:.1f} times the memory of half the uses", megabytes <= GROWTH * small[method][1]),
+        ]
+        well = show(f"{method} of n uses: a reply of {reply:.0f} MB", USES[-1], seconds, megabytes, limits) and well
+    return well
+
+
 def opened(names):
     """The seconds for documents that are opened one after the other, each followed by a request for its diagnostics."""
     with tempfile.TemporaryDirectory() as room, stream.Server(["serve", "--root", room]) as server:
-        client = Client(room, server)
+        client = Client(server)
         start = time.perf_counter()
         for n in names:
             uri = f"file://{room}/f{n:05}.proto"
@@ -227,9 +345,14 @@ def judged_opens(name, ordered, is_linear):
 
 
 def main(words):
-    lines = [it for it in LINES if not words or any(word in it.name for word in words)]
-    well = [judged(it) for it in lines]
-    well += [judged_edit(it) for it in EDITS if not words or any(word in it.name for word in words)]
+    def is_wanted(it):
+        return not words or any(word in it.name for word in words)
+
+    well = [judged(it, best_check) for it in LINES if is_wanted(it)]
+    well += [judged(it, best_session) for it in STREAMS if is_wanted(it)]
+    well += [judged_edit(it) for it in EDITS if is_wanted(it)]
+    if not words or "uses" in words:
+        well += [judged_uses()]
     if not words or "documents" in words:
         well += [judged_opens("documents opened in path order", list, True), judged_opens("documents opened in no order", shuffled, False)]
     return 0 if all(well) else 1
