@@ -41,6 +41,15 @@ def opening(path, text):
     return json.dumps({"jsonrpc": "2.0", "method": "textDocument/didOpen", "params": {"textDocument": document}})
 
 
+def change(path, text):
+    document = {"uri": f"file:///w/{path}", "version": 2}
+    return json.dumps({"jsonrpc": "2.0", "method": "textDocument/didChange", "params": {"textDocument": document, "contentChanges": [{"text": text}]}})
+
+
+def closing(path):
+    return json.dumps({"jsonrpc": "2.0", "method": "textDocument/didClose", "params": {"textDocument": {"uri": f"file:///w/{path}"}}})
+
+
 def questions(path):
     """All that is asked about a file, with a name in its third line."""
     document = {"textDocument": {"uri": f"file:///w/{path}"}}
@@ -63,8 +72,40 @@ NAMED = (
     ("q.proto", PROTO3 + 'import "p.proto";\nmessage Q { .p.Outer.Inner b = 1; p.Outer c = 2; }\n'),
 )
 
-# A text with much that is wrong.
+# Files that see one another.
+SEEN = (
+    ("a.proto", PROTO3 + 'import "b.proto";\nmessage A {\n  C c = 1;\n  D d = 2;\n}\n'),
+    ("b.proto", PROTO3 + 'import public "c.proto";\n'),
+    ("c.proto", PROTO3 + 'import "d.proto";\nmessage C { D d = 1; }\n'),
+    ("d.proto", PROTO3 + "message D { }\n"),
+)
+
+# Texts with much that is wrong.
 BAD = PROTO3 + "message M {\n  int32 a = 1;\n  int32 = 2;\n  int32 b = 3;\n  option (o) = { x: 1; y { z: 2 } };\n  int32 c\n}\nmessage N { }\n"
+WORSE = """;syntax = "proto3";
+import "m.proto";
+import "m.proto";
+package k;
+package j;
+message M {
+  repeated optional int32 a = 1;
+  map<float, string> b = 2;
+  oneof o { repeated int32 c = 3; }
+  reserved 5 to 7, 7;
+}
+enum N { Z = 0; BIG = 2147483648; }
+service S { rpc Do(N) returns (M); }
+"""
+
+# Sessions: documents that are opened, the one that is asked about, and what is done and asked then.
+SESSIONS = (
+    (NAMED, "q.proto"),
+    (SEEN, "a.proto", change("c.proto", PROTO3), *questions("a.proto"), change("c.proto", PROTO3), change("d.proto", PROTO3 + "#\n"), *questions("a.proto")),
+    (SEEN, "c.proto", closing("b.proto"), *questions("a.proto"), opening("e.proto", PROTO3), *questions("e.proto"), opening("b.proto", PROTO3), *questions("b.proto")),
+    ((("a.proto", BAD),), "a.proto"),
+    ((("m.proto", PROTO3 + "package k.M;\nenum E { a = 0; }\n"), ("k.proto", WORSE)), "k.proto"),
+    ((("a.proto", "a .5e3 0x1G 'q\n/* z"),), "a.proto"),
+)
 
 
 def in_ranges(answers):
@@ -143,12 +184,17 @@ class Allocations(unittest.TestCase):
     def test_a_first_session(self):
         self.check_each(SERVE, FIRST_INPUT, 0)
 
-    def test_questions_about_names(self):
-        messages = [INITIALIZE, *(opening(path, text) for path, text in NAMED), *questions("q.proto"), SHUTDOWN, EXIT]
-        self.check_each(SERVE, frames(messages), 0)
+    def test_other_sessions(self):
+        for files, path, *others in SESSIONS:
+            messages = [INITIALIZE, *(opening(*file) for file in files), *questions(path), *others, SHUTDOWN, EXIT]
+            self.check_each(SERVE, frames(messages), 0)
 
     def test_a_check(self):
         with tempfile.TemporaryDirectory() as folder:
             for path, text in (*NAMED, ("bad.proto", BAD)):
                 pathlib.Path(folder, path).write_text(text)
             self.check_each(("check", "--root", folder, "--workers", "1"), b"", 1)
+
+
+if __name__ == "__main__":
+    unittest.main()

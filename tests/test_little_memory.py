@@ -104,3 +104,7 @@ class LittleMemory(unittest.TestCase):
             pathlib.Path(root, f"{number:03}.proto").write_text(text_of(number) + "#\n")
             lines.append(f"{number:03}.proto:{4 if number else 3}:1: 201 illegal character\n")
         self.check_each(("check", "--root", root, "--workers", "4"), b"", "".join(lines).encode(), 1)
+
+
+if __name__ == "__main__":
+    unittest.main()
