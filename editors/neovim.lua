@@ -11,6 +11,14 @@ local proto_path = { "/usr/include" }
 -- Neovim 0.11 and newer show no words beside a line unless they are told to.
 vim.diagnostic.config({ virtual_text = true })
 
+-- What comes for other buffers while one types is shown once one has typed: Neovim would leave it out there.
+vim.api.nvim_create_autocmd("InsertLeave", {
+  pattern = "*.proto",
+  callback = function()
+    vim.diagnostic.show()
+  end,
+})
+
 vim.api.nvim_create_autocmd("FileType", {
   pattern = "proto",
   callback = function(args)

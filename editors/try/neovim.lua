@@ -7,11 +7,35 @@ end
 local expected = vim.json.decode(table.concat(vim.fn.readfile(vim.env.PROTOLS_EXPECTED), "\n"))
 local seen = { version = tostring(vim.version()) }
 
+-- The steps are a coroutine, so that Neovim handles keys and messages in between, as it does for a user.
+local steps
+
+local function pause(milliseconds)
+  vim.defer_fn(function() coroutine.resume(steps) end, milliseconds)
+  coroutine.yield()
+end
+
+local function wait(is_done)
+  for _ = 1, 300 do
+    if is_done() then
+      return
+    end
+    pause(50)
+  end
+end
+
 -- Waits until a function gives what is expected, and a little longer, in which nothing else may come.
 local function step(name, see)
-  vim.wait(15000, function() return see() == expected[name] end, 20)
-  vim.wait(400)
+  wait(function() return see() == expected[name] end)
+  pause(400)
   seen[name] = see()
+end
+
+local function keys(...)
+  for _, some in ipairs({ ... }) do
+    vim.api.nvim_input(some)
+    pause(400)
+  end
 end
 
 -- The column of a byte of a line, counted in characters from 1.
@@ -25,12 +49,24 @@ local function sorted(places)
   return table.concat(places, ", ")
 end
 
+-- Whether words are shown beside a line.
+local function is_shown(buffer, line)
+  for _, it in pairs(vim.diagnostic.get_namespaces()) do
+    local shown = it.user_data.virt_text_ns
+    if shown and #vim.api.nvim_buf_get_extmarks(buffer, shown, { line, 0 }, { line, -1 }, {}) > 0 then
+      return true
+    end
+  end
+  return false
+end
+
 local function diagnostics(buffer)
   return function()
     local found = {}
     for _, it in ipairs(vim.diagnostic.get(buffer)) do
       if it.source == "protols" then
-        table.insert(found, string.format("%d:%d %s", it.lnum + 1, column(buffer, it.lnum, it.col), it.code))
+        local place = string.format("%d:%d %s", it.lnum + 1, column(buffer, it.lnum, it.col), it.code)
+        table.insert(found, place .. (is_shown(buffer, it.lnum) and "" or " not shown"))
       end
     end
     return sorted(found)
@@ -48,24 +84,17 @@ local function listed()
   return sorted(found)
 end
 
-local function put(buffer, line, start, stop, text)
-  vim.api.nvim_buf_set_text(buffer, line - 1, start, line - 1, stop, { text })
-end
-
 local function run()
   vim.cmd.edit("order.proto")
   local order = vim.api.nvim_get_current_buf()
   step("fault", diagnostics(order))
-  local wrong = vim.fn.getline(6)
-  local at = wrong:find("Mony", 1, true)
-  put(order, 6, at - 1, at + 3, "Money")
+  keys("6G0fM", "cwMoney", "<Esc>")
   step("fixed", diagnostics(order))
 
   vim.cmd.vsplit("money.proto")
-  local money = vim.api.nvim_get_current_buf()
-  put(money, 3, 8, 13, "Cash")
+  keys("3Gw", "cwCash", "<Esc>")
   step("other window", diagnostics(order))
-  vim.cmd.undo()
+  keys("u")
   step("other window, fixed", diagnostics(order))
   vim.cmd.close()
 
@@ -90,7 +119,10 @@ local function run()
   vim.cmd.wall()
 end
 
-local ok, fault = pcall(run)
-seen.fault_of_the_trial = not ok and fault or nil
-vim.fn.writefile({ vim.json.encode(seen) }, vim.env.PROTOLS_SEEN)
-vim.cmd.qall({ bang = true })
+steps = coroutine.create(function()
+  local ok, fault = pcall(run)
+  seen.fault_of_the_trial = not ok and fault or nil
+  vim.fn.writefile({ vim.json.encode(seen) }, vim.env.PROTOLS_SEEN)
+  vim.cmd.qall({ bang = true })
+end)
+vim.schedule(function() coroutine.resume(steps) end)
