@@ -25,6 +25,9 @@ TENTHS = 10
 # How much more memory there may be after the last tenth than after the first.
 GROWTH = 1.1
 
+# The seconds after which a session that hasn't ended is a failure.
+SECONDS = 3_600
+
 # A text that is longer is replaced as a whole by its next change.
 LONGEST = 1_500
 
@@ -156,6 +159,12 @@ def framed(messages):
 class Session(stream.Server):
     """A running server that is sent many messages at once, and what it has of memory, threads and descriptors."""
 
+    def __enter__(self):
+        self.alarm = threading.Timer(SECONDS, self.process.kill)
+        self.alarm.daemon = True
+        self.alarm.start()
+        return super().__enter__()
+
     def exchange(self, data, replies):
         """Sends these bytes, and meanwhile reads so many replies."""
         writer = threading.Thread(target=self.send_bytes, args=(data,))
@@ -185,6 +194,7 @@ class Session(stream.Server):
         return self.reader
 
     def __exit__(self, *how):
+        self.alarm.cancel()
         super().__exit__(*how)
         if hasattr(self, "reader"):
             self.reader.close()
