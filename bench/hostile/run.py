@@ -127,7 +127,6 @@ SHORT_LINES = hostile.HEAD + "// a line of thirty-two bytes..\n" * 312
 ONE_LINE = hostile.HEAD + "//" + "." * 10_000
 
 STREAMS = [
-    Line("n opens of a document of 1 MB", opens_of_one, 500, 0, 1_000),
     Line("n letters in a document of 10 KB with short lines", changes(SHORT_LINES, lambda n: (1 + n % 312, 2)), 100_000, 5),
     Line("n letters in a document of 10 KB in one line", changes(ONE_LINE, lambda n: (1, 2 + n % 10_000)), 100_000, 5),
     # (the reply has 160 bytes for each sign, and may take three times its length)
@@ -151,6 +150,46 @@ EDITS = [
     Edit("a message above n others", lambda n: {"a.proto": hostile.HEAD + messages(n)}, lambda n: "message New {}\n", 40_000, 0.3),
     Edit("a message above n of one name, with another such file", twice_equal, lambda n: "message New {}\n", 20_000, 0.3),
 ]
+
+# How often a document of a megabyte is opened, each time with another text, before anything is asked about it, and the MB that a server may have by then.
+OPENS_OF_ONE, OPENS_OF_ONE_MEGABYTES = [500, 1_000], 1_000
+
+
+def peak_of(server):
+    """The most MB that a server has had."""
+    status = pathlib.Path(f"/proc/{server.process.pid}/status").read_text()
+    return next(int(line.split()[1]) for line in status.splitlines() if line.startswith("VmHWM:")) * 1_024 / 1e6
+
+
+def worked(server):
+    """The seconds of processors that a server has taken."""
+    fields = pathlib.Path(f"/proc/{server.process.pid}/stat").read_text().rpartition(")")[2].split()
+    return (int(fields[11]) + int(fields[12])) / os.sysconf("SC_CLK_TCK")
+
+
+def piled_up(count):
+    """The seconds of processors, and the most MB, that a server takes for so many opens of one document, until its workers have nothing left to do."""
+    with stream.Server(["serve"]) as server:
+        client = Client(server)
+        for message in opens_of_one(count):
+            client.send(**message)
+        before = None
+        while (now := worked(server)) != before:
+            before = now
+            time.sleep(1)
+        return now, peak_of(server)
+
+
+def judged_opens_of_one():
+    """Whether texts that nobody asks about don't pile up."""
+    (small, less), (large, megabytes) = map(piled_up, OPENS_OF_ONE)
+    limits = [
+        (f"{large / small:.1f} times the time of half the opens", large <= GROWTH * small),
+        (f"{megabytes / less:.1f} times the memory of half the opens", megabytes <= GROWTH * less),
+        (f"over {OPENS_OF_ONE_MEGABYTES} MB", megabytes <= OPENS_OF_ONE_MEGABYTES),
+    ]
+    return show("n opens of a document of 1 MB, without a request", OPENS_OF_ONE[-1], large, megabytes, limits)
+
 
 # How many times a name is used, in files of so many uses each, and what is asked about it.
 USES, USES_EACH = [500_000, 1_000_000], 10_000
@@ -292,9 +331,7 @@ def asked(count):
                 start = time.perf_counter()
                 client.send(id=3, method=f"textDocument/{method}", params={**at, **more})
                 length = len(server.receive(stream.LIMIT))
-                status = pathlib.Path(f"/proc/{server.process.pid}/status").read_text()
-                peak = next(int(line.split()[1]) for line in status.splitlines() if line.startswith("VmHWM:"))
-                found[method] = (time.perf_counter() - start, peak * 1_024 / 1e6, length / 1e6)
+                found[method] = (time.perf_counter() - start, peak_of(server), length / 1e6)
             return found
 
 
@@ -351,6 +388,8 @@ def main(words):
     well = [judged(it, best_check) for it in LINES if is_wanted(it)]
     well += [judged(it, best_session) for it in STREAMS if is_wanted(it)]
     well += [judged_edit(it) for it in EDITS if is_wanted(it)]
+    if not words or "opens" in words:
+        well += [judged_opens_of_one()]
     if not words or "uses" in words:
         well += [judged_uses()]
     if not words or "documents" in words:
