@@ -11,7 +11,6 @@ use file_facts::Diag;
 use itoa::Buffer;
 use json::Writer;
 use std::alloc::{AllocError, Global};
-use std::mem;
 
 // A diagnostic: the folder and the path of its file, where it begins and ends, and what it is.
 #[derive(Clone, Copy)]
@@ -86,8 +85,9 @@ pub fn push_json_line(
 ) -> Result<(), AllocError>
     ensures { OnOk result (out.new.items ≡ out.old.items ++ json_line finding.now.folder.now finding.now.path.now finding.now.start finding.now.end finding.now.diag) }
 {
-    let text = mem::replace(out, Vec::new(alloc));
-    *out = with_finding(text, finding)?;
+    // (a writer takes all the room that its text has)
+    let text = with_finding(Vec::new(alloc), finding)?;
+    out.extend_from_slice(text.as_slice())?;
     out.extend_from_slice(b"\n")?;
     Ok(())
 }
