@@ -166,38 +166,13 @@ class Session(stream.Server):
         return super().__enter__()
 
     def exchange(self, data, replies):
-        """Sends these bytes, and meanwhile reads so many replies."""
-        writer = threading.Thread(target=self.send_bytes, args=(data,))
-        writer.start()
-        bodies = [self.receive() for _ in range(replies)]
-        writer.join()
-        return bodies
-
-    def receive(self, timeout=stream.LIMIT):
-        header = self._line()
-        if not header.startswith(b"Content-Length: ") or self._line() != b"\r\n":
-            raise AssertionError(f"not the header of a frame: {header!r}")
-        return self._exactly(int(header.split()[1]))
-
-    def _line(self):
-        return self._buffered().readline()
-
-    def _exactly(self, count):
-        data = self._buffered().read(count)
-        if len(data) < count:
-            raise AssertionError("the output ended in place of a reply")
-        return data
-
-    def _buffered(self):
-        if not hasattr(self, "reader"):
-            self.reader = os.fdopen(os.dup(self.process.stdout.fileno()), "rb", buffering=1 << 20)
-        return self.reader
+        """Sends these bytes, and gives so many replies."""
+        self.send_bytes(data)
+        return [self.receive() for _ in range(replies)]
 
     def __exit__(self, *how):
         self.alarm.cancel()
         super().__exit__(*how)
-        if hasattr(self, "reader"):
-            self.reader.close()
 
     def memory(self):
         """The bytes that are resident."""
