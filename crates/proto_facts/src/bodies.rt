@@ -26,11 +26,13 @@ use syntax_tree::{MapField, Node, Span, TypeName};
 fn good_intervals(alloc: Global, found: &[Interval]) -> Result<Vec<Interval>, AllocError>
     ensures { IfOk result (λ v. v.items ≡ filter spec.runs_forwards found.now) }
 {
-    found
-        .iter()
-        .copied()
-        .filter(|interval| runs_forwards(*interval))
-        .collect(alloc)
+    let mut good = Vec::with_capacity(alloc, found.len())?;
+    for interval in found {
+        if runs_forwards(*interval) {
+            good.push(*interval)?;
+        }
+    }
+    Ok(good)
 }
 
 // Adds what is wrong with the reserved numbers, and with the members by them.

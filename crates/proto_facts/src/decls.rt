@@ -60,7 +60,7 @@ fn add_own(
 ) -> Result<(), AllocError>
     ensures { OnOk result (found.new ≡ found.old ++ spec.declared place.entry.source.text.now kind name place.entry.scope.now place.entry.parent ∷ []) }
 {
-    make_room(place.source.alloc, found.len());
+    make_room(place.source.alloc, found.len())?;
     found.push(declared(kind, name, place)?)
 }
 
@@ -82,7 +82,7 @@ fn add_scope(
     let own = found.len();
     let decl = declared(kind, name, place)?;
     let inner = decl.full_name.to_scope(place.source.alloc)?;
-    make_room(place.source.alloc, own);
+    make_room(place.source.alloc, own)?;
     found.push(decl)?;
     let inside = Enclosing {
         source: place.source,

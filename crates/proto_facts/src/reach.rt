@@ -26,12 +26,14 @@ pub struct Reach {
 fn reaches(alloc: Global, good: &[Interval]) -> Result<Vec<Reach>, AllocError>
     ensures { IfOk result (λ v. v.items ≡ map spec.reach_of good.now) }
 {
-    good.iter()
-        .map(|interval| Reach {
+    let mut found = Vec::with_capacity(alloc, good.len())?;
+    for interval in good {
+        found.push(Reach {
             low: interval.low,
             high: interval.high,
-        })
-        .collect(alloc)
+        })?;
+    }
+    Ok(found)
 }
 
 // For each place, the end of what the intervals up to there reach.

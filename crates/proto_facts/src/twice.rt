@@ -30,10 +30,11 @@ fn are_distinct(numbers: Vec<u64>) -> bool
 fn path_hashes(alloc: Global, imports: &[ImportFact]) -> Result<Vec<u64>, AllocError>
     ensures { IfOk result (λ v. v.items ≡ map (λ i. hash_of i.path) imports.now) }
 {
-    imports
-        .iter()
-        .map(|import| hash_of(import.path.as_str().as_bytes()))
-        .collect(alloc)
+    let mut hashes = Vec::with_capacity(alloc, imports.len())?;
+    for import in imports {
+        hashes.push(hash_of(import.path.as_str().as_bytes()))?;
+    }
+    Ok(hashes)
 }
 
 // Adds the imports whose path an earlier one has, by a set of the paths met.
@@ -72,10 +73,11 @@ pub fn add_imported_twice(
 fn name_hashes(alloc: Global, decls: &[Decl]) -> Result<Vec<u64>, AllocError>
     ensures { IfOk result (λ v. v.items ≡ map (λ d. hash_of d.full_name) decls.now) }
 {
-    decls
-        .iter()
-        .map(|decl| decl.full_name.hash())
-        .collect(alloc)
+    let mut hashes = Vec::with_capacity(alloc, decls.len())?;
+    for decl in decls {
+        hashes.push(decl.full_name.hash())?;
+    }
+    Ok(hashes)
 }
 
 // Adds the declarations whose full name an earlier one has, by a set of the names met.

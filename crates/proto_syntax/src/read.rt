@@ -104,7 +104,7 @@ fn statement_tree(
 {
     match statement(alloc, body, item)? {
         Some(node) => {
-            make_room(alloc, nodes.len());
+            make_room(alloc, nodes.len())?;
             nodes.push(node)
         }
         None => bad(SyntaxProblem::NotUnderstood, item, faults),
@@ -198,7 +198,7 @@ fn form_tree(
                 ..reader
             };
             let items = body_tree(inside, inner, faults)?;
-            make_room(reader.alloc, nodes.len());
+            make_room(reader.alloc, nodes.len())?;
             nodes.push(block_node(reader.alloc, span_of(item.tokens), header, items)?)
         }
     }
