@@ -22,3 +22,4 @@ pub mod InsertedPackages
 pub mod Outlines
 pub mod ChangedDecls
 pub mod MovedFiles
+pub mod Copies

@@ -1,5 +1,5 @@
 -- Entries in buckets: those whose hashes leave the same remainder stand together.
-use Rattle.std.specs.Prelude.{◌≡◌, ℕ, ◌<◌, ◌%◌, ◌==◌, ◌++◌, List, [], Bool, filter, length, slice_index_or}
+use Rattle.std.specs.Prelude.{◌≡◌, ℕ, ◌<◌, ◌%◌, ◌==◌, ◌++◌, List, [], Bool, filter, length, map, slice_index_or}
 use Rattle.std.specs.declared.cmp.Ordering.{Ordering}
 use Rattle.file_facts.specs.declared.named_facts.NamedFacts.{NamedFacts}
 use Rattle.proto_names.specs.declared.buckets.Buckets.{Buckets}
@@ -30,3 +30,9 @@ pub record AreInBuckets (order : HashedDecl → HashedDecl → Ordering) (entrie
 pub record AreByName (files : List NamedFacts) (names holders : Buckets) : Type 0 where
   pub names_are : AreInBuckets (by_name (name_at files)) (name_entries files) names.list.items
   pub holders_are : AreInBuckets (by_scope (name_at files)) (holder_entries files) holders.list.items
+
+-- the buckets have the same entries in the same order
+pub record AreCopies (old new : List HashedDecls) : Type 0 where
+  pub as_many : length new ≡ length old
+  pub hashes_are : map (λ d. d.hashes.items) new ≡ map (λ d. d.hashes.items) old
+  pub decls_are : map (λ d. d.decls.items) new ≡ map (λ d. d.decls.items) old

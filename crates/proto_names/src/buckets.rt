@@ -4,7 +4,7 @@ ghost use Rattle.std.specs.Prelude.{◌≡◌, ◌<◌, ◌%◌, ◌∷◌, ℕ,
 ghost use Rattle.std.specs.Cmp.{IsTotalOrder};
 ghost use Rattle.std.specs.List.{flat_map};
 ghost use Rattle.proto_names.specs.declared.hashed.HashedDecls.{HashedDecls};
-ghost use Rattle.proto_names.specs.Buckets.{is_in, AreAllInOrder, AreDealt, AreInBuckets};
+ghost use Rattle.proto_names.specs.Buckets.{is_in, AreAllInOrder, AreCopies, AreDealt, AreInBuckets};
 ghost use Rattle.proto_names.specs.Entries.{all_entries, entries_of};
 ghost use Rattle.proto_names.specs.Tables.{AreInOrder};
 
@@ -202,6 +202,17 @@ fn count_all<T>(lists: &[Vec<T>]) -> usize {
 }
 
 impl Buckets {
+    // The same buckets, in memory of their own. Nothing is put in order anew.
+    pub(crate) fn copy(&self, alloc: Global) -> Result<Buckets, AllocError>
+        ensures { IfOk result (λ c. AreCopies self.now.list.items c.list.items) }
+    {
+        let mut list = Vec::with_capacity(alloc, self.list.len())?;
+        for bucket in self.list.as_slice() {
+            list.push(bucket.copy(alloc)?)?;
+        }
+        Ok(Buckets { list })
+    }
+
     // Buckets of the entries of lists, each put in order.
     fn in_order<O: EntryOrder>(
         alloc: Global,

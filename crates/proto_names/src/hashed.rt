@@ -31,6 +31,18 @@ pub struct HashedDecls {
     pub decls: Vec<DeclRef>,
 }
 
+impl HashedDecls {
+    // The same declarations, in memory of their own.
+    pub(crate) fn copy(&self, alloc: Global) -> Result<HashedDecls, AllocError>
+        ensures hashes { IfOk result (λ c. c.hashes.items ≡ self.now.hashes.items) }
+        ensures decls { IfOk result (λ c. c.decls.items ≡ self.now.decls.items) }
+    {
+        let hashes = Vec::from_slice(alloc, self.hashes.as_slice())?;
+        let decls = Vec::from_slice(alloc, self.decls.as_slice())?;
+        Ok(HashedDecls { hashes, decls })
+    }
+}
+
 // The declarations with their hashes.
 pub fn hashed_decls<N: Naming>(
     alloc: Global,

@@ -82,6 +82,20 @@ pub fn holders_in_buckets(
     Buckets::of::<ByScope>(alloc, files, runs)
 }
 
+// The same files, whose facts are shared.
+fn copy_files(alloc: Global, files: &[NamedFacts]) -> Result<Vec<NamedFacts>, AllocError>
+    ensures { IfOk result (λ c. c.items ≡ files.now) }
+{
+    let mut copies = Vec::with_capacity(alloc, files.len())?;
+    for file in files {
+        copies.push(NamedFacts {
+            path: file.path.copy(alloc)?,
+            facts: file.facts.another()?,
+        })?;
+    }
+    Ok(copies)
+}
+
 // Counts the entries to their buckets, of which these are the lengths, and gives how many are in the bucket of each one then, added up.
 fn count_in(entries: &[HashedDecl], lens: &mut Vec<usize>) -> usize
     requires { 0 < length lens.old.items }
@@ -221,6 +235,20 @@ impl NameTable {
             names,
             holders,
         }
+    }
+
+    /// The same table, in memory of its own but for the facts, which it shares. An `Err` comes only where memory was refused.
+    pub fn copy(&self, alloc: Global) -> Result<NameTable, AllocError>
+        ensures { IfOk result (λ t. t ≡ self.now) }
+    {
+        let files = copy_files(alloc, self.files.as_slice())?;
+        let names = self.names.copy(alloc)?;
+        let holders = self.holders.copy(alloc)?;
+        Ok(NameTable {
+            files,
+            names,
+            holders,
+        })
     }
 
     /// The files.

@@ -43,6 +43,16 @@ impl ListedTable {
         Ok(ListedTable { table, decls })
     }
 
+    /// The same table with its list, as by [`Table::copy`]. An `Err` comes only where memory was refused.
+    pub fn copy(&self, alloc: Global) -> Result<ListedTable, AllocError>
+        ensures { IfOk result (λ t. t ≡ self.now) }
+    {
+        Ok(ListedTable {
+            table: self.table.copy(alloc)?,
+            decls: Vec::from_slice(alloc, self.decls.as_slice())?,
+        })
+    }
+
     /// The table.
     pub fn table(&self) -> &Table
         ensures { result.now ≡ self.now }

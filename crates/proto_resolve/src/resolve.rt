@@ -7,7 +7,7 @@ use crate::alone::are_alone;
 use crate::diagnostics::{import_diagnostics, view_diagnostics};
 use crate::index::Index;
 use crate::sites::names_of_file;
-use crate::uses::{NameUse, resolve_names};
+use crate::uses::{NameUse, copy_uses, resolve_names};
 use crate::views::view_of;
 use file_facts::{Diag, fitted, in_order};
 use sqlite_items::Items;
@@ -21,6 +21,18 @@ pub struct Links {
     pub uses: Items<NameUse>,
     /// The diagnostics 401 to 406, each once, by start, end, number and words.
     pub diags: Items<Diag>,
+}
+
+impl Links {
+    /// The same, in memory of their own. An `Err` comes only where memory was refused.
+    pub fn copy(&self, alloc: Global) -> Result<Links, AllocError>
+        ensures { IfOk result (λ links. links ≡ self.now) }
+    {
+        Ok(Links {
+            uses: copy_uses(alloc, self.uses.as_slice())?,
+            diags: Items::from_slice(alloc, self.diags.as_slice())?,
+        })
+    }
 }
 
 // Uses, and diagnostics in order.

@@ -93,7 +93,7 @@ fn push_type(
     if is_scalar(text, name) {
         return Ok(());
     }
-    make_room(alloc, found.len());
+    make_room(alloc, found.len())?;
     found.push(site(alloc, text, Needs::MessageOrEnum, name, scopes)?)
 }
 

@@ -85,6 +85,16 @@ impl Table {
         Ok(Table { names, base })
     }
 
+    /// The same table, in memory of its own but for the facts of the files, which it shares. The names are copied as they are; the graph and the
+    /// packages are made anew. An `Err` comes only where memory was refused.
+    pub fn copy(&self, alloc: Global) -> Result<Table, AllocError>
+        ensures { IfOk result (λ t. t ≡ self.now) }
+    {
+        let names = self.names.copy(alloc)?;
+        let base = TableBase::of(alloc, names.files())?;
+        Ok(Table { names, base })
+    }
+
     // The table of the files whose declarations by name and whose base these are.
     fn of_parts(names: NameTable, base: TableBase) -> Table
         requires { IsBaseOf names base }

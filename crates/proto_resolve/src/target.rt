@@ -1,6 +1,9 @@
 // What names mean.
+ghost use Rattle.std.specs.Prelude.{◌≡◌, IfOk};
+
 use file_facts::Name;
 use proto_names::DeclRef;
+use std::alloc::{AllocError, Global};
 
 /// What a name refers to.
 #[derive(Debug, Drop)]
@@ -9,4 +12,16 @@ pub enum Target {
     Declared(DeclRef),
     /// A package, by its full name.
     Package(Name),
+}
+
+impl Target {
+    /// The same, in memory of its own. An `Err` comes only where memory was refused.
+    pub fn copy(&self, alloc: Global) -> Result<Target, AllocError>
+        ensures { IfOk result (λ t. t ≡ self.now) }
+    {
+        match self {
+            Target::Declared(decl) => Ok(Target::Declared(*decl)),
+            Target::Package(name) => Ok(Target::Package(name.copy(alloc)?)),
+        }
+    }
 }

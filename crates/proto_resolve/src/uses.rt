@@ -31,6 +31,30 @@ pub struct NameUse {
     pub target: Target,
 }
 
+impl NameUse {
+    /// The same, in memory of its own. An `Err` comes only where memory was refused.
+    pub fn copy(&self, alloc: Global) -> Result<NameUse, AllocError>
+        ensures { IfOk result (λ u. u ≡ self.now) }
+    {
+        Ok(NameUse {
+            span: self.span,
+            name: self.name,
+            target: self.target.copy(alloc)?,
+        })
+    }
+}
+
+// The same uses, in memory of their own.
+pub fn copy_uses(alloc: Global, uses: &[NameUse]) -> Result<Items<NameUse>, AllocError>
+    ensures { IfOk result (λ c. c ≡ uses.now) }
+{
+    let mut copies = Items::from_vec(Vec::with_capacity(alloc, uses.len())?);
+    for found in uses {
+        copies.push(found.copy(alloc)?)?;
+    }
+    Ok(copies)
+}
+
 // The uses of the names of a file, in order, and what is wrong with what the names mean.
 #[derive(Drop)]
 pub struct ResolvedNames {
