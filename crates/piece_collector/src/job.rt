@@ -30,7 +30,7 @@ impl Job {
     }
 
     /// The job of this path and stamp, and of this text, which it may share.
-    pub(crate) fn sharing(path: String, stamp: u64, text: SharedText) -> Job
+    pub fn sharing(path: String, stamp: u64, text: SharedText) -> Job
         ensures { result ≡ record { path = string_bytes path; stamp = stamp; text = text } }
     {
         Job { path, stamp, text }

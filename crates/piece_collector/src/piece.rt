@@ -91,6 +91,13 @@ impl<W: Work> Piece<W> {
         self.text.as_str()
     }
 
+    /// The text for another owner, as by [`SharedText::another`].
+    pub fn shared_text(&self) -> Result<SharedText, AllocError>
+        ensures { IfOk result (λ text. text ≡ self.now.text) }
+    {
+        self.text.another()
+    }
+
     /// The product, which stands for the value of the piece's text.
     pub fn out(&self) -> &W::Out
         ensures { ∥ W.is_product_of result.now self.now.text ∥₁ }

@@ -21,7 +21,6 @@ use Rattle.import_graph.specs.Arrivals.{ArrivalLaw, NobodyImports}
 use Rattle.import_graph.specs.Moves.{place}
 use Rattle.import_graph.specs.Paths.{IsInPathOrder}
 use Rattle.import_graph.proofs.FileInserted.{map_insert}
-use Rattle.proto_names.specs.Files.{all_decls}
 use Rattle.proto_resolve.specs.declared.resolve.Links.{Links}
 use Rattle.proto_names.specs.declared.decl_ref.DeclRef.{DeclRef}
 use Rattle.proto_resolve.specs.declared.target.Target.{Target}
@@ -183,23 +182,9 @@ still_ordered a file arrives k table is here =
     subst (λ (files : List NamedFacts). IsInPathOrder (insert files k (named_facts file))) (sym is)
     (subst (λ k. IsInPathOrder (insert (all_facts arrives.old) k (named_facts file))) (sym here) (in_order arrives.old arrives.at file arrives.within arrives.ordered))
 
--- ---- the analysis of its parts
+-- ---- the texts
 
-pub is_analysis_of : (w : Workspace) (index : List NamedFacts) (paths : List (List ℕ)) (links : List Links) (diagnostics : List (List Diag))
-    → index ≡ all_facts w → paths ≡ map (λ f. f.0) w → links ≡ made (resolution_of w) w → diagnostics ≡ made (diagnostics_of w) w
-    → record { paths = paths; facts = map (λ file. file.facts) index; decls = all_decls index; links = links; diagnostics = diagnostics } ≡ analysis w
-is_analysis_of w index paths links diagnostics all are linked wrong =
-    rw (all, are, linked, wrong) (ap (λ fs. record { paths = map (λ f. f.0) w; facts = fs; decls = all_decls (all_facts w); links = made (resolution_of w) w; diagnostics = made (diagnostics_of w) w })
-    (map-map (λ file. file.facts) named_facts w))
-
--- there are as many of all as files
-pub as_many_of : (w : Workspace) (index : List NamedFacts) (paths : List (List ℕ)) (links : List Links) (diagnostics : List (List Diag))
-    → index ≡ all_facts w → paths ≡ map (λ f. f.0) w → links ≡ made (resolution_of w) w → diagnostics ≡ made (diagnostics_of w) w
-    → (length paths ≡ length index) × (length links ≡ length index) × (length diagnostics ≡ length index) × (paths ≡ map (λ file. file.path) index)
-as_many_of w index paths links diagnostics all are linked wrong =
-    let long : length index ≡ length w = ap length all ∙ length-map w named_facts in (
-      ap length are ∙ length-map w (λ f. f.0) ∙ sym long,
-      ap length linked ∙ made_length (resolution_of w) w ∙ sym long,
-      ap length wrong ∙ made_length (diagnostics_of w) w ∙ sym long,
-      are ∙ sym (map-map (λ file. file.path) named_facts w) ∙ ap (map (λ file. file.path)) (sym all),
-    )
+-- those of the others with that of the file among them are those of all files
+pub texts_with : (texts : List (List ℕ)) (text : List ℕ) (k at : ℕ) (old : Workspace) (file : List ℕ × List ℕ) → texts ≡ map (λ f. f.1) old → text ≡ file.1 → k ≡ at → insert texts k text ≡ map (λ f. f.1) (insert old at file)
+texts_with texts text k at old file are is here =
+    ap₂ (λ (ts : List (List ℕ)) (t : List ℕ). insert ts k t) are is ∙ ap (λ n. insert (map (λ (f : List ℕ × List ℕ). f.1) old) n file.1) here ∙ sym (map_insert (λ (f : List ℕ × List ℕ). f.1) old at file)

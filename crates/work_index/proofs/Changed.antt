@@ -30,6 +30,7 @@ use Rattle.link_changes.specs.Touched.{Tells}
 use Rattle.work_index.specs.Changes.{DifferAt}
 use Rattle.work_index.specs.declared.again.Told.{Told}
 use Rattle.work_index.specs.declared.again.FileChange.{FileChange}
+use Rattle.work_index.specs.Known.{analysis_with}
 use Rattle.work_index.specs.Pieces.{workspace_of}
 use Rattle.work_index.specs.Workspace.{Workspace, AnalysisData, all_facts, analysis, diagnostics_of, resolution_of, named_facts}
 
@@ -180,12 +181,9 @@ pub record AreParts (table : List NamedFacts) (paths : List (List ℕ)) (links :
   pub links_are : links ≡ made (resolution_of b) b
   pub diagnostics_are : diagnostics ≡ made (diagnostics_of b) b
 
-abbrev analysis_with : List NamedFacts → List (List ℕ) → List Links → List (List Diag) → AnalysisData
-analysis_with table paths links diagnostics = record { paths = paths; facts = map (λ file. file.facts) table; decls = all_decls table; links = links; diagnostics = diagnostics }
-
-pub parts : (table : List NamedFacts) (paths : List (List ℕ)) (links : List Links) (diagnostics : List (List Diag)) (b : Workspace)
-    → paths ≡ map (λ f. f.path) table → analysis_with table paths links diagnostics ≡ analysis b → AreParts table paths links diagnostics b
-parts table paths links diagnostics b named is = record {
+pub parts : (table : List NamedFacts) (paths : List (List ℕ)) (texts : List (List ℕ)) (links : List Links) (diagnostics : List (List Diag)) (b : Workspace)
+    → paths ≡ map (λ f. f.path) table → analysis_with table paths texts links diagnostics ≡ analysis b → AreParts table paths links diagnostics b
+parts table paths texts links diagnostics b named is = record {
   table_is = same_files table b (sym named ∙ ap (λ a. a.paths) is) (ap (λ a. a.facts) is);
   paths_are = ap (λ a. a.paths) is;
   links_are = ap (λ a. a.links) is;

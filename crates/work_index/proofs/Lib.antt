@@ -15,3 +15,6 @@ pub mod Kept
 pub mod KeptShares
 pub mod Promised
 pub mod OwnDiags
+pub mod Known
+pub mod KeptTexts
+pub mod OtherTexts

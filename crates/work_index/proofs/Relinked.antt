@@ -230,7 +230,7 @@ facts_in [] n there = absurd (omega (arith, there))
 facts_in (x ∷ w) zero there = refl
 facts_in (x ∷ w) (suc n) there = facts_in w n (omega (arith, there))
 
-outside : (f n : ℕ) (rest : List ℕ) → n ≢ f → (Contains rest n → ⊥) → Contains (f ∷ rest) n → ⊥
+pub outside : (f n : ℕ) (rest : List ℕ) → n ≢ f → (Contains rest n → ⊥) → Contains (f ∷ rest) n → ⊥
 outside f n rest apart out has = by has.0 has.1 has.2
   where
     by : (k : ℕ) → k < length (f ∷ rest) → get_or (f ∷ rest) k n ≡ n → ⊥

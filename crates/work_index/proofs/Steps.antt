@@ -1,17 +1,13 @@
 -- A list that is made file by file.
-use Rattle.std.proofs.Common.{◌≡◌, ◌++◌, ◌∷◌, [], ◌+◌, ◌<◌, ◌≤◌, ℕ, suc, List, length, get_or, drop, map, sym, ap, ap₂, ◌∙◌, add-one, append_assoc, arith, drop-cons}
+use Rattle.std.proofs.Common.{◌≡◌, ◌++◌, ◌∷◌, [], ◌+◌, ◌<◌, ◌≤◌, ℕ, suc, List, length, get_or, drop, map, sym, ap, ◌∙◌, add-one, append_assoc, arith, drop-cons}
 use Rattle.std.proofs.lemmas.List.{length-map}
-use Rattle.std.proofs.lemmas.Simd.{map-map}
 use Rattle.std.proofs.lemmas.List.FromFn.{length-enumerate_from}
 use Rattle.std.specs.List.{enumerate_from}
 use Rattle.piece_collector.specs.Views.{TextAt}
-use Rattle.file_facts.specs.declared.diagnostic.Diag.{Diag}
 use Rattle.file_facts.specs.declared.named_facts.NamedFacts.{NamedFacts}
-use Rattle.proto_resolve.specs.declared.resolve.Links.{Links}
-use Rattle.proto_names.specs.Files.{all_decls}
 use Rattle.work_index.specs.Pieces.{workspace_of}
 use Rattle.work_index.specs.Shares.{AreNumbersIn}
-use Rattle.work_index.specs.Workspace.{analysis, named_facts, all_facts, resolution_of, diagnostics_of}
+use Rattle.work_index.specs.Workspace.{named_facts, all_facts}
 
 -- what f makes of each of the files from n on
 abbrev pub made_from : {X : Type 0} → (ℕ × (List ℕ × List ℕ) → X) → ℕ → List TextAt → List X
@@ -36,22 +32,3 @@ all_numbered ts index all held =
 
 pub length_made : {X : Type 0} (f : ℕ × (List ℕ × List ℕ) → X) (ts : List TextAt) → length (made_from f 0 ts) ≡ length ts
 length_made f ts = length-map (enumerate_from 0 (workspace_of ts)) f ∙ length-enumerate_from 0 (workspace_of ts) ∙ length-map ts _
-
-pub as_long : {X : Type 0} (f : ℕ × (List ℕ × List ℕ) → X) (ts : List TextAt) (made : List X) (index : List NamedFacts) → made ≡ made_from f 0 ts → index ≡ all_facts (workspace_of ts) → length made ≡ length index
-as_long f ts made index is all = rw (is, all) (length_made f ts ∙ sym (length-map (workspace_of ts) named_facts ∙ length-map ts _))
-
-pub paths_as_long : (ts : List TextAt) (paths : List (List ℕ)) (index : List NamedFacts) → paths ≡ map (λ t. t.path) ts → index ≡ all_facts (workspace_of ts) → length paths ≡ length index
-paths_as_long ts paths index are all = rw (are, all) (length-map ts _ ∙ sym (length-map (workspace_of ts) named_facts ∙ length-map ts _))
-
--- an index of the files, their paths, and what is made of each of them are the analysis
-pub is_analysis : (ts : List TextAt) (index : List NamedFacts) (paths : List (List ℕ)) (links : List Links) (diagnostics : List (List Diag))
-    → index ≡ all_facts (workspace_of ts) → paths ≡ map (λ t. t.path) ts → links ≡ made_from (resolution_of (workspace_of ts)) 0 ts → diagnostics ≡ made_from (diagnostics_of (workspace_of ts)) 0 ts
-    → record { paths = paths; facts = map (λ file. file.facts) index; decls = all_decls index; links = links; diagnostics = diagnostics } ≡ analysis (workspace_of ts)
-is_analysis ts index paths links diagnostics all are linked wrong =
-    let w = workspace_of ts in
-    rw (all, are, linked, wrong) (ap₂ (λ ps fs. record { paths = ps; facts = fs; decls = all_decls (all_facts w); links = made_from (resolution_of w) 0 ts; diagnostics = made_from (diagnostics_of w) 0 ts })
-    (sym (map-map (λ file. file.0) (λ t. (t.path, t.text)) ts)) (map-map (λ file. file.facts) named_facts w))
-
-pub paths_are : (ts : List TextAt) (paths : List (List ℕ)) (index : List NamedFacts) → paths ≡ map (λ t. t.path) ts → index ≡ all_facts (workspace_of ts) → paths ≡ map (λ file. file.path) index
-paths_are ts paths index are all =
-    are ∙ sym (map-map (λ f. f.0) (λ t. (t.path, t.text)) ts) ∙ sym (map-map (λ file. file.path) named_facts (workspace_of ts)) ∙ ap (map (λ file. file.path)) (sym all)

@@ -22,6 +22,8 @@ use Rattle.work_index.specs.declared.again.Told.{Told}
 use Rattle.work_index.specs.declared.again.FileChange.{FileChange}
 use Rattle.work_index.specs.declared.again.Relinking.{Relinking}
 use Rattle.work_index.specs.declared.analysis.Resolutions.{Resolutions}
+use Rattle.piece_collector.specs.Views.{TextAt}
+use Rattle.work_index.specs.Pieces.{texts_of}
 use Rattle.work_index.specs.Workspace.{Workspace, AnalysisData, all_facts, analysis, merged}
 
 -- the analysis is that of the workspace before changes of the texts of these files: there the other files had the texts that they have
@@ -126,3 +128,10 @@ pub record AreTakenBut (rest : List ℕ) (files : List NamedFacts) (w : Workspac
   pub others : (n : ℕ) → n < length w → (Contains rest n → ⊥) → facts_at files n ≡ facts_at (all_facts w) n
   pub linked : AreLinked files w now
   pub wait : All (λ f. (f < length w) × (waits now f ≡ true)) rest
+
+-- ---- the texts that are kept
+
+-- there are as many texts as pieces, and those of other files than these are the pieces'
+pub record AreKeptBut (rest : List ℕ) (kept : List (List ℕ)) (pieces : List TextAt) : Type 0 where
+  pub count : length kept ≡ length pieces
+  pub others : (n : ℕ) → (Contains rest n → ⊥) → slice_index_or kept n [] ≡ slice_index_or (texts_of pieces) n []

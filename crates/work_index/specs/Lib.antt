@@ -8,3 +8,5 @@ pub mod Stretches
 pub mod Parts
 pub mod Shares
 pub mod Arrivals
+pub mod Known
+pub mod Edited

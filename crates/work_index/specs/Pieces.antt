@@ -1,7 +1,11 @@
 -- The workspace of some pieces.
-use Rattle.std.specs.Prelude.{List, map}
+use Rattle.std.specs.Prelude.{ℕ, List, map}
 use Rattle.piece_collector.specs.Views.{TextAt}
 use Rattle.work_index.specs.Workspace.{Workspace}
 
 abbrev pub workspace_of : List TextAt → Workspace
 workspace_of pieces = map (λ p. (p.path, p.text)) pieces
+
+-- their texts
+abbrev pub texts_of : List TextAt → List (List ℕ)
+texts_of pieces = map (λ p. p.text) pieces

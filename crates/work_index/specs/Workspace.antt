@@ -1,7 +1,7 @@
 -- What is known of a workspace.
-use Rattle.std.specs.Prelude.{ℕ, List, ◌++◌, map, filter, slice_index_or, bytes_eq, [], position}
+use Rattle.std.specs.Prelude.{◌≡◌, ℕ, List, ◌++◌, map, filter, slice_index_or, bytes_eq, [], position}
 use Rattle.std.specs.Option.{option_map_or}
-use Rattle.std.specs.List.{enumerate_from}
+use Rattle.std.specs.List.{enumerate_from, zip}
 use Rattle.syntax_tree.specs.Read.{value_tree}
 use Rattle.file_facts.specs.declared.diagnostic.Diag.{Diag}
 use Rattle.file_facts.specs.declared.fact.Decl.{Decl}
@@ -43,10 +43,11 @@ merged facts links = in_order (facts.diags ++ links.diags)
 abbrev pub diagnostics_of : Workspace → ℕ × (List ℕ × List ℕ) → List Diag
 diagnostics_of w file = merged (facts_of file.1.1) (resolution_of w file)
 
--- The analysis of a workspace: its paths; the facts of each file; all declarations, by path, then offset; the uses of
+-- The analysis of a workspace: its paths and its texts; the facts of each file; all declarations, by path, then offset; the uses of
 -- names in each file, with what is wrong by what it sees; and all that is wrong in each file.
 pub record AnalysisData : Type 0 where
   pub paths : List (List ℕ)
+  pub texts : List (List ℕ)
   pub facts : List FileFacts
   pub decls : List DeclRef
   pub links : List Links
@@ -55,11 +56,20 @@ pub record AnalysisData : Type 0 where
 abbrev pub analysis : Workspace → AnalysisData
 analysis w = record {
   paths = map (λ file. file.0) w;
+  texts = map (λ file. file.1) w;
   facts = map (λ file. facts_of file.1) w;
   decls = all_decls (all_facts w);
   links = map (resolution_of w) (enumerate_from 0 w);
   diagnostics = map (diagnostics_of w) (enumerate_from 0 w);
 }
+
+-- the workspace of an analysis
+abbrev pub workspace_in : AnalysisData → Workspace
+workspace_in a = zip a.paths a.texts
+
+-- it is the analysis of its own workspace
+pub record IsKnown (a : AnalysisData) : Type 0 where
+  pub is : a ≡ analysis (workspace_in a)
 
 -- what is wrong in each file of a workspace, with their paths
 pub record DiagnosisData : Type 0 where

@@ -12,17 +12,17 @@ ghost use Rattle.proto_resolve.specs.Seen.{SeenLaw};
 ghost use Rattle.link_changes.specs.Laws.{TouchedLaw};
 ghost use Rattle.link_changes.specs.Touched.{decl_after, links_after};
 ghost use Rattle.work_index.specs.declared.again.FileChange.{FileChange};
-ghost use Rattle.work_index.specs.Changes.{AreLinked, AreLinkedBefore, AreTakenBut, DifferAt, Follows, IsBefore, IsSpared, StillWait, links_under, waiting_under, waits};
-ghost use Rattle.work_index.specs.Pieces.{workspace_of};
+ghost use Rattle.work_index.specs.Changes.{AreKeptBut, AreLinked, AreLinkedBefore, AreTakenBut, DifferAt, Follows, IsBefore, IsSpared, StillWait, links_under, waiting_under, waits};
+ghost use Rattle.work_index.specs.Pieces.{texts_of, workspace_of};
 ghost use Rattle.work_index.specs.Workspace.{Workspace, all_facts, analysis, diagnostics_of, resolution_of};
 
 use crate::analyse::{diagnostics_of, resolution_of};
 use crate::analysis::{Analysis, Resolutions};
-use crate::file_work::{FileWork, asked_in, shared_in};
+use crate::file_work::{FileWork, asked_in, shared_in, shared_text_in};
 use file_facts::FileFacts;
 use import_graph::{FileNo, Graph, SharedFacts, same_outlook};
 use link_changes::{Asked, Renumbering, Touched, renumber, touched_law};
-use piece_collector::Piece;
+use piece_collector::{Piece, SharedText};
 use proto_resolve::{Index, Links, ListedTable, Table, same_exports, same_imports, seen_law};
 use std::alloc::{AllocError, Global};
 
@@ -350,6 +350,23 @@ fn link_waiting(
     Ok(resolutions)
 }
 
+// The texts of all pieces, from those before changes of some files: the others stay.
+fn keep_changed(
+    texts: Vec<SharedText>,
+    changed: &[FileNo],
+    pieces: &[Piece<FileWork>],
+) -> Result<Vec<SharedText>, AllocError>
+    requires within { All (λ f. f < length pieces.now) changed.now }
+    requires kept { AreKeptBut changed.now texts.items pieces.now }
+    ensures { IfOk result (λ all. all.items ≡ texts_of pieces.now) }
+{
+    let mut kept = texts;
+    for file in changed {
+        kept[*file] = shared_text_in(&pieces[*file])?;
+    }
+    Ok(kept)
+}
+
 /// The analysis of the workspace of some pieces, which are in the order of their paths, no path twice, after changes of the texts
 /// of some files. It is given the analysis before the changes, and the files' numbers, from 0. Links again only those files, the
 /// files of which the imports say another thing than before, and of those that see a changed one the ones that may ask for a name
@@ -368,6 +385,7 @@ pub fn analyse_again(
     let Analysis {
         table,
         paths,
+        texts,
         resolutions,
     } = earlier;
     let waiting = waiting_of(alloc, pieces.len(), changed)?;
@@ -377,9 +395,11 @@ pub fn analyse_again(
     };
     let table = take_changes(alloc, table, changed, pieces, &mut relinking)?;
     let resolutions = link_waiting(alloc, table.table(), pieces, relinking)?;
+    let texts = keep_changed(texts, changed, pieces)?;
     Ok(Analysis {
         table,
         paths,
+        texts,
         resolutions,
     })
 }

@@ -3,17 +3,17 @@ ghost use Rattle.std.specs.Prelude.{◌≡◌, ◌<◌, ◌++◌, [], ◌∷◌,
 ghost use Rattle.std.specs.List.{enumerate_from};
 ghost use Rattle.file_facts.specs.Facts.{facts_of};
 ghost use Rattle.piece_collector.specs.Board.{Ascends};
-ghost use Rattle.work_index.specs.Pieces.{workspace_of};
+ghost use Rattle.work_index.specs.Pieces.{texts_of, workspace_of};
 ghost use Rattle.work_index.specs.Shares.{AreNumbersIn};
 ghost use Rattle.work_index.specs.Workspace.{Workspace, all_facts, analysis, resolution_of, merged, diagnostics_of};
 
 use crate::analysis::{Analysis, Resolutions};
-use crate::file_work::{FileWork, facts_in, tree_in};
+use crate::file_work::{FileWork, facts_in, shared_text_in, tree_in};
 use crate::gate::{Gate, OpenGate};
 use crate::room::make_room;
 use crate::table_of::listed_table_of;
 use file_facts::{Diag, Name, in_order};
-use piece_collector::Piece;
+use piece_collector::{Piece, SharedText};
 use proto_resolve::{Links, Table, resolve_file};
 use sqlite_items::Items;
 use std::alloc::{AllocError, Global};
@@ -34,6 +34,17 @@ pub fn path_of(alloc: Global, piece: &Piece<FileWork>) -> Result<Name, AllocErro
     ensures { IfOk result (λ path. path ≡ piece.now.path) }
 {
     Ok(Name::of(String::from_str(alloc, piece.path())?))
+}
+
+// The texts of pieces for another owner.
+pub fn texts_of(alloc: Global, pieces: &[Piece<FileWork>]) -> Result<Vec<SharedText>, AllocError>
+    ensures { IfOk result (λ texts. texts.items ≡ texts_of pieces.now) }
+{
+    let mut texts = Vec::with_capacity(alloc, pieces.len())?;
+    for piece in pieces {
+        texts.push(shared_text_in(piece)?)?;
+    }
+    Ok(texts)
 }
 
 // What the names of a file of the table mean, and what is wrong in it by what it sees.
@@ -171,9 +182,11 @@ pub fn analyse_here(alloc: Global, pieces: &[Piece<FileWork>]) -> Result<Analysi
     let table = listed_table_of(alloc, pieces)?;
     let paths = paths_of(alloc, pieces)?;
     let resolutions = link_files(alloc, table.table(), 0, pieces, &OpenGate)?;
+    let texts = texts_of(alloc, pieces)?;
     Ok(Analysis {
         table,
         paths,
+        texts,
         resolutions,
     })
 }

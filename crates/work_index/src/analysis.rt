@@ -1,14 +1,16 @@
 // What is known of a workspace.
-ghost use Rattle.std.specs.Prelude.{◌≡◌, ◌<◌, ◌↔◌, [], length, Some, None, bytes_eq, position, slice_index_or, IsFalse};
+ghost use Rattle.std.specs.Prelude.{◌≡◌, ◌<◌, ◌↔◌, [], length, Some, None, bytes_eq, position, slice_index_or, IfOk, IsFalse};
 ghost use Rattle.work_index.specs.Arrivals.{NoneImports};
 
 use file_facts::{Diag, FileFacts, Name};
 use import_graph::FileNo;
+use piece_collector::SharedText;
 use proto_resolve::{DeclRef, Index, Links, ListedTable};
 use sqlite_items::Items;
+use std::alloc::{AllocError, Global};
 use std::marker::Model;
 
-/// What is known of a workspace: the facts of each file, all declarations, what the names of each file mean, and what is
+/// What is known of a workspace: the text and the facts of each file, all declarations, what the names of each file mean, and what is
 /// wrong in each file.
 ///
 /// A file is a number: its place, counted from 0, in the list of paths. An analysis owns all that it holds.
@@ -16,6 +18,7 @@ use std::marker::Model;
 pub struct Analysis {
     pub(crate) table: ListedTable,
     pub(crate) paths: Vec<Name>,
+    pub(crate) texts: Vec<SharedText>,
     pub(crate) resolutions: Resolutions,
 }
 
@@ -26,33 +29,103 @@ pub struct Resolutions {
     pub diagnostics: Vec<Items<Diag>>,
 }
 
+// Once more what the names of each file mean.
+fn copy_links(alloc: Global, all: &[Links]) -> Result<Vec<Links>, AllocError>
+    ensures { IfOk result (λ copies. copies.items ≡ all.now) }
+{
+    let mut copies = Vec::with_capacity(alloc, all.len())?;
+    for links in all {
+        copies.push(links.copy(alloc)?)?;
+    }
+    Ok(copies)
+}
+
+// Once more what is wrong in each file.
+fn copy_diagnostics(alloc: Global, all: &[Items<Diag>]) -> Result<Vec<Items<Diag>>, AllocError>
+    ensures { IfOk result (λ copies. copies.items ≡ all.now) }
+{
+    let mut copies = Vec::with_capacity(alloc, all.len())?;
+    for diagnostics in all {
+        copies.push(Items::from_slice(alloc, diagnostics.as_slice())?)?;
+    }
+    Ok(copies)
+}
+
+// Once more the paths of the files.
+fn copy_paths(alloc: Global, all: &[Name]) -> Result<Vec<Name>, AllocError>
+    ensures { IfOk result (λ copies. copies.items ≡ all.now) }
+{
+    let mut copies = Vec::with_capacity(alloc, all.len())?;
+    for path in all {
+        copies.push(path.copy(alloc)?)?;
+    }
+    Ok(copies)
+}
+
+// The same texts for another owner.
+pub fn share_texts(alloc: Global, all: &[SharedText]) -> Result<Vec<SharedText>, AllocError>
+    ensures { IfOk result (λ shared. shared.items ≡ all.now) }
+{
+    let mut shared = Vec::with_capacity(alloc, all.len())?;
+    for text in all {
+        shared.push(text.another()?)?;
+    }
+    Ok(shared)
+}
+
 impl Model for Analysis {
-    ghost use Rattle.std.specs.Prelude.{◌≡◌, map, length};
-    ghost use Rattle.proto_names.specs.Files.{all_decls};
+    ghost use Rattle.work_index.specs.Known.{HoldTogether, analysis_with};
     ghost use Rattle.work_index.specs.Workspace.{AnalysisData};
 
     ghost Value = { AnalysisData };
 
-    ghost view = { λ a. record {
-      paths = a.paths.items;
-      facts = map (λ file. file.facts) a.table;
-      decls = all_decls a.table;
-      links = a.resolutions.links.items;
-      diagnostics = a.resolutions.diagnostics.items;
-    } };
+    ghost view = { λ a. analysis_with a.table a.paths.items a.texts.items a.resolutions.links.items a.resolutions.diagnostics.items };
 
-    ghost invariant = { λ a. (length a.paths.items ≡ length a.table) × (length a.resolutions.links.items ≡ length a.table) × (length a.resolutions.diagnostics.items ≡ length a.table) × (a.paths.items ≡ map (λ file. file.path) a.table) };
+    ghost invariant = { λ a. HoldTogether a.table a.paths.items a.texts.items a.resolutions.links.items a.resolutions.diagnostics.items };
 }
 
 impl Analysis {
     ghost use Rattle.std.specs.List.{slice_get};
-    ghost use Rattle.work_index.specs.Workspace.{decls_named, diags_at};
+    ghost use Rattle.work_index.specs.Workspace.{IsKnown, decls_named, diags_at};
 
     /// The paths of the files, by their bytes.
     pub fn files(&self) -> &[Name]
         ensures { result.now ≡ self.now.paths }
     {
         self.paths.as_slice()
+    }
+
+    /// The text of a file.
+    pub fn text(&self, file: FileNo) -> &str
+        requires { file < length self.now.paths }
+        ensures { slice_get self.now.texts file ≡ Some result.now }
+    {
+        self.texts[file].as_str()
+    }
+
+    /// Says that this is the analysis of the workspace of its paths and texts, as each analysis is. Does nothing.
+    pub fn known(&self)
+        ensures { IsKnown self.now }
+    {
+        let _ = &self.paths;
+    }
+
+    // The same analysis, in memory of its own but for texts and facts, which it shares. An `Err` comes only where memory was refused.
+    pub(crate) fn copy(&self, alloc: Global) -> Result<Analysis, AllocError>
+        ensures { IfOk result (λ a. a ≡ self.now) }
+    {
+        let table = self.table.copy(alloc)?;
+        let paths = copy_paths(alloc, self.paths.as_slice())?;
+        let texts = share_texts(alloc, self.texts.as_slice())?;
+        let links = copy_links(alloc, self.resolutions.links.as_slice())?;
+        let diagnostics = copy_diagnostics(alloc, self.resolutions.diagnostics.as_slice())?;
+        let resolutions = Resolutions { links, diagnostics };
+        Ok(Analysis {
+            table,
+            paths,
+            texts,
+            resolutions,
+        })
     }
 
     /// What the text of a file says by itself.

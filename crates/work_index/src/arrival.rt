@@ -8,7 +8,7 @@ ghost use Rattle.work_index.specs.Workspace.{analysis};
 
 use crate::analyse::{diagnostics_of, path_of, resolution_of};
 use crate::analysis::Analysis;
-use crate::file_work::FileWork;
+use crate::file_work::{FileWork, shared_text_in};
 use crate::table_of::named_facts;
 use import_graph::{FileNo, arrival_law};
 use link_changes::{move_files, moved_law};
@@ -68,12 +68,14 @@ pub fn analyse_with(
     let Analysis {
         table,
         mut paths,
+        mut texts,
         mut resolutions,
     } = earlier;
     let at = table.table().place_for(piece.path());
     make_way(alloc, at, paths.len(), &mut resolutions.links)?;
     let table = table.with_unimported(alloc, at, named_facts(alloc, piece)?)?;
     paths.insert(at, path_of(alloc, piece)?)?;
+    texts.insert(at, shared_text_in(piece)?)?;
     let found = resolution_of(alloc, table.table(), at, piece)?;
     let diagnostics = diagnostics_of(alloc, piece, &found)?;
     resolutions.links.insert(at, found)?;
@@ -81,6 +83,7 @@ pub fn analyse_with(
     Ok(Analysis {
         table,
         paths,
+        texts,
         resolutions,
     })
 }

@@ -9,7 +9,7 @@ use crate::room::make_room;
 use file_facts::FileFacts;
 use import_graph::SharedFacts;
 use link_changes::Asked;
-use piece_collector::{Piece, Work};
+use piece_collector::{Piece, SharedText, Work};
 use proto_facts::facts;
 use proto_syntax::parse_text;
 use std::alloc::{AllocError, Global};
@@ -112,6 +112,13 @@ fn tree_of(alloc: Global, text: &str) -> Result<FileTree, AllocError>
     } else {
         parse_text(alloc, text)
     }
+}
+
+// A piece's text for another owner.
+pub fn shared_text_in(piece: &Piece<FileWork>) -> Result<SharedText, AllocError>
+    ensures { IfOk result (λ text. text ≡ piece.now.text) }
+{
+    piece.shared_text()
 }
 
 // The tree of a piece's text.

@@ -2,10 +2,9 @@ use Rattle.std.proofs.Common.{◌∙◌, ap, arith}
 use Rattle.import_graph.specs.Imports.{graph_of}
 use Rattle.work_index.specs.Pieces.{workspace_of}
 use Rattle.work_index.specs.Stayed.{IsSameFile}
-use Rattle.work_index.specs.Workspace.{resolution_of, diagnostics_of}
 use Rattle.work_index.proofs.Changed.{parts, pieces_length}
 use Rattle.work_index.proofs.Stayed.{none_taken}
-use Rattle.work_index.proofs.Steps.{as_long, paths_as_long, paths_are, is_analysis}
+use Rattle.work_index.proofs.Known.{hold_together, is_analysis}
 use Rattle.work_index.proofs.after.analyse_after.Goals as goal
 
 pub numbers_before-requires : goal.numbers_before-requires
@@ -18,26 +17,19 @@ pub link_after-requires-clause-earlier : goal.link_after-requires-clause-earlier
 link_after-requires-clause-earlier c =
     let was = c.requires.stayed in
     let inside = c.earlier.inside in
-    let of = parts inside.table inside.paths.items inside.resolutions.links.items inside.resolutions.diagnostics.items was.old c.earlier.invariant.3 (c.earlier.view_is ∙ was.is) in
+    let of = parts inside.table inside.paths.items inside.texts.items inside.resolutions.links.items inside.resolutions.diagnostics.items was.old c.earlier.invariant.3 (c.earlier.view_is ∙ was.is) in
     none_taken was.old (workspace_of c.args.pieces.now) c.args.to.now was.stayed (record { graph = c.in_ok-table.graph; links = inside.resolutions.links }) (c.in_ok-table.ensures.graph ∙ ap graph_of of.table_is) of.links_are
 
 pub invariant_of-result : goal.invariant_of-result
 invariant_of-result c =
-    let ts = c.args.pieces.now in
-    let w = workspace_of ts in
-    let all = c.in_ok-table.ensures.table in (
-      paths_as_long ts _ _ c.in_ok-paths.ensures all,
-      as_long (resolution_of w) ts _ _ c.in_ok-resolutions.ensures.links all,
-      as_long (diagnostics_of w) ts _ _ c.in_ok-resolutions.ensures.diagnostics all,
-      paths_are ts _ _ c.in_ok-paths.ensures all,
-    )
+    hold_together c.args.pieces.now _ _ _ _ _ c.in_ok-table.ensures.table c.in_ok-paths.ensures c.in_ok-texts.ensures c.in_ok-resolutions.ensures.links c.in_ok-resolutions.ensures.diagnostics
 
 pub returns : goal.returns
-returns c = is_analysis c.args.pieces.now _ _ _ _ c.in_ok-table.ensures.table c.in_ok-paths.ensures c.in_ok-resolutions.ensures.links c.in_ok-resolutions.ensures.diagnostics
+returns c = is_analysis c.args.pieces.now _ _ _ _ _ c.in_ok-table.ensures.table c.in_ok-paths.ensures c.in_ok-texts.ensures c.in_ok-resolutions.ensures.links c.in_ok-resolutions.ensures.diagnostics
 
 pub table_after-requires-clause-before : goal.table_after-requires-clause-before
 table_after-requires-clause-before c =
     let was = c.requires.stayed in
     let inside = c.earlier.inside in
-    let of = parts inside.table inside.paths.items inside.resolutions.links.items inside.resolutions.diagnostics.items was.old c.earlier.invariant.3 (c.earlier.view_is ∙ was.is) in
+    let of = parts inside.table inside.paths.items inside.texts.items inside.resolutions.links.items inside.resolutions.diagnostics.items was.old c.earlier.invariant.3 (c.earlier.view_is ∙ was.is) in
     record { old = was.old; is = of.table_is; stayed = was.stayed }

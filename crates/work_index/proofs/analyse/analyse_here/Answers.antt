@@ -1,7 +1,7 @@
 use Rattle.std.proofs.Common.{◌∙◌, rules}
 use Rattle.work_index.specs.Pieces.{workspace_of}
-use Rattle.work_index.specs.Workspace.{resolution_of, diagnostics_of}
-use Rattle.work_index.proofs.Steps.{all_numbered, as_long, paths_as_long, paths_are, is_analysis}
+use Rattle.work_index.proofs.Known.{hold_together, is_analysis}
+use Rattle.work_index.proofs.Steps.{all_numbered}
 use Rattle.work_index.proofs.analyse.analyse_here.Goals as goal
 
 pub link_files-requires-after_bounds : goal.link_files-requires-after_bounds
@@ -13,7 +13,7 @@ invariant_of-result c =
     let w = workspace_of ts in
     let all = c.in_ok-table.ensures in
     let known = c.table-2.ensures ∙ all in
-    (paths_as_long ts _ _ c.in_ok-paths.ensures all, as_long (resolution_of w) ts _ _ (c.in_ok-resolutions.ensures.links w known) all, as_long (diagnostics_of w) ts _ _ (c.in_ok-resolutions.ensures.diagnostics w known) all, paths_are ts _ _ c.in_ok-paths.ensures all)
+    hold_together ts _ _ _ _ _ all c.in_ok-paths.ensures c.in_ok-texts.ensures (c.in_ok-resolutions.ensures.links w known) (c.in_ok-resolutions.ensures.diagnostics w known)
 
 pub returns : goal.returns
 returns c =
@@ -21,4 +21,4 @@ returns c =
     let w = workspace_of ts in
     let all = c.in_ok-table.ensures in
     let known = c.table-2.ensures ∙ all in
-    is_analysis ts _ _ _ _ all c.in_ok-paths.ensures (c.in_ok-resolutions.ensures.links w known) (c.in_ok-resolutions.ensures.diagnostics w known)
+    is_analysis ts _ _ _ _ _ all c.in_ok-paths.ensures c.in_ok-texts.ensures (c.in_ok-resolutions.ensures.links w known) (c.in_ok-resolutions.ensures.diagnostics w known)

@@ -1,9 +1,9 @@
 use Rattle.std.proofs.Common.{◌∙◌, List, map, refl, sym, ap, subst}
 use Rattle.piece_collector.specs.Board.{Ascends}
 use Rattle.piece_collector.specs.Views.{TextAt}
-use Rattle.work_index.specs.Pieces.{workspace_of}
-use Rattle.work_index.specs.Workspace.{analysis, diagnostics_of, resolution_of}
-use Rattle.work_index.proofs.Steps.{as_long, paths_as_long, paths_are, is_analysis}
+use Rattle.work_index.specs.Pieces.{texts_of, workspace_of}
+use Rattle.work_index.specs.Workspace.{analysis}
+use Rattle.work_index.proofs.Known.{hold_together, is_analysis}
 use Rattle.work_index.proofs.in_shares.analyse_in_shares.Goals as goal
 
 pub of-requires-2-after_bounds : goal.of-requires-2-after_bounds
@@ -13,11 +13,11 @@ of-requires-2-after_bounds g c κs =
 pub invariant_of-analysis : goal.invariant_of-analysis
 invariant_of-analysis g c =
     let ts : List TextAt = c.into_pieces-pieces.result.items in
-    let w = workspace_of ts in
     let all = c.in_ok-of.ensures ∙ c.in_ok-table.ensures.table in
     let linked = c.in_ok-table.ensures.linked in
     let paths = c.in_ok-paths.ensures ∙ ap (map (λ (t : TextAt). t.path)) c.as_slice.ensures.value in
-    (paths_as_long ts _ _ paths all, as_long (resolution_of w) ts _ _ (linked.links refl) all, as_long (diagnostics_of w) ts _ _ linked.diagnostics all, paths_are ts _ _ paths all)
+    let texts = c.in_ok-texts.ensures ∙ ap texts_of (c.as_slice-2.ensures.value ∙ linked.pieces) in
+    hold_together ts _ _ _ _ _ all paths texts (linked.links refl) linked.diagnostics
 
 pub returns-clause-pieces : goal.returns-clause-pieces
 returns-clause-pieces g c = c.of-2.ensures ∙ (c.in_ok-table.ensures.linked.pieces ∙ c.into_pieces-pieces.ensures.pieces)
@@ -27,4 +27,5 @@ returns-clause-analysis g c =
     let ts : List TextAt = c.into_pieces-pieces.result.items in
     let linked = c.in_ok-table.ensures.linked in
     let paths = c.in_ok-paths.ensures ∙ ap (map (λ (t : TextAt). t.path)) c.as_slice.ensures.value in
-    is_analysis ts _ _ _ _ (c.in_ok-of.ensures ∙ c.in_ok-table.ensures.table) paths (linked.links refl) linked.diagnostics ∙ ap (λ us. analysis (workspace_of us)) c.into_pieces-pieces.ensures.pieces
+    let texts = c.in_ok-texts.ensures ∙ ap texts_of (c.as_slice-2.ensures.value ∙ linked.pieces) in
+    is_analysis ts _ _ _ _ _ (c.in_ok-of.ensures ∙ c.in_ok-table.ensures.table) paths texts (linked.links refl) linked.diagnostics ∙ ap (λ us. analysis (workspace_of us)) c.into_pieces-pieces.ensures.pieces

@@ -1,0 +1,17 @@
+-- What an analysis is made of.
+use Rattle.std.specs.Prelude.{◌≡◌, ℕ, List, length, map}
+use Rattle.file_facts.specs.declared.diagnostic.Diag.{Diag}
+use Rattle.file_facts.specs.declared.named_facts.NamedFacts.{NamedFacts}
+use Rattle.proto_names.specs.Files.{all_decls}
+use Rattle.proto_resolve.specs.declared.resolve.Links.{Links}
+use Rattle.work_index.specs.Workspace.{AnalysisData, IsKnown}
+
+module _ (table : List NamedFacts) (paths : List (List ℕ)) (texts : List (List ℕ)) (links : List Links) (diagnostics : List (List Diag)) where
+  -- the analysis of these
+  abbrev pub analysis_with : AnalysisData
+  analysis_with = record { paths = paths; texts = texts; facts = map (λ file. file.facts) table; decls = all_decls table; links = links; diagnostics = diagnostics }
+
+  -- there is one of each for every file, with its path, and together they are the analysis of the workspace of the paths and texts
+  abbrev pub HoldTogether : Type 0
+  HoldTogether =
+      (length paths ≡ length table) × (length links ≡ length table) × (length diagnostics ≡ length table) × (paths ≡ map (λ file. file.path) table) × IsKnown analysis_with
