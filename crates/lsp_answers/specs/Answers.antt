@@ -1,5 +1,5 @@
 -- What is answered about names, by URIs and positions.
-use Rattle.std.specs.Prelude.{ℕ, ◌==◌, List, [], ◌∷◌, Bool, Option, Some, None, Result, Ok, Err, map, option_map, option_and_then, slice_index_or, position, bytes_eq, if◌then◌else◌}
+use Rattle.std.specs.Prelude.{ℕ, List, [], ◌∷◌, Bool, Option, Some, None, Result, Ok, Err, map, option_map, option_and_then, slice_index_or, position, bytes_eq}
 use Rattle.std.specs.List.{filter_map}
 use Rattle.std.specs.Option.{option_map_or}
 use Rattle.serde_json.specs.Data.{Data}
@@ -10,6 +10,7 @@ use Rattle.file_facts.specs.declared.fact.Decl.{Decl}
 use Rattle.file_facts.specs.declared.fact.DeclKind.{DeclKind}
 use Rattle.file_facts.specs.declared.fact.DeclKind.TheVariants as decl
 use Rattle.lsp_queries.specs.Answers as answers
+use Rattle.lsp_queries.specs.ByFile.{by_file}
 use Rattle.lsp_queries.specs.Files.{place, decl_of}
 use Rattle.lsp_queries.specs.Renaming.{renamed}
 use Rattle.lsp_queries.specs.declared.fault.RenameFault.{RenameFault}
@@ -67,19 +68,6 @@ number_of w path = position (λ p. bytes_eq p path) (map (λ f. f.0) w)
 -- a place in a text
 abbrev pub place_range : Encoding → List ℕ → Place → Range
 place_range encoding text p = range_of encoding text p.start p.end
-
--- places file by file, neighbours in one file together: what stands behind a place in its own file, and in the files after that
-abbrev pub behind : ℕ → List (ℕ × List Place) → List Place
-behind file [] = []
-behind file (g ∷ gs) = if g.0 == file then g.1 else []
-
-abbrev pub later : ℕ → List (ℕ × List Place) → List (ℕ × List Place)
-later file [] = []
-later file (g ∷ gs) = if g.0 == file then gs else g ∷ gs
-
-abbrev pub by_file : List Place → List (ℕ × List Place)
-by_file [] = []
-by_file (p ∷ ps) = (p.file, p ∷ behind p.file (by_file ps)) ∷ later p.file (by_file ps)
 
 -- a declaration at a place: the last component of its full name, and what stands before that
 abbrev pub symbol_at : Decl → LocationData → SymbolData
@@ -141,6 +129,7 @@ refusal_of fault.NoSymbol = Some refusal.NoSymbol
 refusal_of fault.NotRenamable = Some refusal.NotRenamable
 refusal_of fault.BadName = Some refusal.BadName
 refusal_of fault.NameTaken = Some refusal.NameTaken
+refusal_of fault.MeaningChanges = Some refusal.MeaningChanges
 refusal_of fault.Memory = None
 
 abbrev pub refused_rename : IdData → RenameFault → Option Data

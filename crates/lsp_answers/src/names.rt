@@ -47,6 +47,7 @@ fn refusal_of(fault: RenameFault) -> Option<RenameRefusal>
         RenameFault::NotRenamable => Some(RenameRefusal::NotRenamable),
         RenameFault::BadName => Some(RenameRefusal::BadName),
         RenameFault::NameTaken => Some(RenameRefusal::NameTaken),
+        RenameFault::MeaningChanges => Some(RenameRefusal::MeaningChanges),
         RenameFault::Memory => None,
     }
 }

@@ -3,6 +3,12 @@ pub mod Offsets
 pub mod Matching
 pub mod Answers
 pub mod Searching
+pub mod PlaceLaws
+pub mod Standing
+pub mod Edited
+pub mod ByFile
+pub mod Cutting
+pub mod Bindings
 pub mod Fault
 pub mod Renaming
 pub mod RenamingLaws

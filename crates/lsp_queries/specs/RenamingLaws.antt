@@ -1,5 +1,5 @@
 -- Laws of the definitions of renaming.
-use Rattle.std.specs.Prelude.{◌≡◌, ◌≢◌, ◌↔◌, ◌⊎◌, ℕ, ◌<◌, List, true, length, Contains}
+use Rattle.std.specs.Prelude.{◌≡◌, ◌≢◌, ◌↔◌, ◌⊎◌, ℕ, ◌<◌, List, true, Ok, Err, length, Contains}
 use Rattle.proto_lex.specs.declared.token.Kind.TheVariants.{Ident}
 use Rattle.proto_lex.specs.Forms.{IsForm}
 use Rattle.file_facts.specs.Nesting.{IsWithin}
@@ -8,7 +8,9 @@ use Rattle.proto_names.specs.declared.decl_ref.DeclRef.{DeclRef}
 use Rattle.file_facts.specs.FullNames.{dot, scope_of}
 use Rattle.work_index.specs.Workspace.{AnalysisData, decl_in}
 use Rattle.lsp_queries.specs.Files.{package_in}
-use Rattle.lsp_queries.specs.Renaming.{is_identifier, is_taken}
+use Rattle.lsp_queries.specs.Renaming.{ChangesMeaningAt, KeepsMeaning, is_identifier, is_taken, renamed}
+use Rattle.lsp_queries.specs.declared.fault.RenameFault.TheVariants.{MeaningChanges}
+use Rattle.lsp_queries.specs.declared.place.Place.{Place}
 
 -- an identifier is what has the form of a name from its first byte to its last
 abbrev pub IdentifierFormLaw : Type 0
@@ -34,3 +36,11 @@ pub record IsPackage (a : AnalysisData) (full_name : List ℕ) : Type 0 where
 -- a full name is taken exactly if another declaration has it or it is a package
 abbrev pub TakenLaw : Type 0
 TakenLaw = (a : AnalysisData) (r : DeclRef) (full_name : List ℕ) → (is_taken a r full_name ≡ true) ↔ (HasAnother a r full_name ⊎ IsPackage a full_name)
+
+-- a rename keeps all meanings
+abbrev pub RenamesKeepMeaning : Type 0
+RenamesKeepMeaning = (a : AnalysisData) (file offset : ℕ) (new_name : List ℕ) (places : List Place) → renamed a file offset new_name ≡ Ok places → KeepsMeaning a places new_name
+
+-- and is refused because a meaning changes exactly if one does and nothing else speaks against the new name
+abbrev pub RefusedForMeaning : Type 0
+RefusedForMeaning = (a : AnalysisData) (file offset : ℕ) (new_name : List ℕ) → (renamed a file offset new_name ≡ Err MeaningChanges) ↔ ChangesMeaningAt a file offset new_name

@@ -20,13 +20,16 @@ pub enum RenameFault {
     /// 704: another declaration has the full name that this one would get, or it is a package of a file.
     #[error("the new name is taken")]
     NameTaken,
+    /// 705: a name would stand for something else, or what is wrong in a file would have other numbers.
+    #[error("the meaning of a name changes")]
+    MeaningChanges,
     /// 706: memory was refused.
     #[error("out of memory")]
     Memory,
 }
 
 impl RenameFault {
-    /// The fault's number: 701 to 704, or 706.
+    /// The fault's number: 701 to 706.
     pub fn code(&self) -> u32
         ensures { result ≡ code_of self.now }
     {
@@ -35,6 +38,7 @@ impl RenameFault {
             RenameFault::NotRenamable => 702,
             RenameFault::BadName => 703,
             RenameFault::NameTaken => 704,
+            RenameFault::MeaningChanges => 705,
             RenameFault::Memory => 706,
         }
     }

@@ -1,6 +1,7 @@
 // What the definitions of the queries say, beside what the code meets.
+ghost use Rattle.lsp_queries.specs.Bindings.{SameMeaningLaw};
 ghost use Rattle.lsp_queries.specs.Matching.{ContainsLaw};
-ghost use Rattle.lsp_queries.specs.RenamingLaws.{IdentifierFormLaw, FullNameScopeLaw, TakenLaw};
+ghost use Rattle.lsp_queries.specs.RenamingLaws.{FullNameScopeLaw, IdentifierFormLaw, RefusedForMeaning, RenamesKeepMeaning, TakenLaw};
 
 /// A law. A name contains a query exactly if a part of the name is the query, without regard to the case of ASCII letters.
 pub fn contains_law()
@@ -21,4 +22,16 @@ pub fn full_name_scope_law()
 /// lies in it.
 pub fn taken_law()
     ensures { TakenLaw }
+{}
+
+/// A law. The test of two analyses says whether, file by file, the names stand for the same and what is wrong has the same numbers.
+pub fn same_meaning_law()
+    ensures { SameMeaningLaw }
+{}
+
+/// A law. Where a rename isn't refused all meanings stay. It is refused because a meaning changes exactly if one does, and no other
+/// refusal fits.
+pub fn meaning_law()
+    ensures keeps { RenamesKeepMeaning }
+    ensures refused { RefusedForMeaning }
 {}

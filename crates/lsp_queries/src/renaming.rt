@@ -1,19 +1,24 @@
 // Another name for a declaration.
-ghost use Rattle.std.specs.Prelude.{◌≡◌, ◌≢◌, Ok, Err, IsTrue, IfOk, IfErr, string_bytes};
+ghost use Rattle.std.specs.Prelude.{◌≡◌, ◌≢◌, ◌↔◌, Ok, Err, IsTrue, IfOk, IfErr, string_bytes};
 ghost use Rattle.proto_names.specs.Files as files;
-ghost use Rattle.lsp_queries.specs.Files.{package_in};
-ghost use Rattle.lsp_queries.specs.Renaming.{is_identifier, is_other, new_full_name, is_declared, is_package, is_taken, renamed_decl, renamed, TakesMemory};
+ghost use Rattle.lsp_queries.specs.Answers.{sites_of};
+ghost use Rattle.lsp_queries.specs.Cutting.{AreCutOut};
+ghost use Rattle.lsp_queries.specs.Files.{package_in, place_of};
+ghost use Rattle.lsp_queries.specs.Renaming.{is_identifier, is_other, new_full_name, is_declared, is_package, is_taken, renamed_decl, renamed, ChangesMeaning, ChangesMeaningAt, KeepsMeaning, TakesMemory};
 
+use crate::comparing::same_meaning;
+use crate::edited::edited_texts;
 use crate::fault::RenameFault;
 use crate::files::{decl_of, place_of};
 use crate::offsets::{Symbol, symbol_at};
 use crate::place::Place;
+use crate::place_laws::places_cut_out;
 use crate::referring::sites_of;
 use file_facts::{Name, joined};
 use import_graph::FileNo;
 use proto_resolve::DeclRef;
 use std::alloc::{AllocError, Global};
-use work_index::Analysis;
+use work_index::{Analysis, analyse_edited};
 
 /// The edits that give a declaration another name: what stands at each of the places becomes the new name.
 #[derive(Debug, Drop)]
@@ -117,6 +122,54 @@ fn is_taken(
     Ok(is_declared(analysis, decl, full_name) || is_package(analysis, full_name))
 }
 
+// The places of a declaration's name and of all its uses.
+fn all_places(alloc: Global, analysis: &Analysis, decl: DeclRef) -> Result<Vec<Place>, AllocError>
+    ensures all { IfOk result (λ places. places.items ≡ sites_of analysis.now decl (place_of analysis.now decl)) }
+    ensures cut { IfOk result (λ places. AreCutOut analysis.now places.items) }
+{
+    analysis.known();
+    places_cut_out();
+    sites_of(alloc, analysis, decl, place_of(analysis, decl))
+}
+
+// Whether all meanings stay if the new name stands at each of the places: the workspace is analysed with it.
+fn keeps_meaning(
+    alloc: Global,
+    analysis: &Analysis,
+    places: &[Place],
+    new_name: &str,
+) -> Result<bool, AllocError>
+    requires { AreCutOut analysis.now places.now }
+    ensures { IfOk result (λ keeps. IsTrue keeps ↔ KeepsMeaning analysis.now places.now new_name.now) }
+{
+    let edits = edited_texts(alloc, analysis, places, new_name)?;
+    let after = analyse_edited(alloc, analysis, edits)?;
+    Ok(same_meaning(analysis, &after))
+}
+
+// The edits that put the new name at the places, unless a meaning changes.
+fn checked(
+    alloc: Global,
+    analysis: &Analysis,
+    places: Vec<Place>,
+    new_name: &str,
+) -> Result<Edits, RenameFault>
+    requires { AreCutOut analysis.now places.items }
+    ensures places { IfOk result (λ edits. edits.places.items ≡ places.items) }
+    ensures name { IfOk result (λ edits. string_bytes edits.new_name ≡ new_name.now) }
+    ensures keeps { IfOk result (λ edits. KeepsMeaning analysis.now places.items new_name.now) }
+    ensures refused { IfErr result (λ fault. fault ≢ RenameFault.Memory → fault ≡ RenameFault.MeaningChanges) }
+    ensures changes { IfErr result (λ fault. fault ≡ RenameFault.MeaningChanges → KeepsMeaning analysis.now places.items new_name.now → ⊥) }
+{
+    if !keeps_meaning(alloc, analysis, places.as_slice(), new_name)? {
+        return Err(RenameFault::MeaningChanges);
+    }
+    Ok(Edits {
+        places,
+        new_name: String::from_str(alloc, new_name)?,
+    })
+}
+
 // The edits that give the declaration the new name.
 fn rename_decl(
     alloc: Global,
@@ -128,6 +181,8 @@ fn rename_decl(
     ensures name { IfOk result (λ edits. string_bytes edits.new_name ≡ new_name.now) }
     ensures refused { IfErr result (λ fault. fault ≢ RenameFault.Memory → renamed_decl analysis.now decl new_name.now ≡ Err fault) }
     ensures memory { IfErr result (λ fault. fault ≡ RenameFault.Memory → IsTrue (is_identifier new_name.now)) }
+    ensures keeps { IfOk result (λ edits. KeepsMeaning analysis.now edits.places.items new_name.now) }
+    ensures changes { IfErr result (λ fault. fault ≡ RenameFault.MeaningChanges → ChangesMeaning analysis.now decl new_name.now) }
 {
     if !is_identifier(new_name) {
         return Err(RenameFault::BadName);
@@ -135,19 +190,18 @@ fn rename_decl(
     if is_taken(alloc, analysis, decl, new_name)? {
         return Err(RenameFault::NameTaken);
     }
-    Ok(Edits {
-        places: sites_of(alloc, analysis, decl, place_of(analysis, decl))?,
-        new_name: String::from_str(alloc, new_name)?,
-    })
+    let places = all_places(alloc, analysis, decl)?;
+    checked(alloc, analysis, places, new_name)
 }
 
 /// The edits that give a new name to the declaration that the name at a byte offset of a file stands for: they change the
-/// declaration's name and every use of it, in all files, by path, then offset.
+/// declaration's name and every use of it, in all files, by path, then offset. After them each name, by its number in its file, stands
+/// for what it stood for, and what is wrong in each file has the same numbers.
 ///
 /// # Errors
 ///
-/// The first that fits of `NoSymbol`, `NotRenamable`, `BadName` and `NameTaken`. `Memory` comes only where memory was refused,
-/// and none is asked for where one of the first three fits.
+/// The first that fits of `NoSymbol`, `NotRenamable`, `BadName`, `NameTaken` and `MeaningChanges`, which is found by an analysis of
+/// the edited texts. `Memory` comes only where memory was refused, and none is asked for where one of the first three fits.
 pub fn rename(
     alloc: Global,
     analysis: &Analysis,
@@ -159,6 +213,10 @@ pub fn rename(
     ensures name { IfOk result (λ edits. string_bytes edits.new_name ≡ new_name.now) }
     ensures refused { IfErr result (λ fault. fault ≢ RenameFault.Memory → renamed analysis.now file offset new_name.now ≡ Err fault) }
     ensures memory { IfErr result (λ fault. fault ≡ RenameFault.Memory → TakesMemory analysis.now file offset new_name.now) }
+
+    // With edits all meanings stay. Only where one would change, and nothing else speaks against the new name, that is the refusal.
+    ensures keeps { IfOk result (λ edits. KeepsMeaning analysis.now edits.places.items new_name.now) }
+    ensures changes { IfErr result (λ fault. fault ≡ RenameFault.MeaningChanges → ChangesMeaningAt analysis.now file offset new_name.now) }
 {
     match symbol_at(analysis, file, offset) {
         None => Err(RenameFault::NoSymbol),

@@ -1,11 +1,4 @@
 pub mod Alike
-pub mod AllPlaces
 pub mod Edits
 pub mod NameScopes
-pub mod Names
-pub mod OneSymbol
-pub mod Pairs
-pub mod Places
-pub mod Read
 pub mod Renames
-pub mod Spans

@@ -21,17 +21,19 @@ use Rattle.work_index.specs.Workspace.{Workspace, analysis}
 use Rattle.lsp_queries.specs.Answers.{sites_of}
 use Rattle.lsp_queries.specs.Files.{place_of}
 use Rattle.lsp_queries.specs.Offsets.{symbol_at}
-use Rattle.lsp_queries.specs.Renaming.{is_identifier, is_taken, new_full_name, renamed_symbol}
+use Rattle.lsp_queries.specs.Renaming.{checked, is_identifier, is_taken, new_full_name, renamed_symbol}
 use Rattle.lsp_queries.specs.RenamingLaws.{IdentifierFormLaw}
 use Rattle.lsp_queries.specs.declared.fault.RenameFault.{RenameFault}
 use Rattle.lsp_queries.specs.declared.fault.RenameFault.TheVariants.{BadName, NameTaken}
 use Rattle.lsp_queries.specs.declared.offsets.Symbol.{Symbol}
 use Rattle.lsp_queries.specs.declared.offsets.Symbol.TheVariants.{Declared, Package}
 use Rattle.lsp_queries.specs.declared.place.Place.{Place}
-use Rattle.query_laws.specs.EditLaws.{EditsChangeThePlaces, IsCutOut, RenamesChangeTheNames, places_in}
-use Rattle.query_laws.specs.PlaceLaws.{IsApart, PlacesAreApart, places_of, text_in}
-use Rattle.query_laws.proofs.Pairs.{pairs-with}
-use Rattle.query_laws.proofs.Places.{places-identifiers, span_of}
+use Rattle.lsp_queries.specs.Edited.{places_in}
+use Rattle.lsp_queries.specs.PlaceLaws.{IsApart, PlacesAreApart, places_of, text_in}
+use Rattle.lsp_queries.proofs.Pairs.{pairs-with}
+use Rattle.lsp_queries.proofs.Places.{places-identifiers, span_of}
+use Rattle.lsp_queries.proofs.RenamedLemmas.{checked-keeps}
+use Rattle.query_laws.specs.EditLaws.{EditsChangeThePlaces, IsCutOut, RenamesChangeTheNames}
 
 -- ---- identifiers have no line ends
 
@@ -122,10 +124,10 @@ abbrev pub IsRename : Workspace → List ℕ → List Place → Type 0
 IsRename w new_name places = (is_identifier new_name ≡ true) × (r : DeclRef) × (places_of w r true ≡ places)
 
 renamed-decl : (w : Workspace) (r : DeclRef) (new_name : List ℕ) (places : List Place) (named taken : Bool) → is_identifier new_name ≡ named
-    → cond {A = Result (List Place) RenameFault} (not named) (Err BadName) (cond taken (Err NameTaken) (Ok (sites_of (analysis w) r (place_of (analysis w) r)))) ≡ Ok places → IsRename w new_name places
+    → cond {A = Result (List Place) RenameFault} (not named) (Err BadName) (cond taken (Err NameTaken) (checked (analysis w) (sites_of (analysis w) r (place_of (analysis w) r)) new_name)) ≡ Ok places → IsRename w new_name places
 renamed-decl w r new_name places false taken name is = absurd (cc (is))
 renamed-decl w r new_name places true true name is = absurd (cc (is))
-renamed-decl w r new_name places true false name is = (name, r, cc)
+renamed-decl w r new_name places true false name is = (name, r, (checked-keeps (analysis w) (sites_of (analysis w) r (place_of (analysis w) r)) new_name places is).0)
 
 pub renamed-places : (w : Workspace) (o : Option Symbol) (new_name : List ℕ) (places : List Place) → renamed_symbol (analysis w) o new_name ≡ Ok places → IsRename w new_name places
 renamed-places w None new_name places is = absurd (cc (is))

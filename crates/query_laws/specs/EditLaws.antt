@@ -1,5 +1,5 @@
 -- The laws of the edits of a rename.
-use Rattle.std.specs.Prelude.{◌≡◌, ◌==◌, ℕ, ◌<◌, ◌≤◌, List, [], ◌∷◌, ◌++◌, Some, Ok, All, IsUtf8, IsCharBoundary, drop, filter, map, slice_range}
+use Rattle.std.specs.Prelude.{◌≡◌, ℕ, ◌<◌, ◌≤◌, List, [], ◌∷◌, Some, Ok, All, IsUtf8, IsCharBoundary, map}
 use Rattle.std.specs.List.{AllPairs}
 use Rattle.doc_text.specs.declared.change.Change.{Change}
 use Rattle.doc_text.specs.declared.encoding.Encoding.{Encoding}
@@ -8,19 +8,10 @@ use Rattle.doc_text.specs.Edits.{ChangeData, change_view, edited, replaced}
 use Rattle.doc_text.specs.Laws.{IsInsideLineEnd}
 use Rattle.doc_text.specs.Positions.{position_of}
 use Rattle.work_index.specs.Workspace.{Workspace, analysis}
+use Rattle.lsp_queries.specs.Edited.{places_in, respelled}
+use Rattle.lsp_queries.specs.PlaceLaws.{text_in}
 use Rattle.lsp_queries.specs.Renaming.{renamed}
 use Rattle.lsp_queries.specs.declared.place.Place.{Place}
-use Rattle.query_laws.specs.PlaceLaws.{text_in}
-
--- The text from an offset on, with a name for what stands at each of the places, which are in order: up to a place the text
--- is kept, then comes the name, and behind the place it goes on so.
-abbrev pub respelled_from : List ℕ → List ℕ → ℕ → List Place → List ℕ
-respelled_from name text offset [] = drop offset text
-respelled_from name text offset (p ∷ more) = slice_range text offset p.start ++ (name ++ respelled_from name text p.«end» more)
-
--- the whole text
-abbrev pub respelled : List ℕ → List ℕ → List Place → List ℕ
-respelled name text places = respelled_from name text 0 places
 
 -- ---- the changes
 
@@ -60,10 +51,6 @@ abbrev pub EditsChangeThePlaces : Type 0
 EditsChangeThePlaces =
     (e : Encoding) (text name : List ℕ) (places : List Place) → IsUtf8 text → IsUtf8 name → All (IsCutOut text) places → AllPairs (λ p q. p.«end» < q.start) places
     → changed_from_the_last e (map (change_of e name text) places) text ≡ respelled name text places
-
--- the places in a file
-abbrev pub places_in : ℕ → List Place → List Place
-places_in file places = filter (λ p. p.file == file) places
 
 -- where the texts are UTF-8, so it is with the places of a rename in each file
 abbrev pub RenamesChangeTheNames : Type 0

@@ -1,4 +1,2 @@
 pub mod EditLaws
-pub mod PlaceLaws
 pub mod NameScopes
-pub mod Standing

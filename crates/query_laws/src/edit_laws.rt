@@ -1,9 +1,8 @@
 // Laws of the edits of a rename. Each is proved for all texts or workspaces, and its function does nothing.
 ghost use Rattle.query_laws.specs.EditLaws.{ChangesEdit, EditsChangeThePlaces, RenamesChangeTheNames};
 
-use crate::place_laws::places_apart;
 use doc_text::{changes_keep_utf8, round_trips};
-use lsp_queries::identifier_form_law;
+use lsp_queries::{identifier_form_law, places_apart};
 use syntax_laws::{identifiers_law, size_law};
 
 /// A law: changes of a UTF-8 text that give a name to each of some places, the last one made first, put the name there and keep

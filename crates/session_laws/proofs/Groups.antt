@@ -7,9 +7,9 @@ use Rattle.std.proofs.lemmas.List.Elements.{All-cons, All-contains, All-head, Al
 use Rattle.std.proofs.lemmas.List.Kept.{AllPairs-cons}
 use Rattle.facts_laws.proofs.Holders.{cases_in}
 use Rattle.lsp_queries.specs.declared.place.Place.{Place}
-use Rattle.lsp_answers.specs.Answers.{behind, by_file, later}
-use Rattle.query_laws.specs.EditLaws.{places_in}
-use Rattle.query_laws.proofs.Pairs.{pairs-head, pairs-nil, pairs-tail}
+use Rattle.lsp_queries.specs.ByFile.{behind, by_file, later}
+use Rattle.lsp_queries.specs.Edited.{places_in}
+use Rattle.lsp_queries.proofs.Pairs.{pairs-head, pairs-nil, pairs-tail}
 use Rattle.session_laws.specs.DocumentLaws.{AreByFile, GroupsAreTheFiles}
 
 abbrev Group : Type 0

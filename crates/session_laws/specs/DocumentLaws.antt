@@ -4,12 +4,14 @@ use Rattle.std.specs.List.{AllPairs}
 use Rattle.doc_text.specs.declared.position.Range.{Range}
 use Rattle.doc_text.specs.Edits.{ChangeData}
 use Rattle.work_index.specs.Workspace.{analysis}
+use Rattle.lsp_queries.specs.ByFile.{by_file}
+use Rattle.lsp_queries.specs.Edited.{places_in, respelled}
+use Rattle.lsp_queries.specs.PlaceLaws.{text_in}
 use Rattle.lsp_queries.specs.Renaming.{renamed}
 use Rattle.lsp_queries.specs.declared.place.Place.{Place}
-use Rattle.lsp_answers.specs.Answers.{DocumentPlaceData, by_file, document_of, edits_at, number_of}
+use Rattle.lsp_answers.specs.Answers.{DocumentPlaceData, document_of, edits_at, number_of}
 use Rattle.lsp_answers.specs.Context.{Context}
-use Rattle.query_laws.specs.EditLaws.{changed_from_the_last, places_in, respelled}
-use Rattle.query_laws.specs.PlaceLaws.{text_in}
+use Rattle.query_laws.specs.EditLaws.{changed_from_the_last}
 
 -- there is one group for each file that has a place, in ascending order, with all the places in it
 pub record AreByFile (places : List Place) (groups : List (ℕ × List Place)) : Type 0 where

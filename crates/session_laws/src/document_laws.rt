@@ -1,7 +1,8 @@
 // Laws of documents with edits. Each is proved for all workspaces, and its function does nothing.
 ghost use Rattle.session_laws.specs.DocumentLaws.{GroupsAreTheFiles, RenamesRespellDocuments};
 
-use query_laws::{places_in_order, renames_change_the_names};
+use lsp_queries::places_in_order;
+use query_laws::renames_change_the_names;
 
 /// A law: places whose files ascend are put together as one group for each file that has a place, in ascending order, with all
 /// the places in it.

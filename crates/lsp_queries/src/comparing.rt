@@ -1,0 +1,97 @@
+// Whether names stand for the same in two workspaces, and the numbers of what is wrong are the same.
+ghost use Rattle.std.specs.Prelude.{◌≡◌, ◌↔◌, ◌<◌, IsTrue, length, map};
+ghost use Rattle.std.specs.List.{slice_get};
+ghost use Rattle.lsp_queries.specs.Bindings.{SameInFile, SameMeaning, bindings, bound, codes, codes_in};
+
+use file_facts::Diag;
+use import_graph::FileNo;
+use proto_resolve::{NameUse, Target};
+use work_index::Analysis;
+
+fn same_target(a: &Target, b: &Target) -> bool
+    ensures { IsTrue result ↔ (a.now ≡ b.now) }
+{
+    match (a, b) {
+        (Target::Declared(a), Target::Declared(b)) => a.file == b.file && a.number == b.number,
+        (Target::Package(a), Target::Package(b)) => a.as_str() == b.as_str(),
+        _ => false,
+    }
+}
+
+fn same_use(a: &NameUse, b: &NameUse) -> bool
+    ensures { IsTrue result ↔ (bound a.now ≡ bound b.now) }
+{
+    a.name == b.name && same_target(&a.target, &b.target)
+}
+
+// Whether the names of a file stand for the same.
+fn same_uses(a: &[NameUse], b: &[NameUse]) -> bool
+    ensures { IsTrue result ↔ (map bound a.now ≡ map bound b.now) }
+{
+    if a.len() != b.len() {
+        return false;
+    }
+    for (i, name_use) in a.iter().enumerate() {
+        if !same_use(name_use, &b[i]) {
+            return false;
+        }
+    }
+    true
+}
+
+// Whether the diagnostics of a file have the same numbers.
+fn same_numbers(a: &[Diag], b: &[Diag]) -> bool
+    ensures { IsTrue result ↔ (codes_in a.now ≡ codes_in b.now) }
+{
+    if a.len() != b.len() {
+        return false;
+    }
+    for (i, diag) in a.iter().enumerate() {
+        if diag.message.code() != b[i].message.code() {
+            return false;
+        }
+    }
+    true
+}
+
+fn same_bindings_in(a: &Analysis, b: &Analysis, file: FileNo) -> bool
+    requires first { file < length a.now.paths }
+    requires second { file < length b.now.paths }
+    ensures { IsTrue result ↔ (slice_get (bindings a.now) file ≡ slice_get (bindings b.now) file) }
+{
+    same_uses(a.links(file).uses.as_slice(), b.links(file).uses.as_slice())
+}
+
+fn same_codes_in(a: &Analysis, b: &Analysis, file: FileNo) -> bool
+    requires first { file < length a.now.paths }
+    requires second { file < length b.now.paths }
+    ensures { IsTrue result ↔ (slice_get (codes a.now) file ≡ slice_get (codes b.now) file) }
+{
+    same_numbers(a.diagnostics(file), b.diagnostics(file))
+}
+
+fn same_in_file(a: &Analysis, b: &Analysis, file: FileNo) -> bool
+    requires first { file < length a.now.paths }
+    requires second { file < length b.now.paths }
+    ensures { IsTrue result ↔ SameInFile a.now b.now file }
+{
+    same_bindings_in(a, b, file) && same_codes_in(a, b, file)
+}
+
+// Whether the names of two workspaces stand for the same, file by file, and what is wrong in each file has the same numbers. Takes
+// no memory.
+pub fn same_meaning(a: &Analysis, b: &Analysis) -> bool
+    ensures { IsTrue result ↔ SameMeaning a.now b.now }
+{
+    a.known();
+    b.known();
+    if a.files().len() != b.files().len() {
+        return false;
+    }
+    for file in 0..a.files().len() {
+        if !same_in_file(a, b, file) {
+            return false;
+        }
+    }
+    true
+}
