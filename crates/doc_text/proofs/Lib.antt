@@ -1,4 +1,5 @@
 mod Backs
+mod Betweens
 mod Changes
 mod Cuts
 mod Leads

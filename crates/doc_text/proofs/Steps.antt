@@ -47,12 +47,12 @@ some_line (c ∷ cs) =
     (λ goes. record { first = c ∷ more.first; others = more.others; is = lines_goes c cs goes ∙ ap (onto_first c) more.is })
     (cases_Bool (ends_line c cs))
 
-record Begins_with (c : ℕ) (ls : List (List ℕ)) : Type 0 where
-  rest : List ℕ
+pub record Begins_with (c : ℕ) (ls : List (List ℕ)) : Type 0 where
+  pub rest : List ℕ
   pub others : List (List ℕ)
-  is : ls ≡ (c ∷ rest) ∷ others
+  pub is : ls ≡ (c ∷ rest) ∷ others
 
-begins_with : (c : ℕ) (cs : List ℕ) → Begins_with c (lines (c ∷ cs))
+pub begins_with : (c : ℕ) (cs : List ℕ) → Begins_with c (lines (c ∷ cs))
 begins_with c cs =
     let more = some_line cs in
     ⊎_elim (λ ends. record { rest = []; others = lines cs; is = lines_ends c cs ends })
@@ -80,7 +80,7 @@ offset_goes e line character c cs goes =
     ∙ ap (λ ls. char_units Utf8 c + offset_in e (suc line) character ls) (sym more.is)
 
 -- offsets: a character of the line itself
-first_content : (c : ℕ) (cs : List ℕ) → is_lf_or_cr c ≡ false → content (get_or (lines (c ∷ cs)) 0 []) ≡ c ∷ content (get_or (lines cs) 0 [])
+pub first_content : (c : ℕ) (cs : List ℕ) → is_lf_or_cr c ≡ false → content (get_or (lines (c ∷ cs)) 0 []) ≡ c ∷ content (get_or (lines cs) 0 [])
 first_content c cs plain =
     let more = some_line cs in
     ap (λ ls. content (get_or ls 0 [])) (lines_goes c cs (plain_goes c cs plain) ∙ ap (onto_first c) more.is)

@@ -30,11 +30,11 @@ lead_some Utf32 b = omega arith
 pub units_some : (e : Encoding) (c : ℕ) → 0 < char_units e c
 units_some e c = let first = lead c in omega (arith, lead_some e first.byte, first.lead.units e)
 
-start_position : (e : Encoding) (cs : List ℕ) → (let q : Position = record { line = 0; character = 0 } in position_in e (lines cs) 0 ≡ q)
+pub start_position : (e : Encoding) (cs : List ℕ) → (let q : Position = record { line = 0; character = 0 } in position_in e (lines cs) 0 ≡ q)
 start_position e [] = refl
 start_position e (c ∷ cs) = position_before e 0 c cs (units_some Utf8 c)
 
-start_offset : (e : Encoding) (cs : List ℕ) → offset_in e 0 0 (lines cs) ≡ 0
+pub start_offset : (e : Encoding) (cs : List ℕ) → offset_in e 0 0 (lines cs) ≡ 0
 start_offset e [] = refl
 start_offset e (c ∷ cs) = ⊎_elim (offset_at_end e 0 c cs) (λ plain. offset_full e 0 c cs plain (units_some e c)) (cases_Bool (is_lf_or_cr c))
 

@@ -71,6 +71,19 @@ IsInTheText e p text = let ls = lines (chars text) in (p.line < length ls) × (p
 abbrev pub PositionsAreInTheText : Type 0
 PositionsAreInTheText = (e : Encoding) (text : List ℕ) (offset : ℕ) → IsInTheText e (position_of e text offset) text
 
+-- the text has the line, and the character counts the units of some of the line's first characters, its line end left out
+abbrev pub StandsBetweenCharacters : Encoding → Position → List ℕ → Type 0
+StandsBetweenCharacters e p text =
+    let ls = lines (chars text) in (p.line < length ls) × ((k : ℕ) × (p.character ≡ units e (take k (content (slice_index_or ls p.line [])))))
+
+-- the position of any offset stands between two characters
+abbrev pub PositionsStandBetweenCharacters : Type 0
+PositionsStandBetweenCharacters = (e : Encoding) (text : List ℕ) (offset : ℕ) → StandsBetweenCharacters e (position_of e text offset) text
+
+-- a position between two characters is the position of its own offset
+abbrev pub OffsetsComeBack : Type 0
+OffsetsComeBack = (e : Encoding) (p : Position) (text : List ℕ) → StandsBetweenCharacters e p text → position_of e text (offset_of e p text) ≡ p
+
 -- a position past the last line has the text's end
 abbrev pub PositionsPastAreTheEnd : Type 0
 PositionsPastAreTheEnd = (e : Encoding) (p : Position) (text : List ℕ) → IsUtf8 text → length (lines (chars text)) ≤ p.line → offset_of e p text ≡ length text

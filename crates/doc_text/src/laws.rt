@@ -1,5 +1,5 @@
 // Laws of the definitions that the contracts cite. Each is a function with nothing to do, whose clause is the law.
-ghost use Rattle.doc_text.specs.Laws.{LinesAreTheCut, LinesJoinedAreTheText, FittingIsLongest, PositionsComeBack, PositionsAreInTheText, PositionsPastAreTheEnd, OffsetsPastAreTheEnd, OffsetsGoBack, OffsetsInLineEnds, ChangesKeepTheRest, ChangesOfTheWhole, RangesTurnedRound, ChangesKeepUtf8};
+ghost use Rattle.doc_text.specs.Laws.{LinesAreTheCut, LinesJoinedAreTheText, FittingIsLongest, PositionsComeBack, PositionsAreInTheText, PositionsStandBetweenCharacters, OffsetsComeBack, PositionsPastAreTheEnd, OffsetsPastAreTheEnd, OffsetsGoBack, OffsetsInLineEnds, ChangesKeepTheRest, ChangesOfTheWhole, RangesTurnedRound, ChangesKeepUtf8};
 
 /// A law: a text is cut in one way into lines, each but the last ended by `\r\n`, by `\n`, or by a `\r` without a
 /// `\n` after it.
@@ -27,6 +27,18 @@ pub fn round_trips()
 /// end left out.
 pub fn positions_in_the_text()
     ensures { PositionsAreInTheText }
+{}
+
+/// A law: the position of an offset stands between two characters. Its character counts the units of some of the first characters
+/// of its line, its line end left out.
+pub fn positions_between_characters()
+    ensures { PositionsStandBetweenCharacters }
+{}
+
+/// A law: a position between two characters leads to an offset whose position it is. So these positions, and no others, are those
+/// of offsets.
+pub fn positions_lead_back()
+    ensures { OffsetsComeBack }
 {}
 
 /// A law: a position on a line past the last one is the text's end.

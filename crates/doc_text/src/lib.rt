@@ -23,7 +23,8 @@ pub use encoding::Encoding;
 pub use laws::{
     changes_keep_the_rest, changes_keep_utf8, changes_of_the_whole, line_cuts, lines_joined,
     longest_runs, offsets_in_characters, offsets_in_line_ends, offsets_past_the_end,
-    positions_in_the_text, positions_past_the_end, ranges_turned_round, round_trips,
+    positions_between_characters, positions_in_the_text, positions_lead_back,
+    positions_past_the_end, ranges_turned_round, round_trips,
 };
 pub use position::{Position, Range};
 pub use scan::offset_of;

@@ -1,14 +1,14 @@
 -- Where a header part ends.
-use Rattle.std.proofs.Common.{◌≡◌, ℕ, zero, suc, ◌+◌, ◌-◌, ◌<◌, ◌≤◌, min, true, false, inl, inr, Bool, List, [], ◌∷◌, ◌++◌, eqb, length, take, drop, arith, ap, sym, ◌∙◌, refl, Option, None, Some, length-append}
+use Rattle.std.proofs.Common.{◌≡◌, ℕ, zero, suc, ◌+◌, ◌-◌, ◌<◌, ◌≤◌, ◌⊎◌, min, true, false, inl, inr, Bool, List, [], ◌∷◌, ◌++◌, eqb, length, take, drop, arith, ap, sym, ◌∙◌, refl, Option, None, Some, length-append}
 use Rattle.std.proofs.lemmas.List.{take-append-le, take_all, append-nil, drop_all, drop_at}
 use Rattle.std.proofs.lemmas.Bool.Decides.{eqb_tells}
 use Rattle.lsp_frame.specs.Header.{is_whole_header}
 use Rattle.std.specs.Prelude.{nat_le, IfSome}
 use Rattle.std.specs.Io.KnownBytes.{Consumes, Keeps}
 use Rattle.std.proofs.KnownBytes.{Consumes-trans, Consumes-kept}
-use Rattle.std.proofs.lemmas.Bool.{le-leb}
+use Rattle.std.proofs.lemmas.Bool.{le-leb, cases_Bool}
 use Rattle.std.proofs.lemmas.Bool.Decides.{nat_tests}
-use Rattle.lsp_frame.specs.Steps.{TakesByte, StopsInHeader}
+use Rattle.lsp_frame.specs.Steps.{TakesByte, StopsInHeader, FillsInHeader}
 use Rattle.lsp_frame.specs.declared.fault.FrameFault.TheVariants.{HeaderTooLong, Truncated}
 use Rattle.lsp_frame.specs.Stream.{least_below, header_len, max_header, without_header, StreamEnd, InputEnd, BadFrame}
 
@@ -125,3 +125,19 @@ closed a b c items all x n taken next grown len few none here =
 pub stopped_in_header : (a b c : Option (List ℕ)) (items : List ℕ) → Consumes a b items → Keeps b c → NoneWhole items (length items) → IfSome a (λ bytes. StopsInHeader bytes c)
 stopped_in_header None b c items taken kept none = tt
 stopped_in_header (Some bytes) b c items taken kept none = record { taken = items; consumed = Consumes-kept (Some bytes) b c items taken kept; none = ended items none }
+
+-- memory was refused for one more byte of a header part
+header_ends : (items : List ℕ) (x n : ℕ) → length items ≡ n → n < 8192 → NoneWhole items n → (header_len (items ++ x ∷ []) ≡ None) ⊎ (header_len (items ++ x ∷ []) ≡ Some (length (items ++ x ∷ [])))
+header_ends items x n len few none =
+    let all = items ++ x ∷ [] in
+    let more : length all ≡ n + 1 = length-append items (x ∷ []) ∙ ap (λ k. k + 1) len in
+    let before : NoneWhole all (length all - 1) = rw more (NoneWhole-front items (x ∷ []) (n + 1 - 1) (omega arith) (λ k le. none k (omega arith))) in
+    elim (cases_Bool (is_whole_header all)) [
+      | inl here ↦ inr (ap header_len (sym (append-nil all)) ∙ header_len-at all [] (omega (arith, more)) (omega (arith, more)) before here)
+      | inr open_still ↦ inl (header_len-none all (n + 1) (omega (arith, more)) (NoneWhole-push items n x len none open_still))
+    ]
+
+pub filled_in_header : (a b c : Option (List ℕ)) (items : List ℕ) (x n : ℕ) → Consumes a b items → TakesByte b c (Some x) → length items ≡ n → n < 8192 → NoneWhole items n → IfSome a (λ bytes. FillsInHeader bytes c)
+filled_in_header None b c items x n taken next len few none = tt
+filled_in_header (Some bytes) b c items x n taken next len few none =
+    record { taken = items ++ x ∷ []; consumed = Consumes-trans (Some bytes) b c items (x ∷ []) taken next; ends = header_ends items x n len few none }

@@ -1,7 +1,8 @@
 -- What `read_frame` answers of a stream, and what it leaves of it.
-use Rattle.std.specs.Prelude.{◌≡◌, ℕ, List, [], ◌++◌, Option, Some, Result, Ok, Err, ⊤}
+use Rattle.std.specs.Prelude.{◌≡◌, ◌⊎◌, ℕ, List, [], ◌++◌, Option, Some, Result, Ok, Err, ⊤}
 use Rattle.lsp_frame.specs.Counts.{NoError, HasFailed}
 use Rattle.lsp_frame.specs.Stream.{StreamEnd, Whole, NoFrame, InputEnd, BadFrame, first_frame, frames, with_body, no_frames, left_behind}
+use Rattle.lsp_frame.specs.StreamLaws.{IsFrame}
 use Rattle.lsp_frame.specs.declared.counts.Counts.{Counts}
 use Rattle.lsp_frame.specs.declared.reader.Frame.{Frame}
 use Rattle.lsp_frame.specs.declared.reader.Frame.TheVariants.{Body, End}
@@ -30,11 +31,19 @@ pub record BreaksOff (bytes : List ℕ) (left : Option (List ℕ)) : Type 0 wher
   pub end : StreamEnd
   pub first : first_frame taken ≡ NoFrame end
 
--- A fault that the bytes show. One of the reader comes within a frame, behind which no byte is taken; one of memory says
--- nothing of the bytes.
+-- some of the bytes were taken, with which no whole frame begins or which are one, and the others are left
+pub record RunsOut (bytes : List ℕ) (left : Option (List ℕ)) : Type 0 where
+  pub taken : List ℕ
+  pub rest : List ℕ
+  pub joined : bytes ≡ taken ++ rest
+  pub is_left : left ≡ Some rest
+  pub within : ((end : StreamEnd) × (first_frame taken ≡ NoFrame end)) ⊎ ((body : List ℕ) × IsFrame taken body)
+
+-- A fault that the bytes show. One of the reader comes within a frame, and one of memory within a frame or at its last byte; behind
+-- it no byte is taken.
 abbrev pub Shows : List ℕ → Option (List ℕ) → FrameFault → Type 0
 Shows bytes left Read = BreaksOff bytes left
-Shows bytes left Memory = ⊤
+Shows bytes left Memory = RunsOut bytes left
 Shows bytes left fault = ShowsEnd bytes left (BadFrame fault)
 
 -- what was answered of the bytes, and what is left of them; the end comes at a frame's border alone

@@ -1,5 +1,5 @@
 -- What the private steps of reading a header, reading a frame and writing one promise each other.
-use Rattle.std.specs.Prelude.{◌≡◌, ℕ, ◌+◌, ◌-◌, ◌<◌, ◌≤◌, ◌⊎◌, List, [], ◌∷◌, ◌++◌, length, take, drop, if◌then◌else◌, Option, None, Some, Result, Ok, Err, ⊤}
+use Rattle.std.specs.Prelude.{◌≡◌, ℕ, ◌+◌, ◌-◌, ◌<◌, ◌≤◌, ◌⊎◌, List, [], ◌∷◌, ◌++◌, length, take, drop, if◌then◌else◌, Option, None, Some, Result, Ok, Err}
 use Rattle.std.specs.Global.{Vec}
 use Rattle.std.specs.Io.KnownBytes.{Consumes, Keeps, IsAtEnd}
 use Rattle.lsp_frame.specs.Header.{between_line_ends, is_some_line}
@@ -43,19 +43,35 @@ pub record StopsInBody (bytes : List ℕ) (n : ℕ) (left : Option (List ℕ)) :
   pub consumed : Consumes (Some bytes) left taken
   pub short : length taken < n
 
+-- some bytes were taken, in which no header part ends or one ends at the last of them, and the others are left
+pub record FillsInHeader (bytes : List ℕ) (left : Option (List ℕ)) : Type 0 where
+  pub taken : List ℕ
+  pub consumed : Consumes (Some bytes) left taken
+  pub ends : (header_len taken ≡ None) ⊎ (header_len taken ≡ Some (length taken))
+
+-- some bytes were taken, at most n, and the others are left
+pub record FillsInBody (bytes : List ℕ) (n : ℕ) (left : Option (List ℕ)) : Type 0 where
+  pub taken : List ℕ
+  pub consumed : Consumes (Some bytes) left taken
+  pub within : length taken ≤ n
+
+-- at most n bytes were taken
+abbrev pub TakesAtMost : Option (List ℕ) → Option (List ℕ) → ℕ → Type 0
+TakesAtMost old new n = (got : List ℕ) × Consumes old new got × (length got ≤ n)
+
 -- the header part at the front was taken, or there is none for that reason
 abbrev pub TakesHeader : List ℕ → Option (List ℕ) → Result (Option (Vec ℕ)) FrameFault → Type 0
 TakesHeader bytes left (Ok (Some header)) = (header_len bytes ≡ Some (length header.items)) × Consumes (Some bytes) left header.items
 TakesHeader bytes left (Ok None) = (header_len bytes ≡ None) × (without_header bytes ≡ InputEnd) × (left ≡ Some (drop max_header bytes))
 TakesHeader bytes left (Err Read) = StopsInHeader bytes left
-TakesHeader bytes left (Err Memory) = ⊤
+TakesHeader bytes left (Err Memory) = FillsInHeader bytes left
 TakesHeader bytes left (Err fault) = (header_len bytes ≡ None) × (without_header bytes ≡ BadFrame fault) × (left ≡ Some (drop max_header bytes))
 
 -- a body of n bytes was taken, or there are fewer, and none is left
 abbrev pub TakesBody : List ℕ → ℕ → Option (List ℕ) → Result (Vec ℕ) FrameFault → Type 0
 TakesBody bytes n left (Ok body) = (length body.items ≡ n) × Consumes (Some bytes) left body.items
 TakesBody bytes n left (Err Read) = StopsInBody bytes n left
-TakesBody bytes n left (Err Memory) = ⊤
+TakesBody bytes n left (Err Memory) = FillsInBody bytes n left
 TakesBody bytes n left (Err fault) = (fault ≡ Truncated) × (length bytes < n) × (left ≡ Some [])
 
 -- a fault that no bytes show

@@ -5,7 +5,7 @@ ghost use Rattle.std.specs.Io.KnownBytes.{ReadConsumes, Keeps};
 ghost use Rattle.lsp_frame.specs.Counts.{NoneFell, NoError, HasFailed};
 ghost use Rattle.lsp_frame.specs.Header.{is_whole_header};
 ghost use Rattle.lsp_frame.specs.Reading.{HasCause, NoErrorUnlessRead, Answers};
-ghost use Rattle.lsp_frame.specs.Steps.{TakesByte, TakesSome, TakesHeader, TakesBody, IsOutside};
+ghost use Rattle.lsp_frame.specs.Steps.{TakesByte, TakesSome, TakesHeader, TakesBody, TakesAtMost, IsOutside};
 
 use crate::counts::MAX_INTERRUPTIONS;
 use crate::device::{ByteSource, Fail};
@@ -109,6 +109,7 @@ fn read_onto<S: ByteSource>(
     ensures once { (S.counts source.new).errors ≤ (S.counts source.old).errors + 1 }
     ensures fault { IfErr result IsOutside }
     ensures kept { IfErr result (λ f. f ≡ FrameFault.Read → Keeps (S.left source.old) (S.left source.new)) }
+    ensures full { IfErr result (λ f. f ≡ FrameFault.Memory → TakesAtMost (S.left source.old) (S.left source.new) room) }
     ensures cause { IfErr result (HasCause (S.counts source.old) (S.counts source.new)) }
     ensures calm { MatchResult result (λ _. NoError (S.counts source.old) (S.counts source.new)) (NoErrorUnlessRead (S.counts source.old) (S.counts source.new)) }
 {

@@ -14,7 +14,7 @@ use Rattle.lsp_rpc.specs.Laws.{ResultText, error_object_text, ErrorText, Initial
 use Rattle.doc_text.specs.declared.encoding.Encoding.TheVariants.{Utf16, Utf8, Utf32}
 use Rattle.lsp_rpc.specs.declared.error_code.ErrorCode.{ErrorCode}
 use Rattle.lsp_rpc.specs.declared.error_code.ErrorCode.TheVariants.{ParseError, InvalidRequest, MethodNotFound, InvalidParams, ServerNotInitialized, RenameRefused}
-use Rattle.lsp_rpc.specs.declared.error_code.RenameRefusal.TheVariants.{NoSymbol, NotRenamable, BadName, NameTaken}
+use Rattle.lsp_rpc.specs.declared.error_code.RenameRefusal.TheVariants.{NoSymbol, NotRenamable, BadName, NameTaken, MeaningChanges}
 
 pub result_text : ResultText
 unfolding serde_json_on_literals
@@ -39,6 +39,7 @@ error_value_text (RenameRefused NoSymbol) = refl
 error_value_text (RenameRefused NotRenamable) = refl
 error_value_text (RenameRefused BadName) = refl
 error_value_text (RenameRefused NameTaken) = refl
+error_value_text (RenameRefused MeaningChanges) = refl
 
 error_spelled : (id error : Data)
     → compact_text (object (member (codes "error") error (member (codes "id") id (member (codes "jsonrpc") (string (codes "2.0")) no_members))))

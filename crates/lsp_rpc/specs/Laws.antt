@@ -45,15 +45,25 @@ pub record IsRequest (d : Data) (i : IdData) (m : Option Method) (p : Data) : Ty
   pub method : method_of d ≡ m
   pub params : params_of d ≡ p
 
+-- a body is taken as a request if its value is one, and only then
 abbrev pub RequestsAreCalls : Type 0
 RequestsAreCalls =
-    (body : List ℕ) (id : IdData) (method : Option Method) (params : Data) → message_of body ≡ request id method params
-    → (d : Data) × (json_of body ≡ Some d) × IsRequest d id method params
+    (body : List ℕ) (id : IdData) (method : Option Method) (params : Data) → (message_of body ≡ request id method params)
+    ↔ ((d : Data) × (json_of body ≡ Some d) × IsRequest d id method params)
 
-abbrev pub NotificationsHaveNoId : Type 0
-NotificationsHaveNoId =
-    (body : List ℕ) (method : Option Method) (params : Data) → message_of body ≡ notification method params
-    → (d : Data) × (json_of body ≡ Some d) × (has (codes "id") d ≡ false)
+-- a notification is "2.0", names a method and has no id, not even a bad one
+pub record IsNotification (d : Data) (m : Option Method) (p : Data) : Type 0 where
+  pub version : is_version_two d ≡ true
+  pub named : names_method d ≡ true
+  pub no_id : has (codes "id") d ≡ false
+  pub method : method_of d ≡ m
+  pub params : params_of d ≡ p
+
+-- a body is taken as a notification if its value is one, and only then
+abbrev pub NotificationsAreCalls : Type 0
+NotificationsAreCalls =
+    (body : List ℕ) (method : Option Method) (params : Data) → (message_of body ≡ notification method params)
+    ↔ ((d : Data) × (json_of body ≡ Some d) × IsNotification d method params)
 
 -- ---- what an editor can do
 

@@ -10,7 +10,7 @@ use Rattle.lsp_rpc.specs.Message.{IdData, number_id, text_id}
 use Rattle.lsp_rpc.specs.declared.error_code.ErrorCode.{ErrorCode}
 use Rattle.lsp_rpc.specs.declared.error_code.ErrorCode.TheVariants.{ParseError, InvalidRequest, MethodNotFound, InvalidParams, ServerNotInitialized, RenameRefused}
 use Rattle.lsp_rpc.specs.declared.error_code.RenameRefusal.{RenameRefusal}
-use Rattle.lsp_rpc.specs.declared.error_code.RenameRefusal.TheVariants.{NoSymbol, NotRenamable, BadName, NameTaken}
+use Rattle.lsp_rpc.specs.declared.error_code.RenameRefusal.TheVariants.{NoSymbol, NotRenamable, BadName, NameTaken, MeaningChanges}
 
 abbrev pub id_value : IdData → Data
 id_value (number_id n) = number (of_integer n)
@@ -35,6 +35,7 @@ refusal_text NoSymbol = codes "rename refused: 701"
 refusal_text NotRenamable = codes "rename refused: 702"
 refusal_text BadName = codes "rename refused: 703"
 refusal_text NameTaken = codes "rename refused: 704"
+refusal_text MeaningChanges = codes "rename refused: 705"
 
 -- the number of an error, and its message
 abbrev pub error_row : ErrorCode → ℤ × List ℕ

@@ -13,6 +13,8 @@ pub enum RenameRefusal {
     BadName,
     /// 704: the new name is taken.
     NameTaken,
+    /// 705: a name would mean something else, or other diagnostics would be there.
+    MeaningChanges,
 }
 
 impl RenameRefusal {
@@ -25,6 +27,7 @@ impl RenameRefusal {
             RenameRefusal::NotRenamable => "rename refused: 702",
             RenameRefusal::BadName => "rename refused: 703",
             RenameRefusal::NameTaken => "rename refused: 704",
+            RenameRefusal::MeaningChanges => "rename refused: 705",
         }
     }
 }

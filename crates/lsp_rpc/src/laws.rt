@@ -1,6 +1,6 @@
 // Laws of the definitions that the contracts cite. Each is a function with nothing to do, whose clause
 // is the law.
-ghost use Rattle.lsp_rpc.specs.Laws.{OnlyJsonIsRead, BatchesAreInvalid, RequestsAreCalls, NotificationsHaveNoId, TheFirstEncodingCounts, PullingIsDeclared, ResultText, ErrorText, InitializeText, DiagnosticText, ReportText, WorkspaceText, PublicationText, LocationsText, SymbolsText, UrisStandOnce, RangesAreKept, WorkspaceEditText};
+ghost use Rattle.lsp_rpc.specs.Laws.{OnlyJsonIsRead, BatchesAreInvalid, RequestsAreCalls, NotificationsAreCalls, TheFirstEncodingCounts, PullingIsDeclared, ResultText, ErrorText, InitializeText, DiagnosticText, ReportText, WorkspaceText, PublicationText, LocationsText, SymbolsText, UrisStandOnce, RangesAreKept, WorkspaceEditText};
 
 /// A law: what is answered as a parse error is what is no JSON text, and nothing else.
 pub fn parse_errors()
@@ -12,14 +12,15 @@ pub fn batches()
     ensures { BatchesAreInvalid }
 {}
 
-/// A law: what is taken as a request is one by its own members.
+/// A law: a body is taken as a request if it is one by its own members, and in no other case.
 pub fn requests()
     ensures { RequestsAreCalls }
 {}
 
-/// A law: what has an id is no notification, whatever the id is.
+/// A law: a body is taken as a notification if it is one by its own members, and in no other case. What has an id is none, whatever
+/// the id is.
 pub fn notifications()
-    ensures { NotificationsHaveNoId }
+    ensures { NotificationsAreCalls }
 {}
 
 /// A law: the encoding is the one that the editor's list names first. Names that aren't encodings' and entries that aren't strings

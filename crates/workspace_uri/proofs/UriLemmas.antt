@@ -25,7 +25,7 @@ below_here root path rest text starts is good =
     let behind : is_workspace_path (drop (length root) path) ≡ true = subst (λ r. is_workspace_path r ≡ true) is good in
     rw (is_utf8-from_IsUtf8 path text, starts, behind) (ap Some is)
 
-decode_step : (e : Bool) (v b : ℕ) (xs ys xs' ys' : List ℕ) → xs ≡ xs' ++ 47 ∷ [] → ys ≡ ys' ++ 47 ∷ [] → cond e (v ∷ xs) (b ∷ ys) ≡ cond e (v ∷ xs') (b ∷ ys') ++ 47 ∷ []
+pub decode_step : (e : Bool) (v b : ℕ) (xs ys xs' ys' : List ℕ) → xs ≡ xs' ++ 47 ∷ [] → ys ≡ ys' ++ 47 ∷ [] → cond e (v ∷ xs) (b ∷ ys) ≡ cond e (v ∷ xs') (b ∷ ys') ++ 47 ∷ []
 decode_step true v b xs ys xs' ys' p q = ap (λ l. v ∷ l) p
 decode_step false v b xs ys xs' ys' p q = ap (λ l. b ∷ l) q
 
@@ -47,7 +47,7 @@ pub record EndsInSlash (xs : List ℕ) : Type 0 where
 EndsInSlash-decode : (xs : List ℕ) → EndsInSlash xs → EndsInSlash (percent_decode xs)
 EndsInSlash-decode xs e = record { front = percent_decode e.front; is = ap percent_decode e.is ∙ percent_decode_slash e.front }
 
-EndsInSlash-from_ends_with : (xs : List ℕ) → ends_with nat_eq xs (47 ∷ []) ≡ true → EndsInSlash xs
+pub EndsInSlash-from_ends_with : (xs : List ℕ) → ends_with nat_eq xs (47 ∷ []) ≡ true → EndsInSlash xs
 EndsInSlash-from_ends_with xs e =
     let last : 47 ∷ [] ≡ drop (length xs - 1) xs = same_text (47 ∷ []) (drop (length xs - 1) xs) (sym e) in
     record { front = take (length xs - 1) xs; is = sym (take-append-drop (length xs - 1) xs) ∙ ap (λ l. take (length xs - 1) xs ++ l) (sym last) }

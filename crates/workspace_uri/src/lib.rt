@@ -4,12 +4,14 @@
 //! outside, and give a file of the workspace its URI. Nothing here looks at a disk.
 #![tactic(auto)]
 
+mod laws;
 mod path;
 mod root;
 mod roots;
 mod uri_place;
 mod url_text;
 
+pub use laws::{file_uris_lead_back, file_uris_of_several_roots, folders_have_written_roots};
 pub use path::is_workspace_path;
 pub use roots::Roots;
 pub use uri_place::UriPlace;

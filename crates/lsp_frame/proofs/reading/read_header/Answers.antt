@@ -4,7 +4,7 @@ use Rattle.std.proofs.KnownBytes.{Consumes-trans}
 use Rattle.std.proofs.lemmas.Result.{err_from_is_err_and}
 use Rattle.lsp_frame.specs.Header.{is_whole_header}
 use Rattle.lsp_frame.proofs.CountsLemmas.{NoneFell-trans}
-use Rattle.lsp_frame.proofs.Headers.{stopped_in_header, ended_empty, ended_within, too_long, closed, NoneWhole-push}
+use Rattle.lsp_frame.proofs.Headers.{stopped_in_header, filled_in_header, ended_empty, ended_within, too_long, closed, NoneWhole-push}
 use Rattle.lsp_frame.proofs.reading.read_header.Goals as goal
 
 pub returns-in_err-byte-clause-bytes : goal.returns-in_err-byte-clause-bytes
@@ -28,6 +28,15 @@ returns-in_default-clause-bytes g c =
     let none = rw (← at.invariant.len) at at.invariant.none_whole in
     let empty = eqb-true _ _ (sym c.is_empty.ensures ∙ c.if-not-is_empty.false) in
     ended_empty _ _ _ _ at.invariant.consumed (rw c.in_default.is at c.in_ok-byte.ensures.bytes) (omega (arith, empty, at.header.ok.0)) none
+
+pub returns-in_err-push_byte-clause-bytes : goal.returns-in_err-push_byte-clause-bytes
+returns-in_err-push_byte-clause-bytes g c =
+    let left = g.S.ByteSource.left in
+    let at = c.loop-taken in
+    let p = err_from_is_err_and c.from_residual-in_err-push_byte.result c.from_residual-in_err-push_byte.ensures.1 in
+    let next = rw c.in-Some.is at c.in_ok-byte.ensures.bytes in
+    rw (p.1, p.2, c.in_err-push_byte.ensures.fault)
+    (filled_in_header (left c.args.source.now) (left at.source) (left c.read_byte.new.source) at.header.items c.in-Some.byte at._taken at.invariant.consumed next at.invariant.len (omega arith) at.invariant.none_whole)
 
 pub returns-then-is_whole_header-clause-bytes : goal.returns-then-is_whole_header-clause-bytes
 returns-then-is_whole_header-clause-bytes g c =
