@@ -10,7 +10,10 @@ import unittest
 import stream
 from test_folder import FOLDER, SKIPPED, FolderTest, fixed
 
-CHECK_USAGE = b"Usage: protols check [--root DIR] [--proto-path DIR]... [--workers N]\n"
+CHECK_USAGE = b"""\
+Usage: protols check [--root DIR] [--proto-path DIR]... [--workers N]
+                     [--format FORMAT] [--quiet] [FILE]...
+"""
 
 # How often a small tree is checked, side by side.
 RUNS = 1_000
@@ -112,7 +115,7 @@ class Check(FolderTest):
         self.assertEqual(self.run_check("--root", ""), (b"", FOLDER, 3))
 
     def test_wrong_words(self):
-        for words in (("extra",), ("--stdio",), ("--clientProcessId", "1"), ("--root", "a", "--root", "b"), ("--roo", "a")):
+        for words in (("--stdio",), ("--clientProcessId", "1"), ("--root", "a", "--root", "b"), ("--roo", "a")):
             with self.subTest(words=words):
                 out, err, status = stream.check(words)
                 self.assertEqual((out, status), (b"", 2))
@@ -122,7 +125,7 @@ class Check(FolderTest):
     def test_help(self):
         out, err, status = stream.check(("--help",))
         self.assertEqual((err, status), (b"", 0))
-        for part in (CHECK_USAGE, b"--root <DIR>", b"--workers <N>", b"[default: 4]"):
+        for part in (CHECK_USAGE, b"--root <DIR>", b"--workers <N>", b"[default: 4]", b"--format <FORMAT>", b"--quiet", b"[FILE]..."):
             self.assertIn(part, out)
 
     def test_a_closed_output(self):

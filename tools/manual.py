@@ -17,15 +17,17 @@ FRAME = ROOT / "packaging/protols.1"
 
 TEXT = re.compile(r'^const (\w+): &str =\s+"((?:[^"\\]|\\.)*)";', re.MULTILINE | re.DOTALL)
 FUNCTION = re.compile(r"^(?:pub\(crate\) )?fn (\w+)<.*?^\}", re.MULTILINE | re.DOTALL)
-# A folder is completed as one; of any other value only the option is offered.
+NAMES = re.compile(r"^const (\w+): &\[&str\] = &\[([^\]]*)\];", re.MULTILINE)
+# A folder is completed as one, and a value that is one of some names by these; of any other value only the option is offered.
 FOLDER = "DIR"
 
 
 class Option:
-    """An option of a command: its name without `--`, the name of its value if it takes one, whether it may be repeated, and what it means."""
+    """An option of a command: its name without `--`, the name of its value if it takes one, the values if they are some names, whether it may be
+    repeated, and what it means."""
 
-    def __init__(self, name, value, repeated, said):
-        self.name, self.value, self.repeated, self.said = name, value, repeated, said
+    def __init__(self, name, value, choices, repeated, said):
+        self.name, self.value, self.choices, self.repeated, self.said = name, value, choices, repeated, said
 
     def headline(self):
         """What it means, in its first sentence."""
@@ -41,22 +43,33 @@ def texts(source):
     return found
 
 
+def names(source):
+    """The lists of names of the source, by the lists' names."""
+    return {name: re.findall(r'"([^"]*)"', listed) for name, listed in NAMES.findall(source)}
+
+
+def takes_files(said, command):
+    """Whether files may be named behind the options of a command."""
+    return "[FILE]..." in said[f"{command.upper()}_USAGE"]
+
+
 def commands(source):
     """The options of each command, as the source adds them."""
-    said, functions = texts(source), {one[1]: one[0] for one in FUNCTION.finditer(source)}
+    said, lists, functions = texts(source), names(source), {one[1]: one[0] for one in FUNCTION.finditer(source)}
     found = {}
     for name, body in functions.items():
         if name.endswith("_command"):
             used = re.findall(r"\b(\w+_option)\(alloc(?:, (\w+))?\)", body)
-            found[name[: -len("_command")]] = [option(functions[made], help_text, said) for made, help_text in used]
+            found[name[: -len("_command")]] = [option(functions[made], help_text, said, lists) for made, help_text in used]
     return found
 
 
-def option(body, help_text, said):
+def option(body, help_text, said, lists):
     """The option that a function of the source makes."""
     value = re.search(r'\.value_name\("(\w+)"\)', body)
+    chosen = re.search(r"ValueParser::Names\((\w+)\)", body)
     text = re.search(r"\.help\((\w+)\)", body)[1]
-    return Option(re.search(r'\.long\("([\w-]+)"\)', body)[1], value and value[1], "Append" in body, said[help_text or text])
+    return Option(re.search(r'\.long\("([\w-]+)"\)', body)[1], value and value[1], chosen and lists[chosen[1]], "Append" in body, said[help_text or text])
 
 
 def version(source):
@@ -109,6 +122,7 @@ def manual(source, date):
     said = texts(source)
     parts = {
         "%synopsis": synopsis_lines(said),
+        "%file": [roff(said["FILE_HELP"])],
         "%status": status_lines(said),
         "%examples": example_lines(said),
         **{f"%{command}": option_lines(options) for command, options in commands(source).items()},
@@ -122,9 +136,12 @@ def manual(source, date):
 def bash(source):
     """The completion for bash."""
     found = commands(source)
+    every = {one.name: one for options in found.values() for one in options}.values()
     cases = "\n".join(f"        {command}) words='{' '.join('--' + one.name for one in options)} --help' ;;" for command, options in found.items())
-    folders = sorted({"--" + one.name for options in found.values() for one in options if one.value == FOLDER})
-    others = sorted({"--" + one.name for options in found.values() for one in options if one.value not in (None, FOLDER)})
+    folders = sorted("--" + one.name for one in every if one.value == FOLDER)
+    chosen = "\n".join(f"        --{one.name}) words='{' '.join(one.choices)}'; mapfile -t COMPREPLY < <(compgen -W \"$words\" -- \"$word\"); return ;;" for one in every if one.choices)
+    others = sorted("--" + one.name for one in every if one.value not in (None, FOLDER) and not one.choices)
+    filed = "|".join(command for command in found if takes_files(texts(source), command))
     return f"""# Completion of protols for bash, made by tools/manual.py.
 _protols()
 {{
@@ -132,6 +149,7 @@ _protols()
     COMPREPLY=()
     case $before in
         {'|'.join(folders)}) compopt -o filenames; mapfile -t COMPREPLY < <(compgen -d -- "$word"); return ;;
+{chosen}
         {'|'.join(others)}) return ;;
     esac
     if ((COMP_CWORD > 1)); then
@@ -139,6 +157,11 @@ _protols()
 {cases}
         *) return ;;
         esac
+        if [[ ${{COMP_WORDS[1]}} == @({filed}) && $word != -* ]]; then
+            compopt -o filenames
+            mapfile -t COMPREPLY < <(compgen -d -- "$word"; compgen -f -X '!*.proto' -- "$word")
+            return
+        fi
     fi
     mapfile -t COMPREPLY < <(compgen -W "$words" -- "$word")
 }}
@@ -162,8 +185,11 @@ def zsh(source):
         shown = []
         for one in options:
             headline = re.sub(r"([\[\]:\\])", r"\\\1", one.headline()).replace("`", "")
-            value = f":{one.value}:" + ("_directories" if one.value == FOLDER else " ") if one.value else ""
+            completed = f"({' '.join(one.choices)})" if one.choices else "_directories" if one.value == FOLDER else " "
+            value = f":{one.value}:{completed}" if one.value else ""
             shown.append("      " + quoted(("*" if one.repeated else "") + f"--{one.name}[{headline}]{value}"))
+        if takes_files(texts(source), command):
+            shown.append("      '*:FILE:_files -g \"*.proto\"'")
         lines += [" \\\n".join(shown), "    ;;"]
     return "\n".join([*lines, "esac", ""])
 
@@ -175,8 +201,11 @@ def fish(source):
     lines += [f"complete -c protols -n __fish_use_subcommand -a {command}" for command in found]
     lines += ["complete -c protols -l help -d 'Show the help'", "complete -c protols -n __fish_use_subcommand -l version -d 'Show the version'"]
     for command, options in found.items():
+        if takes_files(texts(source), command):
+            lines.append(f"complete -c protols -n '__fish_seen_subcommand_from {command}' -F")
         for one in options:
             value = {None: "", FOLDER: " -x -a '(__fish_complete_directories)'"}.get(one.value, " -x")
+            value += f" -a '{' '.join(one.choices)}'" if one.choices else ""
             said = quoted(one.headline().replace("`", ""))
             lines.append(f"complete -c protols -n '__fish_seen_subcommand_from {command}' -l {one.name}{value} -d {said}")
     return "\n".join(lines) + "\n"

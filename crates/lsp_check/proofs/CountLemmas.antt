@@ -1,4 +1,4 @@
--- How many files are asked for, and how many errors they have.
+-- How many lines and errors the files have that are asked for.
 use Rattle.std.proofs.Common.{◌≡◌, ℕ, zero, suc, ◌+◌, ◌-◌, ◌<◌, ◌≤◌, ◌^◌, min, Bool, true, false, ◌||◌, nat_lt, List, [], ◌∷◌, length, drop, get_or, refl, ap, ap₂, sym, ◌∙◌, arith, cond, add-one, drop-cons, Vec, None}
 use Rattle.std.specs.List.{enumerate_from, list_any, sum_by, count_by}
 use Rattle.std.proofs.lemmas.Bool.{lt-ltb}
@@ -8,38 +8,39 @@ use Rattle.std.proofs.lemmas.List.FromFn.{length-enumerate_from}
 use Rattle.std.specs.declared.alloc.Global.{Global}
 use Rattle.std.specs.declared.string.String.{String}
 use Rattle.work_index.specs.Workspace.{Workspace, analysis, diagnostics_of}
-use Rattle.lsp_check.specs.Listing.{is_error, file_errors, error_count, has_errors}
+use Rattle.lsp_check.specs.Listing.{is_error, error_count, has_errors}
 use Rattle.lsp_check.specs.declared.format.Format.{Format}
-use Rattle.lsp_check.specs.declared.listed.Listed.{Listed}
 use Rattle.lsp_check.proofs.LinesLemmas.{split}
 
--- ---- errors, one file after the other
+-- ---- what each file has so many of, one file after the other
+
+abbrev pub Counting : Type 0
+Counting = ℕ × (List ℕ × List ℕ) → ℕ
 
 -- those of the files from a number on
-abbrev pub errors_left : ℕ → Listed → ℕ
-errors_left n l = sum_by (file_errors l.how (analysis l.files)) (enumerate_from n (drop n l.files))
+abbrev pub left_of : Counting → ℕ → Workspace → ℕ
+left_of of n w = sum_by of (enumerate_from n (drop n w))
 
 -- so many were counted in the files before a number, or the highest number if there are more
-pub record AreCounted (count n : ℕ) (l : Listed) : Type 0 where
+pub record AreCounted (of : Counting) (count n : ℕ) (w : Workspace) : Type 0 where
   pub done : ℕ
   pub counted : count ≡ min done (2 ^ 64 - 1)
-  pub others : error_count l.how l.files ≡ done + errors_left n l
+  pub others : sum_by of (enumerate_from 0 w) ≡ done + left_of of n w
 
-pub none-counted : (l : Listed) → AreCounted 0 0 l
-none-counted l = record { done = 0; counted = refl; others = omega arith }
+pub none-counted : (of : Counting) (w : Workspace) → AreCounted of 0 0 w
+none-counted of w = record { done = 0; counted = refl; others = omega arith }
 
-pub more-counted : (l : Listed) (count n more new : ℕ) → n < length l.files → AreCounted count n l → more ≡ file_errors l.how (analysis l.files) (n, get_or l.files n ([], []))
-    → new ≡ min (count + more) (2 ^ 64 - 1) → AreCounted new (n + 1) l
-more-counted l count n more new there at is sum =
-    let F = file_errors l.how (analysis l.files) in
-    let rest = enumerate_from (n + 1) (drop (n + 1) l.files) in
-    let next : errors_left n l ≡ more + errors_left (n + 1) l =
-    ap (λ xs. sum_by F (enumerate_from n xs)) (split l.files n ([], []) there) ∙ sum_by-cons F (n, get_or l.files n ([], [])) rest ∙ ap (λ k. k + sum_by F rest) (sym is) in
+pub more-counted : (of : Counting) (w : Workspace) (count n more new : ℕ) → n < length w → AreCounted of count n w → more ≡ of (n, get_or w n ([], []))
+    → new ≡ min (count + more) (2 ^ 64 - 1) → AreCounted of new (n + 1) w
+more-counted of w count n more new there at is sum =
+    let rest = enumerate_from (n + 1) (drop (n + 1) w) in
+    let next : left_of of n w ≡ more + left_of of (n + 1) w =
+    ap (λ xs. sum_by of (enumerate_from n xs)) (split w n ([], []) there) ∙ sum_by-cons of (n, get_or w n ([], [])) rest ∙ ap (λ k. k + sum_by of rest) (sym is) in
     record { done = at.done + more; counted = sum ∙ ap (λ k. min (k + more) (2 ^ 64 - 1)) at.counted ∙ omega arith; others = omega (arith, at.others, next) }
 
-pub all-counted : (l : Listed) (count n : ℕ) → length l.files ≤ n → AreCounted count n l → count ≡ min (error_count l.how l.files) (2 ^ 64 - 1)
-all-counted l count n none at =
-    let gone : errors_left n l ≡ 0 = ap (λ xs. sum_by (file_errors l.how (analysis l.files)) (enumerate_from n xs)) (drop_all n l.files none) in
+pub all-counted : (of : Counting) (w : Workspace) (count n : ℕ) → length w ≤ n → AreCounted of count n w → count ≡ min (sum_by of (enumerate_from 0 w)) (2 ^ 64 - 1)
+all-counted of w count n none at =
+    let gone : left_of of n w ≡ 0 = ap (λ xs. sum_by of (enumerate_from n xs)) (drop_all n w none) in
     at.counted ∙ ap (λ k. min k (2 ^ 64 - 1)) (omega (arith, at.others, gone))
 
 -- ---- there are errors

@@ -3,3 +3,5 @@ mod Crossing
 mod LineLemmas
 mod LinesLemmas
 mod ListedShares
+mod SarifLemmas
+mod SarifTexts

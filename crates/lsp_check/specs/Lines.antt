@@ -1,8 +1,9 @@
 -- The line of a diagnostic, as each format writes it.
-use Rattle.std.specs.Prelude.{ℕ, ◌+◌, ◌==◌, List, [], ◌∷◌, ◌++◌, length, Bool, not, ◌&&◌, if◌then◌else◌, Option, Some, None, nat_eq, bytes_eq, codes, decimal}
-use Rattle.std.specs.List.{flat_map, ends_with}
-use Rattle.serde_json.specs.Data.{Data, number, unsigned, string, object, member, no_members}
+use Rattle.std.specs.Prelude.{ℕ, ◌+◌, ◌==◌, List, [], ◌∷◌, ◌++◌, length, Bool, true, false, not, ◌&&◌, if◌then◌else◌, Option, Some, None, nat_eq, bytes_eq, codes, decimal}
+use Rattle.std.specs.List.{flat_map, starts_with, ends_with}
+use Rattle.serde_json.specs.Data.{Data, number, unsigned, string, array, item, no_items, object, member, no_members}
 use Rattle.serde_json.specs.Written.{compact_text}
+use Rattle.workspace_uri.specs.Uri.{escaped}
 use Rattle.doc_text.specs.Positions.{position_of}
 use Rattle.doc_text.specs.declared.encoding.Encoding.TheVariants.{Utf16}
 use Rattle.doc_text.specs.declared.position.Position.{Position}
@@ -10,11 +11,11 @@ use Rattle.file_facts.specs.declared.diagnostic.Diag.{Diag}
 use Rattle.file_facts.specs.declared.problem.Problem.{Problem}
 use Rattle.file_facts.specs.Problems as message
 use Rattle.lsp_check.specs.declared.format.Format.{Format}
-use Rattle.lsp_check.specs.declared.format.Format.TheVariants.{Plain, Gnu, Github, Json}
+use Rattle.lsp_check.specs.declared.format.Format.TheVariants.{Plain, Gnu, Github, Json, Sarif}
 
 abbrev pub format_named : List ℕ → Option Format
 format_named name =
-    if bytes_eq name (codes "plain") then Some Plain else (if bytes_eq name (codes "gnu") then Some Gnu else (if bytes_eq name (codes "github") then Some Github else (if bytes_eq name (codes "json") then Some Json else None)))
+    if bytes_eq name (codes "plain") then Some Plain else (if bytes_eq name (codes "gnu") then Some Gnu else (if bytes_eq name (codes "github") then Some Github else (if bytes_eq name (codes "json") then Some Json else (if bytes_eq name (codes "sarif") then Some Sarif else None))))
 
 -- ---- plain
 
@@ -115,6 +116,49 @@ json_text folder path start end d = compact_text (finding_value folder path star
 abbrev pub json_line : List ℕ → List ℕ → Position → Position → Diag → List ℕ
 json_line folder path start end d = json_text folder path start end d ++ codes "\n"
 
+-- ---- SARIF 2.1.0 (Static Analysis Results Interchange Format, OASIS), as the items of the one array of results in a document
+
+-- where a file is, given its path: a URI if the path begins at the top of the file system, else a reference from the current folder
+abbrev pub file_uri : List ℕ → List ℕ
+file_uri path = if starts_with nat_eq path (codes "/") then codes "file://" ++ escaped path else escaped path
+
+-- a region: lines and columns count from 1, columns in UTF-16 units, and it ends before the place at its end
+abbrev pub region_value : Position → Position → Data
+region_value start end =
+    object (member (codes "endColumn") (natural (end.character + 1))
+    (member (codes "endLine") (natural (end.line + 1))
+    (member (codes "startColumn") (natural (start.character + 1))
+    (member (codes "startLine") (natural (start.line + 1)) no_members))))
+
+abbrev pub artifact_value : List ℕ → Data
+artifact_value uri = object (member (codes "uri") (string uri) no_members)
+
+abbrev pub location_value : List ℕ → Position → Position → Data
+location_value uri start end =
+    object (member (codes "physicalLocation")
+    (object (member (codes "artifactLocation") (artifact_value uri) (member (codes "region") (region_value start end) no_members))) no_members)
+
+abbrev pub level_word : Problem → List ℕ
+level_word m = if is_error_message m then codes "error" else codes "note"
+
+abbrev pub message_value : List ℕ → Data
+message_value text = object (member (codes "text") (string text) no_members)
+
+-- a diagnostic of a file with this URI; the keys of each object stand in the order of their bytes
+abbrev pub result_value : List ℕ → Position → Position → Problem → Data
+result_value uri start end m =
+    object (member (codes "level") (string (level_word m))
+    (member (codes "locations") (array (item (location_value uri start end) no_items))
+    (member (codes "message") (message_value (message.text m))
+    (member (codes "ruleId") (string (decimal (message.code m))) no_members))))
+
+unfoldable pub sarif_text : List ℕ → Position → Position → Problem → List ℕ
+sarif_text uri start end m = compact_text (result_value uri start end m)
+
+-- a result behind a comma, which the first of a document does without
+abbrev pub sarif_item : List ℕ → List ℕ → Position → Position → Problem → List ℕ
+sarif_item folder path start end m = codes "," ++ sarif_text (file_uri (below folder path)) start end m
+
 -- ---- in any format
 
 -- a file whose lines are written: how, its folder as it is shown and its path below it, and its text
@@ -135,7 +179,38 @@ line_as Plain file d = line_of file.path file.text d
 line_as Gnu file d = gnu_line file.folder file.path (start_of file d) d.message
 line_as Github file d = github_line file.folder file.path (start_of file d) d.message
 line_as Json file d = json_line file.folder file.path (start_of file d) (end_of file d) d
+line_as Sarif file d = sarif_item file.folder file.path (start_of file d) (end_of file d) d.message
 
 -- a line for each of some diagnostics of a file
 abbrev pub written : ListedFileData → List Diag → List ℕ
 written file diags = flat_map (line_as file.format file) diags
+
+-- ---- the whole of what is written
+
+-- whether the lines are the items of one array, so that the first of them does without the comma before it
+abbrev pub is_array : Format → Bool
+is_array Sarif = true
+is_array _ = false
+
+abbrev pub without_first : List ℕ → List ℕ
+without_first [] = []
+without_first (b ∷ rest) = rest
+
+-- lines without their first byte, if that is to be left out
+abbrev pub cut : Bool → List ℕ → List ℕ
+cut first lines = if first then without_first lines else lines
+
+-- what stands before all lines
+abbrev pub opening : Format → List ℕ
+opening Sarif = codes "{\"version\":\"2.1.0\",\"$schema\":\"https://json.schemastore.org/sarif-2.1.0.json\",\"runs\":[{\"tool\":{\"driver\":{\"name\":\"protols\"}},\"columnKind\":\"utf16CodeUnits\",\"results\":["
+opening _ = []
+
+-- and behind them
+abbrev pub closing : Format → List ℕ
+closing Sarif = codes "]}]}\n"
+closing _ = []
+
+-- all that is written: the lines, or the document whose results they are
+abbrev pub document : Format → List ℕ → List ℕ
+document Sarif lines = opening Sarif ++ without_first lines ++ closing Sarif
+document _ lines = lines

@@ -1,5 +1,5 @@
 -- What is wrong in a workspace, as a command line shows it.
-use Rattle.std.specs.Prelude.{ℕ, ◌-◌, ◌^◌, List, [], ◌∷◌, Bool, true, if◌then◌else◌, Option, Some, None, slice_index_or, map, min, string_bytes, sum_by, count_by}
+use Rattle.std.specs.Prelude.{ℕ, ◌-◌, ◌^◌, List, [], ◌∷◌, Bool, true, if◌then◌else◌, Option, Some, None, slice_index_or, length, map, min, string_bytes, sum_by, count_by}
 use Rattle.std.specs.List.{enumerate_from, flat_map, list_any}
 use Rattle.std.specs.BTreeSet.{BTreeSet, contains_text}
 use Rattle.std.specs.declared.alloc.Global.{Global}
@@ -7,7 +7,7 @@ use Rattle.std.specs.declared.string.String.{String}
 use Rattle.file_facts.specs.declared.diagnostic.Diag.{Diag}
 use Rattle.work_index.specs.Workspace.{Workspace, AnalysisData, analysis}
 use Rattle.lsp_workspace.specs.Files.{Files, text_of, workspace}
-use Rattle.lsp_check.specs.Lines.{lines_of, ListedFileData, written, is_error_message}
+use Rattle.lsp_check.specs.Lines.{lines_of, ListedFileData, written, is_error_message, document}
 use Rattle.lsp_check.specs.declared.wanted.Checked.{Checked}
 use Rattle.lsp_check.specs.declared.wanted.Listing.{Listing}
 
@@ -67,15 +67,23 @@ file_lines how roots a file = written (listed_file how roots file) (wanted_diags
 abbrev pub lines_with : Listing → List (Option ℕ) → Workspace → List ℕ
 lines_with how roots w = flat_map (file_lines how roots (analysis w)) (enumerate_from 0 w)
 
--- all lines, by path
+-- all that is written, with the lines by path
 abbrev pub listed : Listing → Files → List ℕ
-listed how files = lines_with how (file_roots files) (workspace files)
+listed how files = document how.format (lines_with how (file_roots files) (workspace files))
 
 -- ---- how many there are
 
 -- how many of the files are asked for
 abbrev pub wanted_count : Listing → Workspace → ℕ
 wanted_count how w = count_by (λ f. is_wanted how f.0) w
+
+-- how many lines a file has, if they are asked for
+abbrev pub wanted_lines : Listing → AnalysisData → ℕ × (List ℕ × List ℕ) → ℕ
+wanted_lines how a file = length (wanted_diags how a file)
+
+-- how many lines are asked for
+abbrev pub line_count : Listing → Workspace → ℕ
+line_count how w = sum_by (wanted_lines how (analysis w)) (enumerate_from 0 w)
 
 abbrev pub file_errors : Listing → AnalysisData → ℕ × (List ℕ × List ℕ) → ℕ
 file_errors how a file = count_by is_error (wanted_diags how a file)

@@ -1,5 +1,5 @@
 -- What the private steps of a check promise each other.
-use Rattle.std.specs.Prelude.{◌≡◌, ℕ, List, [], ◌++◌, Option, Result, Ok, string_bytes, slice_index_or, drop, flat_map, map}
+use Rattle.std.specs.Prelude.{◌≡◌, ◌&&◌, ℕ, Bool, true, false, List, [], ◌∷◌, ◌++◌, Option, Result, Ok, string_bytes, slice_index_or, drop, flat_map, map}
 use Rattle.std.specs.List.{enumerate_from}
 use Rattle.std.specs.declared.alloc.AllocError.{AllocError}
 use Rattle.std.specs.Io.KnownBytes.{Appends}
@@ -9,6 +9,7 @@ use Rattle.piece_collector.specs.declared.verdict.Verdict.TheVariants.{Taken}
 use Rattle.work_index.specs.declared.done.Done.{Done}
 use Rattle.work_index.specs.declared.done.Done.TheVariants as job
 use Rattle.work_index.specs.Workspace.{analysis}
+use Rattle.lsp_check.specs.Lines.{is_array, cut, document}
 use Rattle.lsp_check.specs.Listing.{file_lines, lines_with}
 use Rattle.lsp_check.specs.declared.listed.Listed.{Listed}
 use Rattle.lsp_check.specs.declared.shares.ShareLines.{ShareLines}
@@ -18,6 +19,14 @@ pub record Sent (old new : Option (List ℕ)) (all left : List ℕ) : Type 0 whe
   pub front : List ℕ
   pub joined : all ≡ front ++ left
   pub appended : Appends old new front
+
+abbrev pub are_none : List ℕ → Bool
+are_none [] = true
+are_none (b ∷ rest) = false
+
+-- whether the first of all lines is still to come, after these lines
+abbrev pub still_first : Bool → List ℕ → Bool
+still_first first lines = first && are_none lines
 
 -- what became of a job, as what is done to the board
 abbrev pub event_of : Done → Event
@@ -41,6 +50,14 @@ left_from n l = flat_map (file_lines l.how l.roots.items (analysis l.files)) (en
 
 abbrev pub all_lines : Listed → List ℕ
 all_lines l = lines_with l.how l.roots.items l.files
+
+-- what goes out of them
+abbrev pub sent_lines : Listed → List ℕ
+sent_lines l = cut (is_array l.how.format) (all_lines l)
+
+-- all that goes out
+abbrev pub all_written : Listed → List ℕ
+all_written l = document l.how.format (all_lines l)
 
 -- ---- lines that threads make
 

@@ -3,9 +3,9 @@ ghost use Rattle.std.specs.Prelude.{◌≡◌, ◌+◌, ◌≤◌, [], ◌++◌,
 ghost use Rattle.std.specs.Io.KnownBytes.{Appends};
 ghost use Rattle.lsp_frame.specs.Counts.{NoneFell, NoError};
 ghost use Rattle.lsp_workspace.specs.Files.{workspace};
-ghost use Rattle.lsp_check.specs.Lines.{written};
+ghost use Rattle.lsp_check.specs.Lines.{cut, written};
 ghost use Rattle.lsp_check.specs.Listing.{listing, has_errors, listed, checked_of};
-ghost use Rattle.lsp_check.specs.Steps.{Sent, all_lines};
+ghost use Rattle.lsp_check.specs.Steps.{Sent, all_written, sent_lines, still_first};
 ghost use Rattle.lsp_config.specs.Configuration.{files_of};
 ghost use Rattle.lsp_config.specs.Fault.{ComesWhileChecking, NoErrorUnless};
 ghost use Rattle.lsp_config.specs.Sending.{SendsPrefix};
@@ -14,6 +14,7 @@ use crate::diagnosing::{DiagnosedRoots, diagnose_files};
 use crate::format::Format;
 use crate::lines::ListedFile;
 use crate::listed::Listed;
+use crate::room::{Room, cut_first};
 use crate::shares::{ShareLines, lines_in_shares};
 use crate::wanted::{Asked, Checked, Listing};
 use file_facts::Diag;
@@ -38,48 +39,62 @@ const FEW: usize = 1024;
 // The lines of more diagnostics than so many are never all in memory.
 const MANY: usize = 65536;
 
-// Writes what the room holds, and empties it. If it holds nothing, the writer isn't called.
-fn flush<K: ByteSink>(writer: &mut K, room: &mut Vec<u8>) -> Result<(), ServeFault>
-    ensures ok { OnOk result (Appends (K.written writer.old) (K.written writer.new) room.old.items) }
-    ensures empty { OnOk result (room.new.items ≡ []) }
-    ensures err { OnErr result (SendsPrefix (K.written writer.old) (K.written writer.new) room.old.items) }
+// Writes these bytes. If there are none, the writer isn't called.
+fn send<K: ByteSink>(writer: &mut K, bytes: &[u8]) -> Result<(), ServeFault>
+    ensures ok { OnOk result (Appends (K.written writer.old) (K.written writer.new) bytes.now) }
+    ensures err { OnErr result (SendsPrefix (K.written writer.old) (K.written writer.new) bytes.now) }
     ensures fault { IfErr result (ComesWhileChecking (K.counts writer.old) (K.counts writer.new)) }
     ensures counts { NoneFell (K.counts writer.old) (K.counts writer.new) }
     ensures calm { OnOk result (NoError (K.counts writer.old) (K.counts writer.new)) }
     ensures reported { IfErr result (NoErrorUnless ServeFault.Write (K.counts writer.old) (K.counts writer.new)) }
     ensures once { (K.counts writer.new).errors ≤ (K.counts writer.old).errors + 1 }
 {
-    match write_bytes(writer, room.as_slice()) {
-        Ok(()) => {
-            room.clear();
-            Ok(())
-        }
+    match write_bytes(writer, bytes) {
+        Ok(()) => Ok(()),
         Err(_) => Err(ServeFault::Write),
     }
+}
+
+// Writes what the room holds, and empties it.
+fn flush<K: ByteSink>(writer: &mut K, room: &mut Room) -> Result<(), ServeFault>
+    ensures ok { OnOk result (Appends (K.written writer.old) (K.written writer.new) room.old.bytes.items) }
+    ensures empty { OnOk result (room.new.bytes.items ≡ []) }
+    ensures first { room.new.first ≡ room.old.first }
+    ensures err { OnErr result (SendsPrefix (K.written writer.old) (K.written writer.new) room.old.bytes.items) }
+    ensures fault { IfErr result (ComesWhileChecking (K.counts writer.old) (K.counts writer.new)) }
+    ensures counts { NoneFell (K.counts writer.old) (K.counts writer.new) }
+    ensures calm { OnOk result (NoError (K.counts writer.old) (K.counts writer.new)) }
+    ensures reported { IfErr result (NoErrorUnless ServeFault.Write (K.counts writer.old) (K.counts writer.new)) }
+    ensures once { (K.counts writer.new).errors ≤ (K.counts writer.old).errors + 1 }
+{
+    send(writer, room.bytes.as_slice())?;
+    room.bytes.clear();
+    Ok(())
 }
 
 // Adds to the room the lines of some diagnostics of a file, and writes the room if it is full.
 fn add_part<K: ByteSink>(
     writer: &mut K,
-    room: &mut Vec<u8>,
+    room: &mut Room,
     file: &mut ListedFile<'_>,
     diags: &[Diag],
 ) -> Result<(), ServeFault>
     ensures same { file.new ≡ file.old }
 
     // Of what the room held and the lines behind it a front went out, and the room holds the others.
-    ensures ok { OnOk result (Sent (K.written writer.old) (K.written writer.new) (room.old.items ++ written file.old diags.now) room.new.items) }
-    ensures err { OnErr result (SendsPrefix (K.written writer.old) (K.written writer.new) (room.old.items ++ written file.old diags.now)) }
+    ensures ok { OnOk result (Sent (K.written writer.old) (K.written writer.new) (room.old.bytes.items ++ cut room.old.first (written file.old diags.now)) room.new.bytes.items) }
+    ensures first { OnOk result (room.new.first ≡ still_first room.old.first (written file.old diags.now)) }
+    ensures err { OnErr result (SendsPrefix (K.written writer.old) (K.written writer.new) (room.old.bytes.items ++ cut room.old.first (written file.old diags.now))) }
     ensures fault { IfErr result (ComesWhileChecking (K.counts writer.old) (K.counts writer.new)) }
     ensures counts { NoneFell (K.counts writer.old) (K.counts writer.new) }
     ensures calm { OnOk result (NoError (K.counts writer.old) (K.counts writer.new)) }
     ensures reported { IfErr result (NoErrorUnless ServeFault.Write (K.counts writer.old) (K.counts writer.new)) }
     ensures once { (K.counts writer.new).errors ≤ (K.counts writer.old).errors + 1 }
 {
-    let Ok(()) = file.push_lines(room, diags) else {
+    let Ok(()) = room.add(file, diags) else {
         return Err(ServeFault::Memory);
     };
-    if room.len() < FULL {
+    if room.bytes.len() < FULL {
         return Ok(());
     }
     flush(writer, room)
@@ -88,12 +103,13 @@ fn add_part<K: ByteSink>(
 // Adds the lines of a file to the room, so many at a time, and writes it whenever it is full.
 fn add_lines<K: ByteSink>(
     writer: &mut K,
-    room: &mut Vec<u8>,
+    room: &mut Room,
     file: &mut ListedFile<'_>,
     diags: &[Diag],
 ) -> Result<(), ServeFault>
-    ensures ok { OnOk result (Sent (K.written writer.old) (K.written writer.new) (room.old.items ++ written file.old diags.now) room.new.items) }
-    ensures err { OnErr result (SendsPrefix (K.written writer.old) (K.written writer.new) (room.old.items ++ written file.old diags.now)) }
+    ensures ok { OnOk result (Sent (K.written writer.old) (K.written writer.new) (room.old.bytes.items ++ cut room.old.first (written file.old diags.now)) room.new.bytes.items) }
+    ensures first { OnOk result (room.new.first ≡ still_first room.old.first (written file.old diags.now)) }
+    ensures err { OnErr result (SendsPrefix (K.written writer.old) (K.written writer.new) (room.old.bytes.items ++ cut room.old.first (written file.old diags.now))) }
     ensures fault { IfErr result (ComesWhileChecking (K.counts writer.old) (K.counts writer.new)) }
     ensures counts { NoneFell (K.counts writer.old) (K.counts writer.new) }
     ensures calm { OnOk result (NoError (K.counts writer.old) (K.counts writer.new)) }
@@ -115,14 +131,15 @@ fn send_in_turn<K: ByteSink>(
     writer: &mut K,
     listed: &Listed,
 ) -> Result<(), ServeFault>
-    ensures ok { OnOk result (Appends (K.written writer.old) (K.written writer.new) (all_lines listed.now)) }
-    ensures err { OnErr result (SendsPrefix (K.written writer.old) (K.written writer.new) (all_lines listed.now)) }
+    ensures ok { OnOk result (Appends (K.written writer.old) (K.written writer.new) (sent_lines listed.now)) }
+    ensures err { OnErr result (SendsPrefix (K.written writer.old) (K.written writer.new) (sent_lines listed.now)) }
     ensures fault { IfErr result (ComesWhileChecking (K.counts writer.old) (K.counts writer.new)) }
+    ensures counts { NoneFell (K.counts writer.old) (K.counts writer.new) }
     ensures calm { OnOk result (NoError (K.counts writer.old) (K.counts writer.new)) }
     ensures reported { IfErr result (NoErrorUnless ServeFault.Write (K.counts writer.old) (K.counts writer.new)) }
     ensures once { (K.counts writer.new).errors ≤ (K.counts writer.old).errors + 1 }
 {
-    let mut room = Vec::new(alloc);
+    let mut room = Room::new(alloc, listed.how.format);
     for number in 0..listed.files.file_count() {
         let mut file = listed.file(alloc, number);
         add_lines(writer, &mut room, &mut file, listed.diagnostics(number))?;
@@ -130,18 +147,23 @@ fn send_in_turn<K: ByteSink>(
     flush(writer, &mut room)
 }
 
-// Writes the lines of shares, one share after the other.
-fn send_shares<K: ByteSink>(writer: &mut K, shares: Vec<ShareLines>) -> Result<(), ServeFault>
-    ensures ok { OnOk result (Appends (K.written writer.old) (K.written writer.new) (flat_map (λ share. share.lines.items) shares.items)) }
-    ensures err { OnErr result (SendsPrefix (K.written writer.old) (K.written writer.new) (flat_map (λ share. share.lines.items) shares.items)) }
+// Writes the lines of shares, one share after the other. They may be the items of an array.
+fn send_shares<K: ByteSink>(
+    writer: &mut K,
+    array: bool,
+    shares: Vec<ShareLines>,
+) -> Result<(), ServeFault>
+    ensures ok { OnOk result (Appends (K.written writer.old) (K.written writer.new) (cut array (flat_map (λ share. share.lines.items) shares.items))) }
+    ensures err { OnErr result (SendsPrefix (K.written writer.old) (K.written writer.new) (cut array (flat_map (λ share. share.lines.items) shares.items))) }
     ensures fault { IfErr result (ComesWhileChecking (K.counts writer.old) (K.counts writer.new)) }
+    ensures counts { NoneFell (K.counts writer.old) (K.counts writer.new) }
     ensures calm { OnOk result (NoError (K.counts writer.old) (K.counts writer.new)) }
     ensures reported { IfErr result (NoErrorUnless ServeFault.Write (K.counts writer.old) (K.counts writer.new)) }
     ensures once { (K.counts writer.new).errors ≤ (K.counts writer.old).errors + 1 }
 {
+    let mut first = array;
     'shares: for share in shares {
-        let ShareLines { mut lines } = share;
-        flush(writer, &mut lines)?;
+        send(writer, cut_first(&mut first, share.lines.as_slice()))?;
     }
     Ok(())
 }
@@ -154,15 +176,16 @@ fn send_by_threads<R: Threads + Wait, K: ByteSink>(
     listed: &Listed,
     least: usize,
 ) -> Result<(), ServeFault>
-    ensures ok { OnOk result (Appends (K.written writer.old) (K.written writer.new) (all_lines listed.now)) }
-    ensures err { OnErr result (SendsPrefix (K.written writer.old) (K.written writer.new) (all_lines listed.now)) }
+    ensures ok { OnOk result (Appends (K.written writer.old) (K.written writer.new) (sent_lines listed.now)) }
+    ensures err { OnErr result (SendsPrefix (K.written writer.old) (K.written writer.new) (sent_lines listed.now)) }
     ensures fault { IfErr result (ComesWhileChecking (K.counts writer.old) (K.counts writer.new)) }
+    ensures counts { NoneFell (K.counts writer.old) (K.counts writer.new) }
     ensures calm { OnOk result (NoError (K.counts writer.old) (K.counts writer.new)) }
     ensures reported { IfErr result (NoErrorUnless ServeFault.Write (K.counts writer.old) (K.counts writer.new)) }
     ensures once { (K.counts writer.new).errors ≤ (K.counts writer.old).errors + 1 }
 {
     match lines_in_shares(rt, alloc, listed, least) {
-        Ok(shares) => send_shares(writer, shares),
+        Ok(shares) => send_shares(writer, listed.how.format.is_array(), shares),
         Err(fault) => Err(ServeFault::from(CoreFault::from(fault))),
     }
 }
@@ -175,9 +198,10 @@ fn send_all<R: Threads + Wait, K: ByteSink>(
     listed: &Listed,
     workers: usize,
 ) -> Result<(), ServeFault>
-    ensures ok { OnOk result (Appends (K.written writer.old) (K.written writer.new) (all_lines listed.now)) }
-    ensures err { OnErr result (SendsPrefix (K.written writer.old) (K.written writer.new) (all_lines listed.now)) }
+    ensures ok { OnOk result (Appends (K.written writer.old) (K.written writer.new) (sent_lines listed.now)) }
+    ensures err { OnErr result (SendsPrefix (K.written writer.old) (K.written writer.new) (sent_lines listed.now)) }
     ensures fault { IfErr result (ComesWhileChecking (K.counts writer.old) (K.counts writer.new)) }
+    ensures counts { NoneFell (K.counts writer.old) (K.counts writer.new) }
     ensures calm { OnOk result (NoError (K.counts writer.old) (K.counts writer.new)) }
     ensures reported { IfErr result (NoErrorUnless ServeFault.Write (K.counts writer.old) (K.counts writer.new)) }
     ensures once { (K.counts writer.new).errors ≤ (K.counts writer.old).errors + 1 }
@@ -189,6 +213,28 @@ fn send_all<R: Threads + Wait, K: ByteSink>(
     send_by_threads(rt, alloc, writer, listed, count.div_ceil(workers.min(64)))
 }
 
+// Writes the lines that are asked for, with what stands before and behind all lines.
+fn send_document<R: Threads + Wait, K: ByteSink>(
+    rt: &R,
+    alloc: Global,
+    writer: &mut K,
+    listed: &Listed,
+    workers: usize,
+) -> Result<(), ServeFault>
+    ensures ok { OnOk result (Appends (K.written writer.old) (K.written writer.new) (all_written listed.now)) }
+    ensures err { OnErr result (SendsPrefix (K.written writer.old) (K.written writer.new) (all_written listed.now)) }
+    ensures fault { IfErr result (ComesWhileChecking (K.counts writer.old) (K.counts writer.new)) }
+    ensures counts { NoneFell (K.counts writer.old) (K.counts writer.new) }
+    ensures calm { OnOk result (NoError (K.counts writer.old) (K.counts writer.new)) }
+    ensures reported { IfErr result (NoErrorUnless ServeFault.Write (K.counts writer.old) (K.counts writer.new)) }
+    ensures once { (K.counts writer.new).errors ≤ (K.counts writer.old).errors + 1 }
+{
+    let format = listed.how.format;
+    send(writer, format.opening().as_bytes())?;
+    send_all(rt, alloc, writer, listed, workers)?;
+    send(writer, format.closing().as_bytes())
+}
+
 // Writes the lines that are asked for, and answers what was found.
 fn send_and_judge<R: Threads + Wait, K: ByteSink>(
     rt: &R,
@@ -197,24 +243,25 @@ fn send_and_judge<R: Threads + Wait, K: ByteSink>(
     listed: &Listed,
     workers: usize,
 ) -> Result<Checked, ServeFault>
-    ensures prefix { SendsPrefix (K.written writer.old) (K.written writer.new) (all_lines listed.now) }
-    ensures whole { OnOk result (Appends (K.written writer.old) (K.written writer.new) (all_lines listed.now)) }
+    ensures prefix { SendsPrefix (K.written writer.old) (K.written writer.new) (all_written listed.now) }
+    ensures whole { OnOk result (Appends (K.written writer.old) (K.written writer.new) (all_written listed.now)) }
     ensures checked { IfOk result (λ found. found ≡ checked_of listed.now.how listed.now.files) }
     ensures fault { IfErr result (ComesWhileChecking (K.counts writer.old) (K.counts writer.new)) }
     ensures calm { OnOk result (NoError (K.counts writer.old) (K.counts writer.new)) }
     ensures reported { IfErr result (NoErrorUnless ServeFault.Write (K.counts writer.old) (K.counts writer.new)) }
     ensures once { (K.counts writer.new).errors ≤ (K.counts writer.old).errors + 1 }
 {
-    send_all(rt, alloc, writer, listed, workers)?;
+    send_document(rt, alloc, writer, listed, workers)?;
     Ok(listed.checked())
 }
 
 /// Checks the files of a configuration: writes a line for each diagnostic of the files that are asked for, as it is asked for, and answers
 /// how many of these files there are, and how many errors.
 ///
-/// The lines come by path, and those of a file by start, end, number and words. Each ends with a line feed. They are gathered in memory and
-/// written whenever they come to 64 KiB, and at the end: at most 4,096 lines beyond 64 KiB are in memory at a time. But if there are
-/// several workers and 1,024 to 65,536 diagnostics, threads make all lines, each those of consecutive files, and these are written then.
+/// The lines come by path, and those of a file by start, end, number and words. Each ends with a line feed, but for the results of a document
+/// of SARIF, which is one line. They are gathered in memory and written whenever they come to 64 KiB, and at the end: at most 4,096 lines beyond
+/// 64 KiB are in memory at a time. But if there are several workers and 1,024 to 65,536 diagnostics, threads make all lines, each those of
+/// consecutive files, and these are written then.
 ///
 /// All files are analysed, whichever are asked for.
 ///

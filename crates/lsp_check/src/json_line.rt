@@ -12,6 +12,9 @@ use itoa::Buffer;
 use json::Writer;
 use std::alloc::{AllocError, Global};
 
+// How much room most lines need.
+pub const ROOM: usize = 512;
+
 // A diagnostic: the folder and the path of its file, where it begins and ends, and what it is.
 #[derive(Clone, Copy)]
 pub struct Finding<'a> {
@@ -23,7 +26,7 @@ pub struct Finding<'a> {
 }
 
 // Writes the number after a count.
-fn write_after(out: &mut Writer, count: u64) -> Result<(), AllocError>
+pub fn write_after(out: &mut Writer, count: u64) -> Result<(), AllocError>
     ensures { Writes result out.old out.new (number (decimal (count + 1))) }
 {
     let mut digits = Buffer::new();
@@ -86,7 +89,7 @@ pub fn push_json_line(
     ensures { OnOk result (out.new.items ≡ out.old.items ++ json_line finding.now.folder.now finding.now.path.now finding.now.start finding.now.end finding.now.diag) }
 {
     // (a writer takes all the room that its text has)
-    let text = with_finding(Vec::new(alloc), finding)?;
+    let text = with_finding(Vec::with_capacity(alloc, ROOM)?, finding)?;
     out.extend_from_slice(text.as_slice())?;
     out.extend_from_slice(b"\n")?;
     Ok(())

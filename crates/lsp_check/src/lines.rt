@@ -7,13 +7,14 @@ use crate::github_line::push_github_line;
 use crate::gnu_line::push_gnu_line;
 use crate::json_line::{Finding, push_json_line};
 use crate::plain_line::push_plain_line;
+use crate::sarif_line::push_sarif_item;
 use doc_text::{Encoding, Position, Walk};
 use file_facts::Diag;
 use std::alloc::{AllocError, Global};
 use std::marker::Model;
 
 // A file whose lines are made: how, its folder as it is shown, its path below it, and walks along its text to where diagnostics begin and
-// to where they end.
+// to where they end. As long as each begins behind the end of the one before it, the first walk serves for both, so that the text is read once.
 #[derive(Drop)]
 pub struct ListedFile<'a> {
     alloc: Global,
@@ -22,6 +23,9 @@ pub struct ListedFile<'a> {
     path: &'a str,
     starts: Walk<'a>,
     ends: Walk<'a>,
+    // How far the first walk went to an end, and whether a diagnostic began before that.
+    reached: usize,
+    overlaps: bool,
 }
 
 impl<'a> Model for ListedFile<'a> {
@@ -54,6 +58,8 @@ impl<'a> ListedFile<'a> {
             path,
             starts: Walk::new(text, Encoding::Utf16),
             ends: Walk::new(text, Encoding::Utf16),
+            reached: 0,
+            overlaps: false,
         }
     }
 
@@ -62,6 +68,7 @@ impl<'a> ListedFile<'a> {
         ensures position { result ≡ start_of self.old diag.now }
         ensures same { self.new ≡ self.old }
     {
+        self.overlaps = self.overlaps || diag.start < self.reached;
         self.starts.position_of(diag.start)
     }
 
@@ -70,7 +77,28 @@ impl<'a> ListedFile<'a> {
         ensures position { result ≡ end_of self.old diag.now }
         ensures same { self.new ≡ self.old }
     {
-        self.ends.position_of(diag.end)
+        if self.overlaps {
+            return self.ends.position_of(diag.end);
+        }
+        self.reached = diag.end;
+        self.starts.position_of(diag.end)
+    }
+
+    // A diagnostic that begins at a position, with all that is written of it.
+    fn finding(&mut self, start: Position, diag: &Diag) -> Finding<'a>
+        requires { start ≡ start_of self.old diag.now }
+        ensures file { (result.folder.now ≡ self.old.folder) × (result.path.now ≡ self.old.path) }
+        ensures places { (result.start ≡ start) × (result.end ≡ end_of self.old diag.now) }
+        ensures diag { result.diag ≡ diag.now }
+        ensures same { self.new ≡ self.old }
+    {
+        Finding {
+            folder: self.folder,
+            path: self.path,
+            start,
+            end: self.end_of(diag),
+            diag: *diag,
+        }
     }
 
     // Adds the JSON line of a diagnostic that begins at a position.
@@ -84,14 +112,23 @@ impl<'a> ListedFile<'a> {
         ensures line { OnOk result (out.new.items ≡ out.old.items ++ line_as Format.Json self.old diag.now) }
         ensures same { self.new ≡ self.old }
     {
-        let finding = Finding {
-            folder: self.folder,
-            path: self.path,
-            start,
-            end: self.end_of(diag),
-            diag: *diag,
-        };
+        let finding = self.finding(start, diag);
         push_json_line(self.alloc, out, &finding)
+    }
+
+    // Adds it as a result of SARIF.
+    fn push_result(
+        &mut self,
+        out: &mut Vec<u8>,
+        start: Position,
+        diag: &Diag,
+    ) -> Result<(), AllocError>
+        requires { start ≡ start_of self.old diag.now }
+        ensures line { OnOk result (out.new.items ≡ out.old.items ++ line_as Format.Sarif self.old diag.now) }
+        ensures same { self.new ≡ self.old }
+    {
+        let finding = self.finding(start, diag);
+        push_sarif_item(self.alloc, out, &finding)
     }
 
     // Adds the line of a diagnostic.
@@ -113,6 +150,7 @@ impl<'a> ListedFile<'a> {
                 )
             }
             Format::Json => self.push_object(out, start, diag),
+            Format::Sarif => self.push_result(out, start, diag),
         }
     }
 

@@ -1,7 +1,7 @@
 // The files of a check with what is wrong in them, and what is asked for.
 ghost use Rattle.std.specs.Prelude.{◌≡◌, ◌-◌, ◌<◌, ◌^◌, [], length, None, slice_index_or, min};
 ghost use Rattle.work_index.specs.Workspace.{analysis};
-ghost use Rattle.lsp_check.specs.Listing.{is_error, is_wanted, listed_file, wanted_diags, wanted_count, error_count, file_errors, checked_of};
+ghost use Rattle.lsp_check.specs.Listing.{is_error, is_wanted, listed_file, wanted_diags, wanted_count, line_count, error_count, file_errors, checked_of};
 
 use crate::gnu_line::is_error_message;
 use crate::lines::ListedFile;
@@ -62,7 +62,9 @@ impl Listed {
     }
 
     // How many lines are asked for; the highest number if there are more.
-    pub fn line_count(&self) -> usize {
+    pub fn line_count(&self) -> usize
+        ensures { result ≡ min (line_count self.now.how self.now.files) (2 ^ 64 - 1) }
+    {
         let mut count = 0usize;
         for number in 0..self.files.file_count() {
             count = count.saturating_add(self.diagnostics(number).len());

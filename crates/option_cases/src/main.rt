@@ -7,15 +7,29 @@ use program_options::{options, root_url};
 use std::alloc::{AllocError, Global};
 use std::io::{self, BufRead, BufReader};
 
-// What is asked for: the command, the number of workers, and the folders.
+// Adds words, each behind a sign.
+fn add_words(line: &mut String, sign: char, words: &[&str]) -> Result<(), AllocError> {
+    for word in words {
+        line.push(sign)?;
+        line.push_str(word)?;
+    }
+    Ok(())
+}
+
+// What is asked for: the command, the number of workers, the format if it isn't `plain`, `quiet` if that is asked for, the folders, and the
+// files.
 fn shown(alloc: Global, asked: &Options<'_>) -> Result<String, AllocError> {
     let command = if asked.check { "check" } else { "serve" };
     let workers = asked.workers;
     let mut line = format!(in alloc; "{command} {workers}")?;
-    for dir in &asked.dirs {
-        line.push('|')?;
-        line.push_str(dir)?;
+    if asked.format != "plain" {
+        add_words(&mut line, ' ', &[asked.format])?;
     }
+    if asked.quiet {
+        add_words(&mut line, ' ', &["quiet"])?;
+    }
+    add_words(&mut line, '|', asked.dirs.as_slice())?;
+    add_words(&mut line, '>', asked.files.as_slice())?;
     Ok(line)
 }
 

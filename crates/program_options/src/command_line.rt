@@ -11,6 +11,9 @@ use std::alloc::{AllocError, Global};
 // How many workers there are where the command line gives no number.
 const DEFAULT_WORKERS: u8 = 4;
 
+// How the lines of a check are written where the command line says nothing of it.
+const DEFAULT_FORMAT: &str = "plain";
+
 // Why words are refused that the commands and their options allow.
 #[derive(Clone, Copy, Debug, PartialEq, Eq)]
 enum Refusal {
@@ -44,14 +47,14 @@ fn are_absolute(paths: &[&str]) -> bool
     paths.iter().all(|path| is_absolute(path))
 }
 
-// Adds the folders that an option gives, in their order.
+// Adds the words that an option gives, in their order.
 fn add_given<'a>(
-    dirs: &mut Vec<&'a str>,
+    words: &mut Vec<&'a str>,
     given: &ArgMatches<'a>,
     option: &str,
 ) -> Result<(), AllocError> {
-    for dir in given.get_strs(option).unwrap_or(&[]) {
-        dirs.push(*dir)?;
+    for word in given.get_strs(option).unwrap_or(&[]) {
+        words.push(*word)?;
     }
     Ok(())
 }
@@ -101,6 +104,28 @@ fn given_workers(given: &ArgMatches<'_>) -> Result<u8, Refusal>
     })
 }
 
+// The files that a check is given.
+fn given_files<'a>(
+    alloc: Global,
+    check: bool,
+    given: &ArgMatches<'a>,
+) -> Result<Vec<&'a str>, AllocError> {
+    let mut files = Vec::new(alloc);
+    if check {
+        add_given(&mut files, given, "file")?;
+    }
+    Ok(files)
+}
+
+// How the lines of a check are written.
+fn given_format<'a>(check: bool, given: &ArgMatches<'a>) -> &'a str {
+    if check {
+        given.get_str("format").unwrap_or(DEFAULT_FORMAT)
+    } else {
+        DEFAULT_FORMAT
+    }
+}
+
 // What a command with these options is asked for.
 fn options_of<'a>(
     alloc: Global,
@@ -113,10 +138,14 @@ fn options_of<'a>(
     let check = command == "check";
     let dirs = taken_dirs(alloc, check, given)?;
     let workers = given_workers(given)?;
+    let files = given_files(alloc, check, given)?;
     Ok(Options {
         check,
         dirs,
         workers,
+        format: given_format(check, given),
+        quiet: check && given.get_flag("quiet"),
+        files,
     })
 }
 

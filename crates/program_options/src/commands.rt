@@ -12,13 +12,19 @@ const VERSION: &str = "1 (rattle-kit-13f logic dac8208d650f15bf)";
 const USAGE: &str = "\
 protols serve [--root DIR] [--proto-path DIR]... [--workers N]
                      [--stdio] [--clientProcessId ID]
-       protols check [--root DIR] [--proto-path DIR]... [--workers N]";
+       protols check [--root DIR] [--proto-path DIR]... [--workers N]
+                     [--format FORMAT] [--quiet] [FILE]...";
 
 const SERVE_USAGE: &str = "\
 protols serve [--root DIR] [--proto-path DIR]... [--workers N]
                      [--stdio] [--clientProcessId ID]";
 
-const CHECK_USAGE: &str = "protols check [--root DIR] [--proto-path DIR]... [--workers N]";
+const CHECK_USAGE: &str = "\
+protols check [--root DIR] [--proto-path DIR]... [--workers N]
+                     [--format FORMAT] [--quiet] [FILE]...";
+
+// The names of the formats in which a check writes its lines.
+const FORMATS: &[&str] = &["plain", "gnu", "github", "json", "sarif"];
 
 const PROGRAM_HELP: &str = "\
 Example, for an editor whose .proto files lie in /home/ann/protos:
@@ -69,10 +75,14 @@ Each fault is a line on standard output, as
 with the path below its folder, the line and the column from 1 (columns in
 UTF-16 units), the number of the fault and what it says. The lines come by
 path. The exit status is 1 where a fault is an error: all are but 317, a file
-that isn't proto3.
+that isn't proto3. The last line on standard error says how many files were
+checked, and how many errors they have.
 
 Example, for a build whose .proto files lie in protos:
   protols check --root protos
+
+Example, of two files alone, with lines to which an editor jumps:
+  protols check --root protos --format gnu protos/a.proto protos/b.proto
 
 Example, where some of them import files of /usr/include too, as
 google/protobuf/any.proto:
@@ -89,6 +99,24 @@ A further folder of .proto files, which are read and checked in the{n}\
 same way. The option may be given again. An import names a file of{n}\
 any folder: of two files with the same path, the one of the folder{n}\
 that is given first, `--root` before all [default: none]";
+
+const FORMAT_HELP: &str = "\
+How the lines are written. `plain`: path, line, column, number, words.{n}\
+`gnu`: as compilers do, so that editors jump to them, with the path{n}\
+below DIR as it is given, and `info` in the place of `error` for 317:{n}\
+`protos/shop/order.proto:7:3: error: unresolved name [401]`. `github`:{n}\
+workflow commands of GitHub's build service. `json`: an object a line.{n}\
+`sarif`: one document of SARIF 2.1.0 [default: plain]";
+
+const QUIET_HELP: &str = "\
+Leave out the last line on standard error, and say nothing of a DIR{n}\
+without .proto files";
+
+const FILE_HELP: &str = "\
+Write the lines of these files alone, and let the exit status speak{n}\
+of them. The other files of the folders are read all the same, since{n}\
+imports may name them. Each FILE has to be below one of the folders{n}\
+[default: all files]";
 
 const WORKERS_HELP: &str = "\
 How many threads work on the files, from 1 to 64. The output is the{n}\
@@ -128,6 +156,34 @@ fn workers_option<'a>(alloc: Global) -> Arg<'a> {
         .value_parser(ValueParser::Unsigned(1, 64))
         .action(ArgAction::Set)
         .help(WORKERS_HELP)
+}
+
+// The option that says how lines are written.
+fn format_option<'a>(alloc: Global) -> Arg<'a> {
+    Arg::new(alloc, "format")
+        .long("format")
+        .value_name("FORMAT")
+        .value_parser(ValueParser::Names(FORMATS))
+        .hide_possible_values(true)
+        .action(ArgAction::Set)
+        .help(FORMAT_HELP)
+}
+
+// The option that leaves out the summary.
+fn quiet_option<'a>(alloc: Global) -> Arg<'a> {
+    Arg::new(alloc, "quiet")
+        .long("quiet")
+        .action(ArgAction::SetTrue)
+        .help(QUIET_HELP)
+}
+
+// The files whose lines are written.
+fn files_argument<'a>(alloc: Global) -> Arg<'a> {
+    Arg::new(alloc, "file")
+        .value_name("FILE")
+        .num_args(0..)
+        .action(ArgAction::Append)
+        .help(FILE_HELP)
 }
 
 // The option that editors pass to say how they talk to the server.
@@ -177,7 +233,10 @@ fn plain_check<'a>(alloc: Global) -> Command<'a> {
 fn check_command<'a>(alloc: Global) -> Result<Command<'a>, AllocError> {
     let check = plain_check(alloc).arg(root_option(alloc, CHECK_ROOT_HELP))?;
     let check = check.arg(proto_path_option(alloc, CHECK_PROTO_PATH_HELP))?;
-    check.arg(workers_option(alloc))
+    let check = check.arg(workers_option(alloc))?;
+    let check = check.arg(format_option(alloc))?;
+    let check = check.arg(quiet_option(alloc))?;
+    check.arg(files_argument(alloc))
 }
 
 // The program, without its commands.

@@ -10,4 +10,10 @@ pub struct Options<'a> {
     pub dirs: Vec<&'a str>,
     /// How many workers there are, from 1 to 64.
     pub workers: u8,
+    /// How the lines of a check are written: one of the names that `check --help` lists.
+    pub format: &'a str,
+    /// Whether a check leaves out the summary on standard error.
+    pub quiet: bool,
+    /// The files whose lines a check writes, in their order; those of all files if it is empty.
+    pub files: Vec<&'a str>,
 }

@@ -2,13 +2,28 @@
 
 use lsp_session::ServeFault;
 use proto_folder::FolderFault;
-use std::alloc::AllocError;
+use std::alloc::{AllocError, AllocFailed};
+use std::io;
+use thiserror::Error;
+
+// Why a file that the command line names can't be checked.
+#[derive(Debug, Drop, Error)]
+pub(crate) enum FileFault {
+    #[error("can't be found: {0}")]
+    NotFound(io::Error),
+    #[error("isn't below a folder that is checked")]
+    Outside,
+    #[error("isn't a .proto file that is checked")]
+    NotChecked,
+}
 
 // Why the program ended before its session or its check did.
 #[derive(Debug, Drop)]
 pub(crate) enum Failure<'d> {
     // A folder can't be read.
     Folder(FolderFault<'d>),
+    // A file with this name can't be checked.
+    File(&'d str, FileFault),
     // The fault with this number.
     Fault(u32),
 }
@@ -30,6 +45,12 @@ impl<'d> From<ServeFault> for Failure<'d> {
 
 impl<'d> From<AllocError> for Failure<'d> {
     fn from(_error: AllocError) -> Failure<'d> {
+        Failure::from(ServeFault::Memory)
+    }
+}
+
+impl<'d, T: Drop> From<AllocFailed<T>> for Failure<'d> {
+    fn from(_error: AllocFailed<T>) -> Failure<'d> {
         Failure::from(ServeFault::Memory)
     }
 }

@@ -1,10 +1,15 @@
 // What a session or a check is started with: the roots, and the files below them.
 
 use crate::failure::Failure;
+use crate::named_files::named_paths;
+use crate::summary::tell_empty_folders;
+use lsp_check::{Asked, Format, Listing};
 use lsp_session::{Config, DiskFile};
 use program_options::root_url;
+use program_options::words::Options;
 use proto_folder::{FolderReader, FoundFile, read_folders};
 use std::alloc::{AllocError, Global};
+use std::rt::Files;
 use std::sync::Wait;
 use std::thread::Threads;
 
@@ -35,17 +40,14 @@ fn roots_of_all(alloc: Global, count: usize) -> Result<Vec<String>, AllocError> 
     Ok(roots)
 }
 
-// What is started with these roots, and the files of the folders at these paths, which are the roots' in their order. So many threads
-// read them.
-fn read_below<'d, R: FolderReader + Eprint + AllocGlobal + Threads + Wait>(
-    rt: &R,
+// What is started with these roots, and the files that were found below them.
+fn with_files<'d>(
+    alloc: Global,
     roots: Vec<String>,
-    dirs: &[&'d str],
-    threads: u8,
+    found: Vec<FoundFile>,
 ) -> Result<Config, Failure<'d>> {
-    let found = read_folders(rt, dirs, usize::from(threads))?;
-    let files = disk_files(rt.alloc(), found)?;
-    Ok(Config::make(rt.alloc(), roots, files)?)
+    let files = disk_files(alloc, found)?;
+    Ok(Config::make(alloc, roots, files)?)
 }
 
 // What a session is started with: the folders as its roots, and the files below them, which so many threads read. With no folder
@@ -60,7 +62,8 @@ pub(crate) fn configuration<'d, R: FolderReader + Eprint + AllocGlobal + Threads
     } else {
         roots_of(rt.alloc(), dirs)?
     };
-    read_below(rt, roots, dirs, threads)
+    let found = read_folders(rt, dirs, usize::from(threads))?;
+    with_files(rt.alloc(), roots, found)
 }
 
 // The folders that are checked: these, or the current one if there are none.
@@ -75,14 +78,46 @@ fn checked_dirs<'d>(alloc: Global, dirs: &[&'d str]) -> Result<Vec<&'d str>, All
     Ok(checked)
 }
 
-// What a check is started with: the files of the folders at these paths, which so many threads read, or of the current one if there are
-// none. The root of each is that of all paths.
-pub(crate) fn files_of<'d, R: FolderReader + Eprint + AllocGlobal + Threads + Wait>(
+// How the folders of a check are shown: as they are given, and nothing for the current one if there are none.
+fn shown_dirs(alloc: Global, dirs: &[&str]) -> Result<Vec<String>, AllocError> {
+    let mut shown = Vec::with_capacity(alloc, dirs.len())?;
+    for dir in dirs {
+        shown.push(String::from_str(alloc, dir)?)?;
+    }
+    Ok(shown)
+}
+
+// What a check writes: the lines of these files among those that were found, in the format that is asked for.
+fn listing<'d, R: Files + AllocGlobal>(
     rt: &R,
+    options: &Options<'d>,
     dirs: &[&'d str],
-    threads: u8,
-) -> Result<Config, Failure<'d>> {
-    let dirs = checked_dirs(rt.alloc(), dirs)?;
-    let roots = roots_of_all(rt.alloc(), dirs.len())?;
-    read_below(rt, roots, dirs.as_slice(), threads)
+    found: &[FoundFile],
+) -> Result<Listing, Failure<'d>> {
+    Ok(Listing {
+        format: Format::named(options.format).unwrap_or(Format::Plain),
+        folders: shown_dirs(rt.alloc(), options.dirs.as_slice())?,
+        only: named_paths(rt, dirs, options.files.as_slice(), found)?,
+    })
+}
+
+// What a check is asked for: the files of the folders that are given, which as many threads read as there are workers, or of the current
+// one if there are none. The root of each is that of all paths.
+pub(crate) fn check_of<'d, R: FolderReader + Files + Eprint + AllocGlobal + Threads + Wait>(
+    rt: &R,
+    options: &Options<'d>,
+) -> Result<Asked, Failure<'d>> {
+    let alloc = rt.alloc();
+    let dirs = checked_dirs(alloc, options.dirs.as_slice())?;
+    let found = read_folders(rt, dirs.as_slice(), usize::from(options.workers))?;
+    let how = listing(rt, options, dirs.as_slice(), found.as_slice())?;
+    if !options.quiet {
+        tell_empty_folders(rt, dirs.as_slice(), found.as_slice())?;
+    }
+    let roots = roots_of_all(alloc, dirs.len())?;
+    Ok(Asked {
+        config: with_files(alloc, roots, found)?,
+        how,
+        workers: usize::from(options.workers),
+    })
 }

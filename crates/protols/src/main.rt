@@ -4,20 +4,26 @@
 
 mod failure;
 mod folders;
+mod named_files;
 mod status;
+mod summary;
 
 use crate::failure::Failure;
-use crate::folders::{configuration, files_of};
+use crate::folders::{check_of, configuration};
 use crate::status::{fail, status_of, status_of_check};
+use crate::summary::tell_summary;
+use lsp_check::{Asked, Checked, check_as};
 use lsp_frame::{FrameReader, FromRead, ToWrite};
-use lsp_session::{Config, Ended, OpenGate, ServeFault, check, serve};
+use lsp_session::{Config, Ended, OpenGate, ServeFault, serve};
 use program_options::options;
+use program_options::words::Options;
 use proto_folder::FolderReader;
 use std::alloc::Global;
 use std::env::{self, Env};
 use std::io::{self, BufReader, ErrorKind};
 use std::marker::Send;
 use std::process::ExitCode;
+use std::rt::Files;
 use std::sync::{Arc, Wait};
 use std::thread::Threads;
 
@@ -26,6 +32,7 @@ const NOT_UTF8: &str = "error: a word of the command line isn't UTF-8
 Usage: protols serve [--root DIR] [--proto-path DIR]... [--workers N]
                      [--stdio] [--clientProcessId ID]
        protols check [--root DIR] [--proto-path DIR]... [--workers N]
+                     [--format FORMAT] [--quiet] [FILE]...
 
 For more information, try '--help'.";
 
@@ -80,26 +87,38 @@ fn serve_editor<
     Ok(serve_with(rt, config, workers)?)
 }
 
-// Writes a line for each fault in the files of a configuration to standard output, and answers whether one is an error. So
-// many workers do the work.
+// Writes the lines of a check to standard output, and answers what was found.
 fn check_with<R: Threads + Wait + Clone + Send + Drop + Print + AllocGlobal + 'static>(
     rt: &R,
-    config: Config,
-    workers: u8,
-) -> Result<bool, ServeFault> {
+    asked: Asked,
+) -> Result<Checked, ServeFault> {
     let alloc = rt.alloc();
     let gate = open_gate(alloc)?;
     let mut writer = ToWrite::new(io::writer(rt));
-    check(rt, alloc, &mut writer, &gate, config, usize::from(workers))
+    check_as(rt, alloc, &mut writer, &gate, asked)
 }
 
-// Checks the files of these folders, or of the current one if there are none.
+// Checks what these options ask for, says how much that was, and answers whether an error was found.
 fn check_files<
     'd,
-    R: Threads + Wait + Clone + Send + Drop + FolderReader + Print + Eprint + AllocGlobal + 'static,
->(rt: &R, dirs: &[&'d str], workers: u8) -> Result<bool, Failure<'d>> {
-    let config = files_of(rt, dirs, workers)?;
-    Ok(check_with(rt, config, workers)?)
+    R: Threads
+        + Wait
+        + Clone
+        + Send
+        + Drop
+        + FolderReader
+        + Files
+        + Print
+        + Eprint
+        + AllocGlobal
+        + 'static,
+>(rt: &R, options: &Options<'d>) -> Result<bool, Failure<'d>> {
+    let asked = check_of(rt, options)?;
+    let checked = check_with(rt, asked)?;
+    if !options.quiet {
+        tell_summary(rt, checked);
+    }
+    Ok(checked.errors > 0)
 }
 
 // Writes what is to be said of the command line: the help, or what is wrong with it.
@@ -137,9 +156,7 @@ fn main(rt: HostRuntime) -> ExitCode {
         Err(status) => return status,
     };
     match options(rt.alloc(), words.as_slice()) {
-        Ok(asked) if asked.check => {
-            status_of_check(&rt, check_files(&rt, asked.dirs.as_slice(), asked.workers))
-        }
+        Ok(asked) if asked.check => status_of_check(&rt, check_files(&rt, &asked)),
         Ok(asked) => status_of(&rt, serve_editor(&rt, asked.dirs.as_slice(), asked.workers)),
         Err(error) => explain(&rt, &error),
     }

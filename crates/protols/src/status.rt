@@ -1,7 +1,7 @@
 // The status that the program ends with, and what it says on standard error. A standard error that is closed changes nothing
 // of the status.
 
-use crate::failure::Failure;
+use crate::failure::{Failure, FileFault};
 use lsp_session::Ended;
 use proto_folder::FolderFault;
 use std::process::ExitCode;
@@ -19,10 +19,17 @@ fn fail_folder(rt: &impl Eprint, fault: &FolderFault<'_>) -> ExitCode {
     ExitCode::from(3)
 }
 
+// Says that a file can't be checked, which and why: the command line is wrong.
+fn fail_file(rt: &impl Eprint, file: &str, fault: &FileFault) -> ExitCode {
+    let _told = eprintln!(rt; "error: {file}: {fault}");
+    ExitCode::from(2)
+}
+
 // The status that says why nothing else came of it.
 fn failed(rt: &impl Eprint, failure: &Failure<'_>) -> ExitCode {
     match failure {
         Failure::Folder(fault) => fail_folder(rt, fault),
+        Failure::File(file, fault) => fail_file(rt, file, fault),
         Failure::Fault(code) => fail(rt, *code),
     }
 }

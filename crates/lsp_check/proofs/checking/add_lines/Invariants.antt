@@ -1,7 +1,7 @@
 use Rattle.std.proofs.Common.{◌≡◌, ◌++◌, length}
 use Rattle.lsp_frame.specs.Counts.{NoneFell, NoError}
-use Rattle.lsp_check.specs.Lines.{written}
-use Rattle.lsp_check.specs.Steps.{Sent}
+use Rattle.lsp_check.specs.Lines.{cut, written}
+use Rattle.lsp_check.specs.Steps.{Sent, still_first}
 use Rattle.lsp_check.proofs.checking.add_lines.Given as goal
 
 -- what the room holds, and the lines of the diagnostics that are left, didn't go out yet
@@ -14,7 +14,8 @@ invariant-parts g l =
       none_fell : NoneFell (counts l.initial.writer) (counts l.writer);
       no_error : NoError (counts l.initial.writer) (counts l.writer);
       same : l.file ≡ l.initial.file;
-      sent : Sent (sent_to l.initial.writer) (sent_to l.writer) (l.initial.room.items ++ lines l.diags) (l.room.items ++ lines l.left);
+      first : still_first l.initial.room.first (lines l.diags) ≡ still_first l.room.first (lines l.left);
+      sent : Sent (sent_to l.initial.writer) (sent_to l.writer) (l.initial.room.bytes.items ++ cut l.initial.room.first (lines l.diags)) (l.room.bytes.items ++ cut l.room.first (lines l.left));
     }
 
 abbrev pub decreases-parts : goal.decreases-parts

@@ -1,6 +1,7 @@
 use Rattle.std.proofs.Common.{◌++◌}
 use Rattle.lsp_frame.specs.Counts.{NoneFell, NoError}
-use Rattle.lsp_check.specs.Steps.{Sent, all_lines, left_from}
+use Rattle.lsp_check.specs.Lines.{cut}
+use Rattle.lsp_check.specs.Steps.{Sent, left_from, sent_lines}
 use Rattle.lsp_check.proofs.checking.send_in_turn.Given as goal
 
 -- what the room holds, and the lines of the files that are left, didn't go out yet
@@ -11,5 +12,5 @@ invariant-loop-number g l =
     record {
       none_fell : NoneFell (counts l.initial.writer) (counts l.writer);
       no_error : NoError (counts l.initial.writer) (counts l.writer);
-      sent : Sent (written l.initial.writer) (written l.writer) (all_lines l.listed) (l.room.items ++ left_from l.number l.listed);
+      sent : Sent (written l.initial.writer) (written l.writer) (sent_lines l.listed) (l.room.bytes.items ++ cut l.room.first (left_from l.number l.listed));
     }

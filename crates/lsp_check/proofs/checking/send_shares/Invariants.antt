@@ -1,6 +1,8 @@
-use Rattle.std.proofs.Common.{flat_map}
+use Rattle.std.proofs.Common.{◌≡◌, flat_map}
 use Rattle.std.specs.Io.KnownBytes.{Appends}
 use Rattle.lsp_frame.specs.Counts.{NoneFell, NoError}
+use Rattle.lsp_check.specs.Lines.{cut}
+use Rattle.lsp_check.specs.Steps.{still_first}
 use Rattle.lsp_check.proofs.checking.send_shares.Given as goal
 
 -- the lines of the shares that came went out
@@ -11,5 +13,6 @@ invariant-shares g l =
     record {
       none_fell : NoneFell (counts l.initial.writer) (counts l.writer);
       no_error : NoError (counts l.initial.writer) (counts l.writer);
-      sent : Appends (written l.initial.writer) (written l.writer) (flat_map (λ share. share.lines.items) l.yielded);
+      first : l.first ≡ still_first l.initial.first (flat_map (λ share. share.lines.items) l.yielded);
+      sent : Appends (written l.initial.writer) (written l.writer) (cut l.initial.first (flat_map (λ share. share.lines.items) l.yielded));
     }

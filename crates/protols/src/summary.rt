@@ -1,0 +1,44 @@
+// What a check says on standard error of how much it checked. A standard error that is closed changes nothing.
+
+use lsp_check::Checked;
+use proto_folder::FoundFile;
+use std::alloc::{AllocError, Global};
+
+// Whether there is a file below each of so many folders.
+fn have_files(alloc: Global, count: usize, found: &[FoundFile]) -> Result<Vec<bool>, AllocError> {
+    let mut have = vec![in alloc; false; count]?;
+    for file in found {
+        if let Some(has) = have.get_mut(file.root) {
+            *has = true;
+        }
+    }
+    Ok(have)
+}
+
+// Says below which of these folders no file was found.
+pub(crate) fn tell_empty_folders<R: Eprint + AllocGlobal>(
+    rt: &R,
+    dirs: &[&str],
+    found: &[FoundFile],
+) -> Result<(), AllocError> {
+    let have = have_files(rt.alloc(), dirs.len(), found)?;
+    for (dir, has) in dirs.iter().zip(&have) {
+        if !*has {
+            let _told = eprintln!(rt; "protols: no .proto files below {dir}");
+        }
+    }
+    Ok(())
+}
+
+// The word for one thing, or for several.
+fn word_for(count: usize, one: &'static str, several: &'static str) -> &'static str {
+    if count == 1 { one } else { several }
+}
+
+// Says how many files were checked, and how many errors were found in them.
+pub(crate) fn tell_summary(rt: &impl Eprint, checked: Checked) {
+    let Checked { files, errors } = checked;
+    let file_word = word_for(files, "file", "files");
+    let error_word = word_for(errors, "error", "errors");
+    let _told = eprintln!(rt; "protols: {files} {file_word} checked, {errors} {error_word}");
+}
