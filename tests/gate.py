@@ -26,7 +26,7 @@ sys.path.insert(0, str(HERE.parent / "tools"))
 import kit  # noqa: E402
 
 # The lines of `rt ci`, run_file.py and tools/wrong_bodies.py that name what failed, those that count, and that of a crate whose library `rt ci` has.
-NAMES_A_FAILURE = re.compile(r"rt: .*(NOT PROVED|FAILED)|FAILED: |\S+: (NOT REFUSED|BAD EDIT|UNPROVED|MISSING): ")
+NAMES_A_FAILURE = re.compile(r"rt: .*(NOT PROVED|FAILED)|FAILED: |\S+: (NAMES ONLY|NOT REFUSED|BAD EDIT|UNPROVED|MISSING): ")
 COUNTS = re.compile(r"(\d+) (?:passed|refused), (\d+) (?:failed|not)$")
 PROVED = re.compile(r"rt: (\w+) (?:proved$|is kept: )")
 # The memory that a proof at one job and a check of edits have been seen to take, in bytes.

@@ -44,6 +44,15 @@ pub fn top(n: usize) -> usize
     two
 }
 
+// Two more, by a proof of its own.
+pub fn named(n: usize) -> usize
+    requires { n < 700 }
+    ensures { result ≡ n + 2 }
+{
+    let most = high(n);
+    most
+}
+
 // The same.
 pub fn apart(n: usize) -> usize
     ensures { result ≡ n }
@@ -53,6 +62,9 @@ pub fn apart(n: usize) -> usize
 }
 """
 
+# The proof of `named`, which names a step of it.
+NAMING_PROOF = "use Rattle.planted.proofs.named.Goals as goal\n\npub returns : goal.returns\nreturns c = c.high-most.ensures\n"
+
 # What each edit puts in the place of what, and its verdict. `low` is hidden behind nothing, `high` and `top` behind their callees.
 EDITS = {
     "wrong_low": ("let more = n + 1;", "let more = n + 2;", "REFUSED"),
@@ -60,6 +72,8 @@ EDITS = {
     "harmless_high": ("let first = low(n);", "let first = low(n); let _ = first;", "NOT REFUSED"),
     "wrong_top": ("let two = high(n);", "let two = high(n) + 1;", "REFUSED"),
     "harmless_top": ("    two", "    { two }", "NOT REFUSED"),
+    "wrong_named": ("let most = high(n);", "let most = high(n + 1);", "REFUSED"),
+    "renamed_named": ("let most = high(n);", "let most = n;", "NAMES ONLY"),
     "harmless_apart": ("let same = n;", "let same = n; let _ = same;", "NOT REFUSED"),
     "unknown_name_apart": ("    same", "    sane", "BAD EDIT"),
     "not_applied": ("let there_is_none = 1;", "let there_is_none = 2;", "BAD EDIT"),
@@ -86,6 +100,7 @@ class Planted(unittest.TestCase):
         write(self.root / "crates.txt", "planted:\n")
         write(self.root / "HANDLES", "Handles allowed: none.\n")
         write(self.crate / "src/lib.rt", SOURCE)
+        write(self.crate / "proofs/named/Answers.antt", NAMING_PROOF)
         for name, (old, new, _) in EDITS.items():
             self.plant(name, f"file: src/lib.rt\nold: {old}\nnew: {new}\n")
         self.plant("two_functions", TWO_FUNCTIONS)
@@ -100,23 +115,25 @@ class Planted(unittest.TestCase):
         """The tool's run on the planted repository, and the verdicts that it printed."""
         words = [sys.executable, str(TOOLS / "wrong_bodies.py"), "--root", str(self.root), "--show", *words]
         ran = subprocess.run(words, stdin=subprocess.DEVNULL, stdout=subprocess.PIPE, stderr=subprocess.STDOUT, text=True)
-        return ran, dict(re.findall(r"(?m)^planted/(\w+)\.edit: (REFUSED|NOT REFUSED|BAD EDIT|UNPROVED|MISSING): ", ran.stdout))
+        return ran, dict(re.findall(r"(?m)^planted/(\w+)\.edit: (REFUSED|NAMES ONLY|NOT REFUSED|BAD EDIT|UNPROVED|MISSING): ", ran.stdout))
 
     def test_planted_edits(self):
         ran, found = self.run_tool()
         self.assertEqual(found, WANTED, ran.stdout)
         self.assertEqual(ran.returncode, 1)
         self.assertRegex(ran.stdout, r"wrong_low\.edit: REFUSED: with \d+ others")
-        self.assertTrue(ran.stdout.endswith("\n6 refused, 8 not\n"), ran.stdout)
+        self.assertTrue(ran.stdout.endswith("\n8 refused, 8 not\n"), ran.stdout)
+        self.assertRegex(ran.stdout, r"\d+ edits tried now, 4 BAD EDIT, 1 NAMES ONLY, 4 NOT REFUSED;")
 
         # What was refused is on record; the rest is tried again, also after a comment changed.
-        self.assertEqual({*json.loads((self.crate / "wrong-bodies/verdicts.json").read_text())}, {f"{it}.edit" for it, verdict in WANTED.items() if verdict == "REFUSED"})
+        recorded = {f"{it}.edit" for it, verdict in WANTED.items() if verdict in ("REFUSED", "NAMES ONLY")}
+        self.assertEqual({*json.loads((self.crate / "wrong-bodies/verdicts.json").read_text())}, recorded)
         for name, verdict in WANTED.items():
             if verdict != "REFUSED":
                 (self.crate / f"wrong-bodies/{name}.edit").unlink()
         write(self.crate / "src/lib.rt", SOURCE.replace("// Planted.", "// Planted here."))
         ran, found = self.run_tool()
-        self.assertIn("planted: 6 edits, 0 tried in 0 checks", ran.stdout)
+        self.assertIn("planted: 7 edits, 0 tried in 0 checks", ran.stdout)
         self.assertEqual(ran.returncode, 0)
 
         # Under --gate a recorded edit that is gone is a failure.
@@ -128,13 +145,13 @@ class Planted(unittest.TestCase):
         # An edit that changes is tried again, and no other.
         self.plant("wrong_high", "file: src/lib.rt\nold: low(first)\nnew: n\n")
         ran, found = self.run_tool()
-        self.assertIn("planted: 5 edits, 1 tried", ran.stdout)
+        self.assertIn("planted: 6 edits, 1 tried", ran.stdout)
         self.assertEqual({*found.values()}, {"REFUSED"}, ran.stdout)
 
         # What another function does is no reason to try an edit of one body again, but one to try an edit of clauses. What it promises is one for both.
         write(self.crate / "src/lib.rt", SOURCE.replace("let more = n + 1;", "let more = n + 1; let _ = more;"))
         ran, found = self.run_tool()
-        self.assertIn("planted: 5 edits, 3 tried", ran.stdout)
+        self.assertIn("planted: 6 edits, 3 tried", ran.stdout)
         self.assertEqual({*found.values()}, {"REFUSED"}, ran.stdout)
 
         # A crate that isn't proved says nothing of its edits.
@@ -239,6 +256,23 @@ class Judged(unittest.TestCase):
     def test_an_error_at_second_hand(self):
         said = "./proofs/high/Answers.antt:3:4: error: 2 declarations that depend on `lemma`, which was rejected, were not checked: returns\nfn planted::high: not proved"
         self.assertEqual(self.judged(said, "low", "high"), set())
+
+    def test_a_name_that_is_gone(self):
+        gone = "./proofs/high/Answers.antt:3:4: error: `returns`: record `Rattle.planted.proofs.high.Lts.After` has no field `low`\nfn planted::high: not proved"
+        group = edits_of("low", "high")
+        said = wrong_bodies.judge(wrong_bodies.Said(f"{gone}\nlogic=not-proved", "planted"), group, {it: it.function for it in group})
+        self.assertEqual([wrong_bodies.verdict_of(it) for it in said.values()], ["NAMES ONLY"])
+        self.assertEqual(wrong_bodies.verdict_of("with 3 others: `search` did not prove `returns`"), "REFUSED")
+
+    def test_what_is_a_failure(self):
+        counts, before = {"REFUSED": 5, "NAMES ONLY": 1, "NOT REFUSED": 2}, wrong_bodies.FAILS_ON_NAMES
+        try:
+            found = []
+            for wrong_bodies.FAILS_ON_NAMES in (False, True):
+                found.append(wrong_bodies.failures(counts))
+            self.assertEqual(found, [2, 3])
+        finally:
+            wrong_bodies.FAILS_ON_NAMES = before
 
     def test_not_proved_with_no_reason(self):
         self.assertEqual(self.judged("fn planted::high: not proved", "low", "high"), set())

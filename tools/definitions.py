@@ -31,6 +31,7 @@ ORDER = {
     "work_index": "Workspace Pieces Changes Fault".split(),
     "lsp_workspace": "Files Roots Texts Disk View".split(),
     "lsp_answers": "Context Questions Answers Reports Diagnostics Ranges Views".split(),
+    "lsp_check": "Lines Listing Sarif".split(),
     "lsp_session": "Session Stream Core Run View".split(),
 }
 

@@ -7,6 +7,7 @@ An edit has the form of the kit's must-fail edits: a line `file: src/NAME.rt`, t
 file. Its verdict is
 
   REFUSED      the prover refuses the edited function, for a reason of its own, or, tried over the whole crate, any function
+  NAMES ONLY   it does so only because a proof file names what the edit took away, which shows nothing of a contract
   NOT REFUSED  tried alone, the crate is still proved
   BAD EDIT     it can't be applied, or what it makes can't be read
   UNPROVED     the crate itself isn't proved, so nothing was tried
@@ -21,7 +22,8 @@ own. --gate, beside an `rt ci` that has proved these crates or after it, takes t
 tries the edits of must-fail/ too, each time, and also fails where verdicts.json names an edit that isn't there. --apart says where these lie if not in
 the crates: in FOLDER/NAME.
 
-The status is 0 if each edit is refused, else 1. The last line is `N refused, M not; ..`.
+The status is 0 if each edit is REFUSED, else 1; NAMES ONLY is a failure once FAILS_ON_NAMES says so. The last line is `N refused, M not`; the one
+before it counts the others by their verdicts, NAMES ONLY among them.
 
 How edits share a check
   - The unchanged crate has to be proved. A check of edits then asks for the edited functions alone: what they promise is what it was before, so nothing
@@ -51,7 +53,7 @@ from concurrent.futures import ThreadPoolExecutor
 import kit
 from rattle_source import WORD, Source, homes_of
 
-REFUSED, PASSED, BAD, UNPROVED = "REFUSED", "NOT REFUSED", "BAD EDIT", "UNPROVED"
+REFUSED, NAMES, PASSED, BAD, UNPROVED = "REFUSED", "NAMES ONLY", "NOT REFUSED", "BAD EDIT", "UNPROVED"
 FOLDER, RECORD = "wrong-bodies", "verdicts.json"
 OF_THE_KIT = "must-fail"
 FLAGS = ["--jobs", "1"]
@@ -65,6 +67,10 @@ STATUS = re.compile(r"(fn|struct|enum|union|impl|trait|const|static) (\S+): (.*)
 # What is said where another declaration or file failed, and not this one.
 SECOND_HAND = re.compile(r"was rejected|was not admitted|were not checked|was not checked|is not proved|are not proved|could not be read")
 NAMES_ONLY = re.compile(r"has no field|is not in scope|has no `|was not admitted")
+# What the verdict says of a refusal that shows nothing of a contract, here and where the kit has tried an edit.
+# It is a failure if this is true, which it is to be as soon as no edit has that verdict.
+FAILS_ON_NAMES = False
+FOR_NAMES = "only because a proof file names what the edit took away"
 ONLY_CALLEES = re.compile(r"(not proved|no proof)[:;] (in `[^`]+`, of this cycle of calls: )?it calls .*")
 # The goals of functions that call each other in a ring stand in one file, each behind the name of its function, and are said of every one of them.
 OF_A_RING = re.compile(r"no proof: expected answers in \./proofs/(?:\S+/)?\+\w+/Answers\.antt; `search` did not prove ((?:`[\w-]+`(?:, )?)+)(?:; it calls .*)?")
@@ -362,15 +368,20 @@ def judge(said, group, placed):
         stated = [words for (kind, path), words in said.unproved().items() if kind == "fn" and placed[edit].owns(path)]
         if reasons[edit] and any(it.startswith(("not proved", "no proof")) for it in stated):
             is_goal, line = next((it for it in reasons[edit] if it[0]), reasons[edit][0])
-            refused[edit] = ("" if is_goal else "(only because a proof file names what the edit took away) ") + line[:200]
+            refused[edit] = ("" if is_goal else f"({FOR_NAMES}) ") + line[:200]
     return refused
+
+
+def verdict_of(said):
+    """The verdict of an edit that is refused, by what is said of it."""
+    return NAMES if FOR_NAMES in said else REFUSED
 
 
 def verdict_alone(outcome, said):
     """The verdict of an edit that the kit tried alone. Kits answer a word, or only whether it is refused."""
     refused = [True, *(getattr(kit.rt, word) for word in ("REFUSED", "AT_LIMIT") if hasattr(kit.rt, word))]
     if outcome in refused:
-        return REFUSED
+        return verdict_of(said)
     return PASSED if said.startswith("NOT REFUSED") else BAD
 
 
@@ -398,7 +409,7 @@ class Trial:
     def write_record(self):
         """Keeps what is refused so far, so that a run that is cut off isn't lost."""
         with self.writing:
-            refused = [(it, said) for it, (verdict, said) in [*self.verdicts.items()] if verdict == REFUSED and it.has_record]
+            refused = [(it, said) for it, (verdict, said) in [*self.verdicts.items()] if verdict in (REFUSED, NAMES) and it.has_record]
             rows = {it.name: {"sum": self.keys[it], "said": said} for it, said in refused}
             text = json.dumps(rows, indent=1, sort_keys=True, ensure_ascii=False) + "\n"
             if rows or self.recorded.exists():
@@ -472,7 +483,7 @@ class Trial:
             self.log.append(f"a check of {len(group)} has an error that is none of its functions': {[it.name for it in group]}")
             return self.halves(group)
         how = f"with {len(group) - 1} others" if len(group) > 1 else "alone"
-        found = {it: (REFUSED, f"{how}: {why}") for it, why in refused.items()}
+        found = {it: (verdict_of(why), f"{how}: {why}") for it, why in refused.items()}
         self.verdicts.update(found)
         self.write_record()
         return found
@@ -525,7 +536,7 @@ class Trial:
         for edit in good:
             row = record.get(edit.name) if edit.has_record else None
             if row and row["sum"] == keys[edit] and not self.given.anew:
-                self.verdicts[edit] = REFUSED, row["said"]
+                self.verdicts[edit] = verdict_of(row["said"]), row["said"]
                 continue
             texts[edit], why = kit.rt.read_edit(edit.file, self.crate.folder)
             if why:
@@ -576,6 +587,11 @@ def proved_now(crates, jobs):
     return [it for it in crates if proved[it.name]]
 
 
+def failures(counts):
+    """How many of the counted verdicts are failures."""
+    return sum(n for verdict, n in counts.items() if verdict != REFUSED and (verdict != NAMES or FAILS_ON_NAMES))
+
+
 def main(words):
     given = arguments(words)
     crates = kit.crates(given.root or kit.ROOT)
@@ -620,11 +636,11 @@ def main(words):
     with ThreadPoolExecutor(max(1, given.jobs)) as pool:
         for _ in pool.map(one, crates):
             pass
-    refused = counts.pop(REFUSED)
-    said = "".join(f", {n} {verdict}" for verdict, n in sorted(counts.items()))
+    said = "".join(f", {n} {verdict}" for verdict, n in sorted(counts.items()) if verdict != REFUSED)
     print(f"{tried} edits tried now{said}; {processor_seconds():.0f} processor seconds")
-    print(f"{refused} refused, {sum(counts.values())} not")
-    return 1 if counts else 0
+    failed = failures(counts)
+    print(f"{sum(counts.values()) - failed} refused, {failed} not")
+    return 1 if failed else 0
 
 
 if __name__ == "__main__":
