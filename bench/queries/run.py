@@ -3,7 +3,8 @@
 
 The first request makes the analysis and isn't timed. Each other one is asked in one dialogue, and its time is the best of 5. An
 empty request is one that the server doesn't know. The memory is what was resident at most, beside the length of the longest reply.
-In a tree of its own each file uses the same name ten times: the references of that name, and another name for it, are timed beside each other.
+In a tree of its own each file uses the same name ten times: the references of that name, and another name for it, are timed beside each other. So is another
+name for one that ten files use. A rename analyses the edited texts, on one thread, so it is compared with the first answer of one worker.
 
 usage: run.py [FILES..]"""
 import json
@@ -23,8 +24,12 @@ stream.LIMIT = 900
 
 # What may be spent, in seconds.
 RARE, ABOVE_EMPTY = 0.050, 0.001
-# And how many times the time of a name's references a rename of it may take.
-OF_REFERENCES = 2
+# And how many times the first answer's time, with one worker, a rename may take.
+OF_FIRST = 2
+
+
+# A file with a name that ten files use.
+RARE_NAME_TEXT = 'syntax = "proto3";\npackage rare;\nmessage Seldom { int64 units = 1; }\n'
 
 
 def written(folder, count, text_of):
@@ -89,11 +94,12 @@ def queries(folder, count):
 
 
 def began(server, count):
-    """Waits for the analysis of the tree."""
+    """Waits for the analysis of the tree, and says how many seconds it took."""
     server.send_bytes(stream.frame(json.dumps({"jsonrpc": "2.0", "id": 1, "method": "initialize", "params": stream.PULLING})))
     server.receive()
     _, first = asked(server, "workspace/symbol", {"query": "no.such.name"})
-    print(f"{count:>7,} files: the analysis {first:.1f} s, {resident(server) / 1024:,.0f} MB resident", flush=True)
+    print(f"{count:>7,} files: the analysis {first:.2f} s, {resident(server) / 1024:,.0f} MB resident", flush=True)
+    return first
 
 
 def measured(count):
@@ -118,23 +124,27 @@ def measured(count):
 
 
 def renamed(count):
-    """The times of the references of one name in all files of a tree, and of another name for it; whether the second is within what may be spent."""
+    """The times of another name for one that all files of a tree use, and for one that ten use; whether they are within what may be spent."""
     with tempfile.TemporaryDirectory() as folder:
         written(folder, count, trees.user_of_one_name)
-        file = pathlib.Path(folder, trees.ONE_NAME)
-        file.write_text(trees.ONE_NAME_TEXT)
-        with stream.Server(("serve", "--root", folder)) as server:
-            began(server, count)
-            place = place_of(trees.ONE_NAME_TEXT, "Money", folder, trees.ONE_NAME)
+        pathlib.Path(folder, trees.ONE_NAME).write_text(trees.ONE_NAME_TEXT)
+        pathlib.Path(folder, "rare.proto").write_text(RARE_NAME_TEXT)
+        for k in range(10):
+            pathlib.Path(folder, f"rare{k}.proto").write_text(f'syntax = "proto3";\nimport "rare.proto";\nmessage User{k} {{\n  rare.Seldom one = 1;\n}}\n')
+        with stream.Server(("serve", "--root", folder, "--workers", "1")) as server:
+            first = began(server, count)
             before = resident(server)
-            reply, seconds = best(server, "textDocument/rename", {**place, "newName": "Amount"})
-            edits = sum(len(it) for it in json.loads(reply)["result"]["changes"].values())
-            more = (peak(server) - before) * 1024
-            print(f"{'rename':>16} {seconds * 1000:>9.2f} ms {edits:>9,} edits   {len(reply):>12,} bytes, {more / len(reply):.2f} times that in memory", flush=True)
-            reply, references = best(server, "textDocument/references", {**place, "context": {"includeDeclaration": True}})
-            print(f"{'references':>16} {references * 1000:>9.2f} ms {count_in(reply):>9,} answers {len(reply):>12,} bytes", flush=True)
-            print(f"{'':>16} the rename took {seconds / references:.2f} times as long as the references", flush=True)
-    return seconds <= OF_REFERENCES * references
+            slowest = 0.0
+            for text, path, name in ((trees.ONE_NAME_TEXT, trees.ONE_NAME, "Money"), (RARE_NAME_TEXT, "rare.proto", "Seldom")):
+                place = place_of(text, name, folder, path)
+                reply, seconds = best(server, "textDocument/rename", {**place, "newName": "Amount"})
+                edits = sum(len(it) for it in json.loads(reply)["result"]["changes"].values())
+                slowest = max(slowest, seconds)
+                print(f"{'rename':>16} {seconds * 1000:>9.2f} ms {edits:>9,} edits   {len(reply):>12,} bytes, {seconds / first:.2f} times the first answer", flush=True)
+                reply, references = best(server, "textDocument/references", {**place, "context": {"includeDeclaration": True}})
+                print(f"{'references':>16} {references * 1000:>9.2f} ms {count_in(reply):>9,} answers {len(reply):>12,} bytes", flush=True)
+            print(f"{'':>16} the renames took {(peak(server) - before) / 1024:,.0f} MB more, and left {(resident(server) - before) / 1024:,.0f} MB", flush=True)
+    return slowest <= OF_FIRST * first
 
 
 def main():
