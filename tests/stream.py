@@ -78,17 +78,18 @@ def run(input_bytes, args=("serve",)):
     return done.stdout, done.stderr, done.returncode
 
 
-def check(words, cwd=None):
-    """Runs `protols check` with these options: its standard output, standard error and exit status."""
-    done = subprocess.run(command(("check", *map(str, words))), stdin=subprocess.DEVNULL, capture_output=True, cwd=cwd, timeout=CHECK_LIMIT)
+def check(words, cwd=None, quiet=True):
+    """Runs `protols check` with these options: its standard output, standard error and exit status. If it is quiet, it doesn't say how much it checked."""
+    words = (*(["--quiet"] if quiet else []), *map(str, words))
+    done = subprocess.run(command(("check", *words)), stdin=subprocess.DEVNULL, capture_output=True, cwd=cwd, timeout=CHECK_LIMIT)
     return done.stdout, done.stderr, done.returncode
 
 
-def check_with_each(words, cwd=None):
+def check_with_each(words, cwd=None, quiet=True):
     """The same, where it has to be the same with each number of workers."""
-    said = check(words, cwd)
+    said = check(words, cwd, quiet)
     for number in NUMBERS:
-        if check(("--workers", number, *words), cwd) != said:
+        if check(("--workers", number, *words), cwd, quiet) != said:
             raise AssertionError(f"with {number} workers `check` says another thing")
     return said
 

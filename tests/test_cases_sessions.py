@@ -279,7 +279,7 @@ class Streams(CasesTest):
         folder = self.folder_of(case.files()[2:])
         for words in ((), *(("--workers", str(workers)) for workers in stream.NUMBERS)):
             with self.subTest(case.place, words=words):
-                self.check_end(self.run_within(("check", "--root", folder, *words), int(case.fields[1]), subprocess.DEVNULL), case.answer)
+                self.check_end(self.run_within(("check", "--quiet", "--root", folder, *words), int(case.fields[1]), subprocess.DEVNULL), case.answer)
         return case.answer
 
 

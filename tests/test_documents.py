@@ -260,6 +260,18 @@ class Packaging(unittest.TestCase):
             with self.subTest(file=name):
                 self.assertEqual(set(shown), declared)
 
+    def test_the_formats_are_those_of_the_check(self):
+        source = manual.SOURCE.read_text(encoding="utf-8")
+        named = re.findall(r'^ +"(\w+)" => Some\(Format::', (ROOT / "crates/lsp_check/src/format.rt").read_text(encoding="utf-8"), re.MULTILINE)
+        self.assertEqual(manual.names(source)["FORMATS"], named)
+        for name in named:
+            with self.subTest(format=name):
+                self.assertIn(f"`{name}`", manual.texts(source)["FORMAT_HELP"])
+
+    def test_the_manual_tells_of_files(self):
+        text = manual.manual(manual.SOURCE.read_text(encoding="utf-8"), "2026-01-01")
+        self.assertIn("\n.I FILE\nWrite the lines of these files alone", text)
+
     def test_the_licence_is_one(self):
         for name in ("LICENSE", "README.md"):
             with self.subTest(file=name):

@@ -193,7 +193,8 @@ class Allocations(unittest.TestCase):
         with tempfile.TemporaryDirectory() as folder:
             for path, text in (*NAMED, ("bad.proto", BAD)):
                 pathlib.Path(folder, path).write_text(text)
-            self.check_each(("check", "--root", folder, "--workers", "1"), b"", 1)
+            self.check_each(("check", "--quiet", "--root", folder, "--workers", "1"), b"", 1)
+            self.check_each(("check", "--quiet", "--root", folder, "--workers", "1", "--format", "sarif", f"{folder}/bad.proto"), b"", 1)
 
 
 if __name__ == "__main__":

@@ -50,6 +50,8 @@ MOST_ENTRIES = 100_000
 
 NOBODY = 65534
 
+QUIET_CHECK = ("check", "--quiet")
+
 # How `protols serve` is called.
 SERVE_USAGE = b"""\
 protols serve [--root DIR] [--proto-path DIR]... [--workers N]
@@ -271,8 +273,8 @@ class Names(FolderTest):
 class Reasons(FolderTest):
     """What standard error says behind `skipped` and `protols: folder`."""
 
-    def check_told(self, *lines, command="serve", root=None, status=1):
-        out, err, ended = run(b"", (command, "--root", self.root if root is None else root))
+    def check_told(self, *lines, command=("serve",), root=None, status=1):
+        out, err, ended = run(b"", (*command, "--root", self.root if root is None else root))
         self.assertEqual((out, sorted(err.splitlines()), ended), (b"", sorted(lines), status))
 
     def test_what_is_skipped_and_why(self):
@@ -288,13 +290,13 @@ class Reasons(FolderTest):
             b"protols: skipped pipe.proto: neither a file nor a folder",
         )
         self.check_told(*lines)
-        self.check_told(*lines, command="check", status=0)
+        self.check_told(*lines, command=QUIET_CHECK, status=0)
 
     def test_a_folder_that_is_not_there(self):
         root = self.holder / "none"
         why = f"protols: folder {root}: can't be listed: No such file or directory (os error 2)".encode()
         self.check_told(b"protols: folder", why, root=root, status=3)
-        self.check_told(b"protols: folder", why, command="check", root=root, status=3)
+        self.check_told(b"protols: folder", why, command=QUIET_CHECK, root=root, status=3)
 
     def test_folders_in_one_another(self):
         (self.root / "/".join(["d"] * (MOST_FOLDERS + 1))).mkdir(parents=True)
@@ -373,14 +375,14 @@ class Roots(FolderTest):
 
 
 class Unreadable(FolderTest):
-    def run_as_nobody(self, root, command="serve"):
+    def run_as_nobody(self, root, command=("serve",)):
         """Runs the program so that permissions count: not as the user who may do everything."""
         if os.geteuid() != 0:
-            return run_fixed(b"", (command, "--root", root))
+            return run_fixed(b"", (*command, "--root", root))
         program = self.holder / "protols"
         shutil.copy(stream.command()[0], program)
         program.chmod(0o755)
-        words = [program, command, "--root", root]
+        words = [program, *command, "--root", root]
         done = subprocess.run(
             words, stdin=subprocess.DEVNULL, capture_output=True, timeout=stream.LIMIT, user=NOBODY, group=NOBODY, extra_groups=[]
         )
@@ -402,12 +404,12 @@ class Unreadable(FolderTest):
             self.put(name, PROTO3)
         with self.without_permissions(*(self.root / name for name in ("shut.proto", "shut.txt", "shut"))):
             self.assertEqual(self.run_as_nobody(self.root), (b"", SKIPPED * 2, 1))
-            self.assertEqual(self.run_as_nobody(self.root, "check"), (b"", SKIPPED * 2, 0))
+            self.assertEqual(self.run_as_nobody(self.root, QUIET_CHECK), (b"", SKIPPED * 2, 0))
 
     def test_a_root_that_may_not_be_read(self):
         with self.without_permissions(self.root):
             self.assertEqual(self.run_as_nobody(self.root), (b"", FOLDER, 3))
-            self.assertEqual(self.run_as_nobody(self.root, "check"), (b"", FOLDER, 3))
+            self.assertEqual(self.run_as_nobody(self.root, QUIET_CHECK), (b"", FOLDER, 3))
 
     def test_what_is_no_file_is_skipped(self):
         os.mkfifo(self.root / "pipe")

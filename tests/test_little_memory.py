@@ -103,7 +103,7 @@ class LittleMemory(unittest.TestCase):
         for number in range(0, FILES, 2):
             pathlib.Path(root, f"{number:03}.proto").write_text(text_of(number) + "#\n")
             lines.append(f"{number:03}.proto:{4 if number else 3}:1: 201 illegal character\n")
-        self.check_each(("check", "--root", root, "--workers", "4"), b"", "".join(lines).encode(), 1)
+        self.check_each(("check", "--quiet", "--root", root, "--workers", "4"), b"", "".join(lines).encode(), 1)
 
 
 if __name__ == "__main__":

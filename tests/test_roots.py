@@ -243,10 +243,10 @@ class Words(RootsTest):
                     self.assertIn(b"begin with '/'", self.check_wrong("serve", *words))
 
     def test_words_that_are_refused(self):
+        self.check_wrong("serve", "--proto-path", self.first, "extra")
         for command in ("serve", "check"):
             with self.subTest(command=command):
                 self.check_wrong(command, "--root", self.first, "--proto-path", self.second, "--root", self.first)
-                self.check_wrong(command, "--proto-path", self.first, "extra")
                 self.check_wrong(command, "--proto", self.first)
                 self.check_wrong(command, "--proto_path", self.first)
                 self.check_wrong(command, "-I", self.first)

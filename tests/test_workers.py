@@ -34,7 +34,7 @@ def words(number, *others):
 
 
 def checking(number, folder):
-    return ["check", "--workers", str(number), "--root", folder]
+    return ["check", "--quiet", "--workers", str(number), "--root", folder]
 
 
 def run(data, args, **how):
