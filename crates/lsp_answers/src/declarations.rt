@@ -70,7 +70,11 @@ fn declarations<'a>(
 fn places_of(alloc: Global, found: &[FoundDecl<'_>]) -> Result<Vec<Place>, AllocError>
     ensures { IfOk result (λ places. places.items ≡ map (λ f. f.place) found.now) }
 {
-    found.iter().map(|here| here.place).collect(alloc)
+    let mut places = Vec::with_capacity(alloc, found.len())?;
+    for here in found {
+        places.push(here.place)?;
+    }
+    Ok(places)
 }
 
 // The name, the scope and the kind of a declaration, and a range.

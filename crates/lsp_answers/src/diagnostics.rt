@@ -58,7 +58,11 @@ fn with_ranges(
 fn parts_of(alloc: Global, diags: &[Diag]) -> Result<Vec<(usize, usize)>, AllocError>
     ensures { IfOk result (λ parts. parts.items ≡ map (λ d. (d.start, d.end)) diags.now) }
 {
-    diags.iter().map(|d| (d.start, d.end)).collect(alloc)
+    let mut parts = Vec::with_capacity(alloc, diags.len())?;
+    for diag in diags {
+        parts.push((diag.start, diag.end))?;
+    }
+    Ok(parts)
 }
 
 // Some diagnostics of a text at their places.

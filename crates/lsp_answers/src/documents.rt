@@ -16,7 +16,11 @@ use std::alloc::{AllocError, Global};
 fn parts_of(alloc: Global, places: &[Place]) -> Result<Vec<(usize, usize)>, AllocError>
     ensures { IfOk result (λ parts. parts.items ≡ map (λ p. (p.start, p.end)) places.now) }
 {
-    places.iter().map(|p| (p.start, p.end)).collect(alloc)
+    let mut parts = Vec::with_capacity(alloc, places.len())?;
+    for place in places {
+        parts.push((place.start, place.end))?;
+    }
+    Ok(parts)
 }
 
 // Some places in a text, as ranges.

@@ -28,37 +28,43 @@ fn uses_of(
 ) -> Result<Vec<Place>, AllocError>
     ensures { IfOk result (λ places. places.items ≡ uses_of analysis.now decl file) }
 {
-    uses_in(analysis, file)
-        .iter()
-        .filter(|found| is_of(decl, &found.target))
-        .map(|found| Place {
-            file,
-            start: found.span.start,
-            end: found.span.end,
-        })
-        .collect(alloc)
+    let mut places = Vec::new(alloc);
+    for found in uses_in(analysis, file) {
+        if is_of(decl, &found.target) {
+            places.push(Place {
+                file,
+                start: found.span.start,
+                end: found.span.end,
+            })?;
+        }
+    }
+    Ok(places)
 }
 
 // The places that start before an offset.
 fn places_before(alloc: Global, places: &[Place], start: usize) -> Result<Vec<Place>, AllocError>
     ensures { IfOk result (λ found. found.items ≡ filter (λ p. nat_lt p.start start) places.now) }
 {
-    places
-        .iter()
-        .filter(|place| place.start < start)
-        .copied()
-        .collect(alloc)
+    let mut found = Vec::with_capacity(alloc, places.len())?;
+    for place in places {
+        if place.start < start {
+            found.push(*place)?;
+        }
+    }
+    Ok(found)
 }
 
 // The others.
 fn places_from(alloc: Global, places: &[Place], start: usize) -> Result<Vec<Place>, AllocError>
     ensures { IfOk result (λ found. found.items ≡ filter (λ p. not (nat_lt p.start start)) places.now) }
 {
-    places
-        .iter()
-        .filter(|place| !(place.start < start))
-        .copied()
-        .collect(alloc)
+    let mut found = Vec::with_capacity(alloc, places.len())?;
+    for place in places {
+        if !(place.start < start) {
+            found.push(*place)?;
+        }
+    }
+    Ok(found)
 }
 
 // The places of a file with the declaration's own place among them.

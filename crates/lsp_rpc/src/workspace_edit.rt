@@ -28,10 +28,13 @@ fn is_among(ranges: &[Range], range: Range) -> bool
 fn further(alloc: Global, before: &[Range], more: &[Range]) -> Result<Vec<Range>, AllocError>
     ensures { IfOk result (λ ranges. ranges.items ≡ further before.now more.now) }
 {
-    more.iter()
-        .filter(|range| !is_among(before, **range))
-        .copied()
-        .collect(alloc)
+    let mut ranges = Vec::with_capacity(alloc, more.len())?;
+    for range in more {
+        if !is_among(before, *range) {
+            ranges.push(*range)?;
+        }
+    }
+    Ok(ranges)
 }
 
 // The ranges of a document, behind those that its URI has, but for those that it has.
