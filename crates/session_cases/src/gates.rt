@@ -2,7 +2,7 @@
 use crate::configs::config_of;
 use crate::settings::{bytes_of, put_bytes};
 use case_notation::{Line, field};
-use lsp_frame::{ByteSource, Fail, FrameReader, MemSink, MemSource};
+use lsp_frame::{ByteSink, ByteSource, Fail, FrameReader, MemSink, MemSource};
 use lsp_session::{Config, Ended, Gate, ServeFault, check, serve};
 use std::alloc::{AllocError, Global};
 use std::marker::Send;
@@ -61,20 +61,22 @@ impl Gate for Meeting {
     }
 }
 
-// A gate where the first job waits until a source is asked for its last bytes.
+// A gate where the first job waits until a device has counted so far.
 #[derive(Drop)]
 struct Holding {
     entered: AtomicU64,
-    asked: AtomicU64,
+    counter: Arc<AtomicU64>,
+    wanted: u64,
     misses: AtomicU64,
 }
 
 impl Holding {
     // A gate that nobody has come to.
-    fn new() -> Holding {
+    fn until(counter: Arc<AtomicU64>, wanted: u64) -> Holding {
         Holding {
             entered: AtomicU64::new(0),
-            asked: AtomicU64::new(0),
+            counter,
+            wanted,
             misses: AtomicU64::new(0),
         }
     }
@@ -82,19 +84,21 @@ impl Holding {
 
 impl Gate for Holding {
     fn enter(&self, _path: &str, _stamp: u64) {
-        if self.entered.fetch_add(1, Ordering::SeqCst) == 0 && !comes_to(&self.asked, 1) {
+        if self.entered.fetch_add(1, Ordering::SeqCst) == 0
+            && !comes_to(&self.counter, self.wanted)
+        {
             self.misses.fetch_add(1, Ordering::SeqCst);
         }
     }
 }
 
-// A source that tells a gate when it is asked for the bytes behind the first ones.
+// A source that counts how often it is asked for the bytes behind the first ones.
 #[derive(Drop)]
 struct Watched {
     source: MemSource,
     first: usize,
     given: usize,
-    gate: Arc<Holding>,
+    asked: Arc<AtomicU64>,
 }
 
 impl ByteSource for Watched {
@@ -104,7 +108,7 @@ impl ByteSource for Watched {
 
     fn read(&mut self, buffer: &mut [u8]) -> Result<usize, Fail> {
         if self.given >= self.first {
-            self.gate.asked.fetch_add(1, Ordering::SeqCst);
+            self.asked.fetch_add(1, Ordering::SeqCst);
         }
         let room = buffer
             .len()
@@ -112,6 +116,27 @@ impl ByteSource for Watched {
         let answer = self.source.read(&mut buffer[..room]);
         if let Ok(count) = answer {
             self.given = self.given.saturating_add(count);
+        }
+        answer
+    }
+}
+
+// A sink that counts the bytes that it took.
+#[derive(Drop)]
+struct Counting {
+    sink: MemSink,
+    taken: Arc<AtomicU64>,
+}
+
+impl ByteSink for Counting {
+    ghost written = { λ counting. ⟦<MemSink as ByteSink>⟧.written counting.sink };
+
+    ghost counts = { λ counting. ⟦<MemSink as ByteSink>⟧.counts counting.sink };
+
+    fn write(&mut self, buffer: &[u8]) -> Result<usize, Fail> {
+        let answer = self.sink.write(buffer);
+        if let Ok(count) = answer {
+            self.taken.fetch_add(count as u64, Ordering::SeqCst);
         }
         answer
     }
@@ -149,45 +174,56 @@ fn found_in(found: Result<bool, ServeFault>) -> &'static str {
     }
 }
 
-// Serves a session over a stream behind a gate: how it ends, and what went out.
+// What a session is started with: the files, how many workers there are, and the gate that they pass.
+struct Start<'g, G: Gate> {
+    config: Config,
+    workers: usize,
+    gate: &'g Arc<G>,
+}
+
+// Serves a session behind a gate, and says in words how it ends.
 fn serve_behind<
     R: Threads + Wait + Clone + Send + Drop + 'static,
     S: ByteSource + Drop,
+    K: ByteSink,
     G: Gate + 'static,
->(
-    rt: &R,
-    alloc: Global,
-    source: S,
-    gate: &Arc<G>,
-    config: Config,
-    workers: usize,
-) -> Result<Line, AllocError> {
-    let mut sink = MemSink::new(alloc, ROOM, ROOM, 0, false)?;
+>(rt: &R, alloc: Global, source: S, sink: &mut K, start: Start<'_, G>) -> &'static str {
+    let Start {
+        config,
+        workers,
+        gate,
+    } = start;
     let mut reader = FrameReader::new(alloc, source);
-    let ended = serve(rt, alloc, &mut reader, &mut sink, gate, config, workers);
-    let mut line = Line::new(alloc);
-    put_end(&mut line, ended_in(ended), &sink);
-    Ok(line)
+    ended_in(serve(rt, alloc, &mut reader, sink, gate, config, workers))
 }
 
-// Writes how often a worker waited in vain, how many hold the gate, and an answer: each worker holds it as long as it lives.
-fn put_passed(line: &mut Line, misses: &AtomicU64, holders: usize, answer: &Line) {
+// A sink with room for all that goes out.
+fn roomy_sink(alloc: Global) -> Result<MemSink, AllocError> {
+    MemSink::new(alloc, ROOM, ROOM, 0, false)
+}
+
+// A source of all bytes of a field.
+fn source_of(alloc: Global, field: &str) -> Result<MemSource, AllocError> {
+    Ok(MemSource::new(bytes_of(alloc, field)?, ROOM, 0, false))
+}
+
+// Writes how often a worker waited in vain, and how many hold the gate: each worker holds it as long as it lives.
+fn put_passed(line: &mut Line, misses: &AtomicU64, holders: usize) {
     line.put("misses ");
     line.put_number(misses.load(Ordering::SeqCst));
     line.put(", holders ");
     line.put_number(holders as u64);
     line.put(", ");
-    line.put(answer.as_str());
 }
 
-// Writes how often the two files came to a gate where their workers met, and an answer.
-fn put_met(line: &mut Line, gate: &Arc<Meeting>, answer: &Line) {
+// Writes how often the two files came to a gate where their workers met.
+fn put_met(line: &mut Line, gate: &Arc<Meeting>) {
     line.put("came ");
     line.put_number(gate.first.load(Ordering::SeqCst));
     line.put(" and ");
     line.put_number(gate.second.load(Ordering::SeqCst));
     line.put(", ");
-    put_passed(line, &gate.misses, Arc::strong_count(gate), answer);
+    put_passed(line, &gate.misses, Arc::strong_count(gate));
 }
 
 /// The bytes of a stream and the files a.proto and b.proto: what comes of a session with two workers, which wait for each other
@@ -199,25 +235,17 @@ pub fn meet<R: Threads + Wait + Clone + Send + Drop + 'static>(
     given: &str,
 ) -> Result<(), AllocError> {
     let gate = Arc::new(alloc, Meeting::new())?;
-    let config = config_of(alloc, given, 2)?;
-    let source = MemSource::new(bytes_of(alloc, field(given, 1))?, ROOM, 0, false);
-    let answer = serve_behind(rt, alloc, source, &gate, config, 2)?;
-    put_met(line, &gate, &answer);
+    let mut sink = roomy_sink(alloc)?;
+    let source = source_of(alloc, field(given, 1))?;
+    let start = Start {
+        config: config_of(alloc, given, 2)?,
+        workers: 2,
+        gate: &gate,
+    };
+    let ended = serve_behind(rt, alloc, source, &mut sink, start);
+    put_met(line, &gate);
+    put_end(line, ended, &sink);
     Ok(())
-}
-
-// Checks files behind a gate: whether an error is found, and the lines that went out.
-fn check_behind<R: Threads + Wait + Clone + Send + Drop + 'static>(
-    rt: &R,
-    alloc: Global,
-    gate: &Arc<Meeting>,
-    config: Config,
-) -> Result<Line, AllocError> {
-    let mut sink = MemSink::new(alloc, ROOM, ROOM, 0, false)?;
-    let found = check(rt, alloc, &mut sink, gate, config, 2);
-    let mut line = Line::new(alloc);
-    put_end(&mut line, found_in(found), &sink);
-    Ok(line)
 }
 
 /// The files a.proto and b.proto: what comes of a check with two workers, which wait for each other before each piece of work.
@@ -228,13 +256,36 @@ pub fn meet_in_check<R: Threads + Wait + Clone + Send + Drop + 'static>(
     given: &str,
 ) -> Result<(), AllocError> {
     let gate = Arc::new(alloc, Meeting::new())?;
-    let answer = check_behind(rt, alloc, &gate, config_of(alloc, given, 1)?)?;
-    put_met(line, &gate, &answer);
+    let mut sink = roomy_sink(alloc)?;
+    let config = config_of(alloc, given, 1)?;
+    let found = check(rt, alloc, &mut sink, &gate, config, 2);
+    put_met(line, &gate);
+    put_end(line, found_in(found), &sink);
     Ok(())
 }
 
-// The first bytes of a stream and the others, of which a gate is told when they are asked for.
-fn source_behind(alloc: Global, gate: Arc<Holding>, given: &str) -> Result<Watched, AllocError> {
+// Serves a session with one worker and no files behind a gate that holds the first job.
+fn serve_holding<
+    R: Threads + Wait + Clone + Send + Drop + 'static,
+    S: ByteSource + Drop,
+    K: ByteSink,
+>(
+    rt: &R,
+    alloc: Global,
+    source: S,
+    sink: &mut K,
+    gate: &Arc<Holding>,
+) -> Result<&'static str, AllocError> {
+    let start = Start {
+        config: config_of(alloc, "", 1)?,
+        workers: 1,
+        gate,
+    };
+    Ok(serve_behind(rt, alloc, source, sink, start))
+}
+
+// The first bytes of a stream and the others, which it counts how often it is asked for.
+fn source_behind(alloc: Global, asked: Arc<AtomicU64>, given: &str) -> Result<Watched, AllocError> {
     let mut bytes = bytes_of(alloc, field(given, 1))?;
     let first = bytes.len();
     let others = bytes_of(alloc, field(given, 2))?;
@@ -243,7 +294,7 @@ fn source_behind(alloc: Global, gate: Arc<Holding>, given: &str) -> Result<Watch
         source: MemSource::new(bytes, ROOM, 0, false),
         first,
         given: 0,
-        gate,
+        asked,
     })
 }
 
@@ -255,10 +306,37 @@ pub fn hold<R: Threads + Wait + Clone + Send + Drop + 'static>(
     line: &mut Line,
     given: &str,
 ) -> Result<(), AllocError> {
-    let gate = Arc::new(alloc, Holding::new())?;
-    let source = source_behind(alloc, Arc::try_clone(&gate)?, given)?;
-    let config = config_of(alloc, "", 1)?;
-    let answer = serve_behind(rt, alloc, source, &gate, config, 1)?;
-    put_passed(line, &gate.misses, Arc::strong_count(&gate), &answer);
+    let asked = Arc::new(alloc, AtomicU64::new(0))?;
+    let gate = Arc::new(alloc, Holding::until(Arc::try_clone(&asked)?, 1))?;
+    let mut sink = roomy_sink(alloc)?;
+    let source = source_behind(alloc, asked, given)?;
+    let ended = serve_holding(rt, alloc, source, &mut sink, &gate)?;
+    put_passed(line, &gate.misses, Arc::strong_count(&gate));
+    put_end(line, ended, &sink);
+    Ok(())
+}
+
+/// The bytes of a stream, and those that have to go out first: what comes of a session with one worker, whose first piece of work
+/// begins when as many bytes went out.
+pub fn hold_until_written<R: Threads + Wait + Clone + Send + Drop + 'static>(
+    rt: &R,
+    alloc: Global,
+    line: &mut Line,
+    given: &str,
+) -> Result<(), AllocError> {
+    let wanted = bytes_of(alloc, field(given, 2))?.len() as u64;
+    let taken = Arc::new(alloc, AtomicU64::new(0))?;
+    let gate = Arc::new(alloc, Holding::until(Arc::try_clone(&taken)?, wanted))?;
+    let mut sink = Counting {
+        sink: roomy_sink(alloc)?,
+        taken,
+    };
+    let source = source_of(alloc, field(given, 1))?;
+    let ended = serve_holding(rt, alloc, source, &mut sink, &gate)?;
+    line.put("came ");
+    line.put_number(gate.entered.load(Ordering::SeqCst));
+    line.put(", ");
+    put_passed(line, &gate.misses, Arc::strong_count(&gate));
+    put_end(line, ended, &sink.sink);
     Ok(())
 }

@@ -32,6 +32,7 @@ fn answer<R: Threads + Wait + Clone + Send + Drop + 'static>(
         "core from" => cores::answer_core(names, line, given, 2),
         "meet" => gates::meet(rt, names.alloc(), line, given),
         "hold" => gates::hold(rt, names.alloc(), line, given),
+        "hold until written" => gates::hold_until_written(rt, names.alloc(), line, given),
         "meet in check" => gates::meet_in_check(rt, names.alloc(), line, given),
         _ => Ok(line.put("no such call")),
     }
