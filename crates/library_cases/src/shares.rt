@@ -63,7 +63,7 @@ fn write_file(line: &mut Line, found: &Analysis, piece: &Piece<FileWork>) {
 
 fn write_found(line: &mut Line, found: &Analysis, pieces: &[Piece<FileWork>]) {
     line.put("; ");
-    line.put_number(found.files().len() as u64);
+    line.put_number(found.file_count() as u64);
     line.put(" files: ");
     for piece in pieces {
         write_file(line, found, piece);

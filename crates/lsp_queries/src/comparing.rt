@@ -85,10 +85,10 @@ pub fn same_meaning(a: &Analysis, b: &Analysis) -> bool
 {
     a.known();
     b.known();
-    if a.files().len() != b.files().len() {
+    if a.file_count() != b.file_count() {
         return false;
     }
-    for file in 0..a.files().len() {
+    for file in 0..a.file_count() {
         if !same_in_file(a, b, file) {
             return false;
         }

@@ -13,7 +13,7 @@ use work_index::Analysis;
 pub fn decls_in(analysis: &Analysis, file: FileNo) -> &[Decl]
     ensures { result.now ≡ decls_in analysis.now file }
 {
-    if file < analysis.files().len() {
+    if file < analysis.file_count() {
         analysis.facts(file).decls.as_slice()
     } else {
         &[]
@@ -24,7 +24,7 @@ pub fn decls_in(analysis: &Analysis, file: FileNo) -> &[Decl]
 pub fn components_in(analysis: &Analysis, file: FileNo) -> &[Span]
     ensures { result.now ≡ components_in analysis.now file }
 {
-    if file >= analysis.files().len() {
+    if file >= analysis.file_count() {
         return &[];
     }
     match &analysis.facts(file).package {
@@ -37,7 +37,7 @@ pub fn components_in(analysis: &Analysis, file: FileNo) -> &[Span]
 pub fn uses_in(analysis: &Analysis, file: FileNo) -> &[NameUse]
     ensures { result.now ≡ uses_in analysis.now file }
 {
-    if file < analysis.files().len() {
+    if file < analysis.file_count() {
         analysis.links(file).uses.as_slice()
     } else {
         &[]

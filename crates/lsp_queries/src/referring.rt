@@ -107,7 +107,7 @@ pub fn sites_of(
     ensures { IfOk result (λ places. places.items ≡ sites_of analysis.now decl own) }
 {
     let mut found = Vec::new(alloc);
-    for (file, _) in analysis.files().iter().enumerate() {
+    for file in 0..analysis.file_count() {
         let mut places = sites_in(alloc, analysis, decl, own, file)?;
         found.append(&mut places)?;
     }

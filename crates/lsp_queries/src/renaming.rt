@@ -88,7 +88,7 @@ fn begins(full_name: &[u8], name: &[u8]) -> bool
 fn has_package(analysis: &Analysis, file: FileNo, full_name: &str) -> bool
     ensures { result ≡ files.is_within full_name.now (package_in analysis.now file) }
 {
-    if file >= analysis.files().len() {
+    if file >= analysis.file_count() {
         return false;
     }
     match &analysis.facts(file).package {
@@ -101,11 +101,7 @@ fn has_package(analysis: &Analysis, file: FileNo, full_name: &str) -> bool
 fn is_package(analysis: &Analysis, full_name: &str) -> bool
     ensures { result ≡ is_package analysis.now full_name.now }
 {
-    analysis
-        .files()
-        .iter()
-        .enumerate()
-        .any(|(file, _)| has_package(analysis, file, full_name))
+    (0..analysis.file_count()).any(|file| has_package(analysis, file, full_name))
 }
 
 // Whether the full name of a declaration with a new name is that of another declaration, or of a package.

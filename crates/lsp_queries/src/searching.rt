@@ -23,7 +23,7 @@ fn searched_files(alloc: Global, analysis: &Analysis, query: &str) -> Result<Vec
     ensures { IfOk result (λ searched. LeavesOut analysis.now query.now searched.items) }
 {
     let mut searched = Vec::new(alloc);
-    for file in 0..analysis.files().len() {
+    for file in 0..analysis.file_count() {
         searched.push(may_match(analysis, query, file))?;
     }
     Ok(searched)

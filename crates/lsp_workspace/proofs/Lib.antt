@@ -10,4 +10,5 @@ pub mod FirstEvents
 pub mod OneMore
 pub mod Earlier
 pub mod Crossing
+mod OfAnalysis
 mod Keeps

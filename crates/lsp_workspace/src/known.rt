@@ -194,12 +194,13 @@ fn numbers_now(
 ) -> Result<Vec<Option<FileNo>>, AllocError>
     ensures { IfOk result (λ to. AreNumbersNow analysis.now.paths changed.now (workspace_of pieces.now) to.items) }
 {
-    let paths = analysis.files();
-    let mut to = Vec::with_capacity(alloc, paths.len())?;
+    let count = analysis.file_count();
+    let mut to = Vec::with_capacity(alloc, count)?;
     let mut next = 0;
-    for (file, path) in paths.iter().enumerate() {
-        next = next_from(pieces, next, path.as_str());
-        to.push(number_now(pieces, next, path.as_str(), changed, file))?;
+    for file in 0..count {
+        let path = analysis.path(file);
+        next = next_from(pieces, next, path);
+        to.push(number_now(pieces, next, path, changed, file))?;
     }
     Ok(to)
 }

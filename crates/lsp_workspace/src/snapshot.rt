@@ -1,10 +1,7 @@
 // The files of a workspace with their analysis.
-ghost use Rattle.std.specs.Prelude.{◌≡◌, [], length, map, option_map, position, slice_index_or, bytes_eq};
+ghost use Rattle.std.specs.Prelude.{◌≡◌, [], length, map, position, slice_index_or, bytes_eq};
 ghost use Rattle.work_index.specs.Workspace as index;
-ghost use Rattle.lsp_workspace.specs.Files.{text_at};
-ghost use Rattle.lsp_workspace.specs.View.{files_view};
 
-use crate::files::{Files, text_at};
 use import_graph::FileNo;
 use std::marker::Model;
 use work_index::Analysis;
@@ -13,33 +10,26 @@ use work_index::Analysis;
 /// see a snapshot as the workspace: the paths of its files, each with its text.
 #[derive(Drop)]
 pub struct Snapshot<'w> {
-    files: &'w Files,
     analysis: &'w Analysis,
 }
 
 impl<'w> Model for Snapshot<'w> {
-    ghost use Rattle.std.specs.Prelude.{◌≡◌};
     ghost use Rattle.work_index.specs.Workspace as index;
-    ghost use Rattle.lsp_workspace.specs.Files.{workspace, AreInPathOrder};
-    ghost use Rattle.lsp_workspace.specs.View.{files_view};
 
     ghost Value = { index.Workspace };
 
-    ghost view = { λ s. workspace (files_view s.files.now.entries) };
+    ghost view = { λ s. index.workspace_in s.analysis.now };
 
-    ghost invariant = { λ s. (s.analysis.now ≡ index.analysis (workspace (files_view s.files.now.entries))) × AreInPathOrder (files_view s.files.now.entries) };
+    ghost invariant = { λ s. index.IsKnown s.analysis.now };
 }
 
 impl<'w> Snapshot<'w> {
-    ghost use Rattle.lsp_workspace.specs.Files.{workspace, AreInPathOrder};
-
-    /// These files with their analysis.
-    pub(crate) fn of(files: &'w Files, analysis: &'w Analysis) -> Snapshot<'w>
-        requires analysis { analysis.now ≡ index.analysis (workspace (files_view files.now.entries)) }
-        requires ordered { AreInPathOrder (files_view files.now.entries) }
-        ensures { result ≡ workspace (files_view files.now.entries) }
+    /// The files of an analysis.
+    pub(crate) fn of(analysis: &'w Analysis) -> Snapshot<'w>
+        ensures { result ≡ index.workspace_in analysis.now }
     {
-        Snapshot { files, analysis }
+        analysis.known();
+        Snapshot { analysis }
     }
 
     /// The analysis of the workspace.
@@ -53,7 +43,7 @@ impl<'w> Snapshot<'w> {
     pub fn file_count(&self) -> usize
         ensures { result ≡ length self.now }
     {
-        self.analysis.files().len()
+        self.analysis.file_count()
     }
 
     /// The number of the file with a path.
@@ -67,9 +57,10 @@ impl<'w> Snapshot<'w> {
     pub fn path(&self, file: FileNo) -> &'w str
         ensures { result.now ≡ (slice_index_or self.now file ([], [])).0 }
     {
-        match self.analysis.files().get(file) {
-            Some(path) => path.as_str(),
-            None => "",
+        if file < self.analysis.file_count() {
+            self.analysis.path(file)
+        } else {
+            ""
         }
     }
 
@@ -77,12 +68,10 @@ impl<'w> Snapshot<'w> {
     pub fn text(&self, file: FileNo) -> &'w str
         ensures { result.now ≡ (slice_index_or self.now file ([], [])).1 }
     {
-        let Some(path) = self.analysis.files().get(file) else {
-            return "";
-        };
-        match text_at(self.files, path.as_str()) {
-            Some(text) => text,
-            None => "",
+        if file < self.analysis.file_count() {
+            self.analysis.text(file)
+        } else {
+            ""
         }
     }
 }

@@ -383,7 +383,7 @@ impl Workspace {
         ensures { result ≡ workspace self.now.files }
     {
         match &self.known {
-            Some(known) => Snapshot::of(&self.files, &known.analysis),
+            Some(known) => Snapshot::of(&known.analysis),
             None => unreachable!(),
         }
     }

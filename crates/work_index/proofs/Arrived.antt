@@ -156,16 +156,16 @@ module _ (old : Workspace) (at : ℕ) (file : List ℕ × List ℕ) (within : at
   in_order ordered = subst (λ (files : List NamedFacts). IsInPathOrder files) (map_insert named_facts old at file) (ordered_files w ordered)
 
 -- the parts of the analysis with the file, which gets this number
-pub arrived : (a : AnalysisData) (file : List ℕ × List ℕ) (arrives : Arrives a file) (k : ℕ) (table : List NamedFacts) (paths : List (List ℕ)) (links : List Links) (diagnostics : List (List Diag))
-    → AreParts table paths links diagnostics arrives.old → map (λ f. f.facts) table ≡ a.facts → k ≡ arrives.at → MovedLaw → ArrivalLaw
-    → AreWithIt (insert arrives.old arrives.at file) (numbers_with k (length paths)) k file table paths links diagnostics
-arrived a file arrives k table paths links diagnostics of facts here moved_law arrival_law =
+pub arrived : (a : AnalysisData) (file : List ℕ × List ℕ) (arrives : Arrives a file) (k : ℕ) (table : List NamedFacts) (files : Workspace) (links : List Links) (diagnostics : List (List Diag))
+    → AreParts table files links diagnostics arrives.old → map (λ f. f.facts) table ≡ a.facts → k ≡ arrives.at → MovedLaw → ArrivalLaw
+    → AreWithIt (insert arrives.old arrives.at file) (numbers_with k (length files)) k file table files links diagnostics
+arrived a file arrives k table files links diagnostics of facts here moved_law arrival_law =
     let old = arrives.old in
-    let many : length paths ≡ length old = ap length of.paths_are ∙ length-map old (λ f. f.0) in
+    let many : length files ≡ length old = ap length of.files_are in
     let nobody : NobodyImports (all_facts old) file.0 = nobody_imports (all_facts old) file.0 (subst (λ (facts : List FileFacts). NoneImports facts file.0) (sym facts ∙ ap (map (λ (f : NamedFacts). f.facts)) of.table_is) arrives.nobody) in
-    subst (λ k. AreWithIt (insert old arrives.at file) (numbers_with k (length paths)) k file table paths links diagnostics) (sym here)
-    (subst (λ n. AreWithIt (insert old arrives.at file) (numbers_with arrives.at n) arrives.at file table paths links diagnostics) (sym many)
-    (with_it old (insert old arrives.at file) (numbers_with arrives.at (length old)) arrives.at file table paths links diagnostics of (stay old arrives.at file arrives.within)
+    subst (λ k. AreWithIt (insert old arrives.at file) (numbers_with k (length files)) k file table files links diagnostics) (sym here)
+    (subst (λ n. AreWithIt (insert old arrives.at file) (numbers_with arrives.at n) arrives.at file table files links diagnostics) (sym many)
+    (with_it old (insert old arrives.at file) (numbers_with arrives.at (length old)) arrives.at file table files links diagnostics of (stay old arrives.at file arrives.within)
     (comes old arrives.at file arrives.within nobody) (get_or-insert_at old arrives.at file nothing arrives.within) moved_law arrival_law))
 
 -- the number at which the path goes among those of the files is that of the file
@@ -181,10 +181,3 @@ pub still_ordered : (a : AnalysisData) (file : List ℕ × List ℕ) (arrives : 
 still_ordered a file arrives k table is here =
     subst (λ (files : List NamedFacts). IsInPathOrder (insert files k (named_facts file))) (sym is)
     (subst (λ k. IsInPathOrder (insert (all_facts arrives.old) k (named_facts file))) (sym here) (in_order arrives.old arrives.at file arrives.within arrives.ordered))
-
--- ---- the texts
-
--- those of the others with that of the file among them are those of all files
-pub texts_with : (texts : List (List ℕ)) (text : List ℕ) (k at : ℕ) (old : Workspace) (file : List ℕ × List ℕ) → texts ≡ map (λ f. f.1) old → text ≡ file.1 → k ≡ at → insert texts k text ≡ map (λ f. f.1) (insert old at file)
-texts_with texts text k at old file are is here =
-    ap₂ (λ (ts : List (List ℕ)) (t : List ℕ). insert ts k t) are is ∙ ap (λ n. insert (map (λ (f : List ℕ × List ℕ). f.1) old) n file.1) here ∙ sym (map_insert (λ (f : List ℕ × List ℕ). f.1) old at file)

@@ -1,7 +1,7 @@
 -- What changes of the texts of files leave as it was.
 use Rattle.std.proofs.Common.{◌≡◌, ◌≢◌, ◌<◌, ◌==◌, ℕ, zero, suc, List, [], ◌∷◌, Bool, true, false, not, Option, None, Some, length, get_or, map, refl, subst, sym, ap, ap₂, ◌∙◌, arith, zero-add}
 use Rattle.std.specs.Prelude.{All, Contains, IfSome, MatchOption}
-use Rattle.std.specs.List.{enumerate_from, range_with_len}
+use Rattle.std.specs.List.{enumerate_from, range_with_len, zip}
 use Rattle.std.specs.List.Sorted.{IsStrictlyIncreasing}
 use Rattle.std.proofs.lemmas.Bool.{false≢true}
 use Rattle.std.proofs.lemmas.Bool.Decides.{nat_tests}
@@ -175,19 +175,23 @@ same_files (x ∷ files) (y ∷ w) paths facts =
     ap₂ (λ a as'. a ∷ as') head (same_files files w paths' facts')
 
 -- the parts of an analysis that is that of a workspace
-pub record AreParts (table : List NamedFacts) (paths : List (List ℕ)) (links : List Links) (diagnostics : List (List Diag)) (b : Workspace) : Type 0 where
+pub record AreParts (table : List NamedFacts) (files : Workspace) (links : List Links) (diagnostics : List (List Diag)) (b : Workspace) : Type 0 where
   pub table_is : table ≡ all_facts b
-  pub paths_are : paths ≡ map (λ f. f.0) b
+  pub files_are : files ≡ b
   pub links_are : links ≡ made (resolution_of b) b
   pub diagnostics_are : diagnostics ≡ made (diagnostics_of b) b
 
-pub parts : (table : List NamedFacts) (paths : List (List ℕ)) (texts : List (List ℕ)) (links : List Links) (diagnostics : List (List Diag)) (b : Workspace)
-    → paths ≡ map (λ f. f.path) table → analysis_with table paths texts links diagnostics ≡ analysis b → AreParts table paths links diagnostics b
-parts table paths texts links diagnostics b named is = record {
-  table_is = same_files table b (sym named ∙ ap (λ a. a.paths) is) (ap (λ a. a.facts) is);
-  paths_are = ap (λ a. a.paths) is;
-  links_are = ap (λ a. a.links) is;
-  diagnostics_are = ap (λ a. a.diagnostics) is;
+pub zipped : (w : Workspace) → zip (map (λ f. f.0) w) (map (λ f. f.1) w) ≡ w
+zipped [] = refl
+zipped (f ∷ w) = ap (λ rest. f ∷ rest) (zipped w)
+
+pub parts : (table : List NamedFacts) (files : Workspace) (links : List Links) (diagnostics : List (List Diag)) (b : Workspace)
+    → map (λ f. f.0) files ≡ map (λ f. f.path) table → analysis_with table files links diagnostics ≡ analysis b → AreParts table files links diagnostics b
+parts table files links diagnostics b named is = record {
+  table_is = same_files table b (sym named ∙ ap (λ (a : AnalysisData). a.paths) is) (ap (λ (a : AnalysisData). a.facts) is);
+  files_are = sym (zipped files) ∙ ap (λ (a : AnalysisData). zip a.paths a.texts) is ∙ zipped b;
+  links_are = ap (λ (a : AnalysisData). a.links) is;
+  diagnostics_are = ap (λ (a : AnalysisData). a.diagnostics) is;
 }
 
 pub not_false : (x : Bool) → not x ≡ false → x ≡ true

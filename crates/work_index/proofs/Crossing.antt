@@ -44,7 +44,7 @@ tree_field_send : IsSend (FileTree.the_field).row
 tree_field_send = search (sendable, node_send, Items.the_send, Fault.the_send) depth 20
 
 out_field_send : IsSend (FileOut.the_field).row
-out_field_send = struct_send (shape FileOut.the_type) (tree_field_send, (search (sendable, SharedFacts.the_send) depth 20, (Asked.the_field_send, tt)))
+out_field_send = struct_send (shape FileOut.the_type) (tree_field_send, (search (sendable, SharedFacts.the_send) depth 20, (search (sendable, crosses, Asked.the_send, Asked.the_sync) depth 40, tt)))
 
 pub out_send : IsSend FileOut.the_row
 out_send = search (sendable, out_field_send) depth 20
@@ -56,7 +56,7 @@ tree_field_sync : IsSync (FileTree.the_field).row
 tree_field_sync = search (sendable, node_sync, Items.the_sync, Fault.the_sync) depth 20
 
 out_field_sync : IsSync (FileOut.the_field).row
-out_field_sync = struct_sync (shape FileOut.the_type) (tree_field_sync, (search (sendable, SharedFacts.the_sync) depth 20, (Asked.the_field_sync, tt)))
+out_field_sync = struct_sync (shape FileOut.the_type) (tree_field_sync, (search (sendable, SharedFacts.the_sync) depth 20, (search (sendable, crosses, Asked.the_send, Asked.the_sync) depth 40, tt)))
 
 pub out_sync : IsSync FileOut.the_row
 out_sync = search (sendable, out_field_sync) depth 20

@@ -16,5 +16,5 @@ pub mod KeptShares
 pub mod Promised
 pub mod OwnDiags
 pub mod Known
-pub mod KeptTexts
+pub mod KeptFiles
 pub mod OtherTexts

@@ -1,7 +1,7 @@
 -- Other texts of some files.
 use Rattle.std.proofs.Common.{◌≡◌, ◌∙◌, ◌<◌, ◌≤◌, ℕ, zero, suc, ◌+◌, cond, List, [], ◌∷◌, ◌++◌, Some, None, Option, Bool, true, false, length, get_or, map, set, refl, sym, ap, ap₂, subst, arith, zero-add, length-append}
 use Rattle.std.specs.Prelude.{◌==◌, All, Contains, find}
-use Rattle.std.specs.List.{enumerate_from, zip}
+use Rattle.std.specs.List.{enumerate_from}
 use Rattle.std.specs.Option.{option_map_or, option_or}
 use Rattle.std.proofs.lemmas.Bool.{ne_eqb}
 use Rattle.std.proofs.lemmas.Bool.Decides.{nat_tests}
@@ -12,12 +12,10 @@ use Rattle.std.proofs.lemmas.List.Folds.{find-append}
 use Rattle.std.proofs.lemmas.Simd.{map-map}
 use Rattle.std.proofs.Math.Seq.{get_or-append_seam}
 use Rattle.work_index.specs.declared.edited.EditedText.{EditedText}
-use Rattle.work_index.specs.Changes.{IsBefore}
+use Rattle.work_index.specs.Changes.{WasKnown}
 use Rattle.work_index.specs.Edited.{OthersStay, StaysBut, edit_view, text_after, with_texts}
-use Rattle.piece_collector.specs.Views.{TextAt}
-use Rattle.work_index.specs.Pieces.{workspace_of}
-use Rattle.work_index.specs.Workspace.{AnalysisData, IsKnown, Workspace, workspace_in}
-use Rattle.work_index.proofs.Known.{as_many_texts}
+use Rattle.work_index.specs.declared.again.Outdated.{Outdated}
+use Rattle.work_index.specs.Workspace.{Workspace, all_facts, diagnostics_of, resolution_of}
 
 -- a file for which no text is there keeps its own
 own_text : (edits : List (ℕ × List ℕ)) (n : ℕ) (text : List ℕ) → (Contains (map (λ e. e.0) edits) n → ⊥) → text_after edits n text ≡ text
@@ -96,29 +94,28 @@ module _ (file : ℕ) (text : List ℕ) where
   above : (n m : ℕ) → m < n → (n == m) ≡ false
   above n m lt = grind (arith, nat_tests)
 
-  one : (k i : ℕ) (paths texts : List (List ℕ)) → k + i ≡ file → i < length texts → length paths ≡ length texts → zip paths (set texts i text) ≡ map (after edit) (enumerate_from k (zip paths texts))
-  one k i paths [] at there long = absurd (omega (arith, there))
-  one k i [] (t ∷ texts) at there long = absurd (omega (arith, long))
-  one k zero (p ∷ paths) (t ∷ texts) at there long =
+  one : (k i : ℕ) (w : Workspace) → k + i ≡ file → i < length w → set w i ((let f = get_or w i ([], []) in f.0), text) ≡ map (after edit) (enumerate_from k w)
+  one k i [] at there = absurd (omega (arith, there))
+  one k zero (f ∷ w) at there =
       let here : file ≡ k = omega (arith, at) in
       let found : (file == k) ≡ true = ap (λ n. file == n) (sym here) ∙ same file in
-      ap₂ (λ (f : List ℕ × List ℕ) (rest : Workspace). f ∷ rest)
-      (ap (λ (b : Bool). (p, option_map_or (λ (e : ℕ × List ℕ). e.1) (cond b (Some (file, text)) None) t)) (sym found))
-      (sym (behind (k + 1) (zip paths texts) (omega (arith, here))))
-  one k (suc i) (p ∷ paths) (t ∷ texts) at there long =
+      ap₂ (λ (g : List ℕ × List ℕ) (rest : Workspace). g ∷ rest)
+      (ap (λ (b : Bool). (f.0, option_map_or (λ (e : ℕ × List ℕ). e.1) (cond b (Some (file, text)) None) f.1)) (sym found))
+      (sym (behind (k + 1) w (omega (arith, here))))
+  one k (suc i) (f ∷ w) at there =
       let past : k < file = omega (arith, at) in
-      ap₂ (λ (f : List ℕ × List ℕ) (rest : Workspace). f ∷ rest)
-      (ap (λ (b : Bool). (p, option_map_or (λ (e : ℕ × List ℕ). e.1) (cond b (Some (file, text)) None) t)) (sym (above file k past)))
-      (one (k + 1) i paths texts (omega (arith, at)) (omega (arith, there)) (omega (arith, long)))
+      ap₂ (λ (g : List ℕ × List ℕ) (rest : Workspace). g ∷ rest)
+      (ap (λ (b : Bool). (f.0, option_map_or (λ (e : ℕ × List ℕ). e.1) (cond b (Some (file, text)) None) f.1)) (sym (above file k past)))
+      (one (k + 1) i w (omega (arith, at)) (omega (arith, there)))
 
   -- that text in the place of the file's
-  pub one_text : (paths texts later : List (List ℕ)) → file < length texts → length paths ≡ length texts → later ≡ set texts file text → zip paths later ≡ with_texts edit (zip paths texts)
-  one_text paths texts later there long put = ap (zip paths) put ∙ one 0 file paths texts (zero-add file) there long
+  pub one_text : (w later : Workspace) → file < length w → later ≡ set w file ((let f = get_or w file ([], []) in f.0), text) → later ≡ with_texts edit w
+  one_text w later there put = put ∙ one 0 file w (zero-add file) there
 
 -- ---- the files of the texts
 
 -- the last one is taken, and there are as many texts as before
-pub front : (edits rest : List EditedText) (last : EditedText) (old new : List (List ℕ)) → edits ≡ rest ++ last ∷ [] → length new ≡ length old → All (λ e. e.file < length old) edits → All (λ e. e.file < length new) rest
+pub front : (edits rest : List EditedText) (last : EditedText) (old new : Workspace) → edits ≡ rest ++ last ∷ [] → length new ≡ length old → All (λ e. e.file < length old) edits → All (λ e. e.file < length new) rest
 front edits rest last old new are count all = λ k d lt.
     let one : get_or edits k d ≡ get_or rest k d = ap (λ (es : List EditedText). get_or es k d) are ∙ get_or_append_left rest (last ∷ []) d k lt in
     let within : (let e = get_or edits k d in e.file) < length old = all k d (omega (arith, lt, ap length are, length-append rest (last ∷ []))) in
@@ -126,42 +123,28 @@ front edits rest last old new are count all = λ k d lt.
     omega (arith, there, count)
 
 -- the last one is of a file that is there
-pub last_of : (edits rest : List EditedText) (last : EditedText) (texts : List (List ℕ)) → edits ≡ rest ++ last ∷ [] → All (λ e. e.file < length texts) edits → last.file < length texts
-last_of edits rest last texts are all =
+pub last_of : (edits rest : List EditedText) (last : EditedText) (files : Workspace) → edits ≡ rest ++ last ∷ [] → All (λ e. e.file < length files) edits → last.file < length files
+last_of edits rest last files are all =
     let at : get_or edits (length rest) last ≡ last = ap (λ (es : List EditedText). get_or es (length rest) last) are ∙ get_or-append_seam rest last [] last in
-    let within : (let e = get_or edits (length rest) last in e.file) < length texts = all (length rest) last (omega (arith, ap length are, length-append rest (last ∷ []))) in
-    subst (λ (e : EditedText). e.file < length texts) at within
+    let within : (let e = get_or edits (length rest) last in e.file) < length files = all (length rest) last (omega (arith, ap length are, length-append rest (last ∷ []))) in
+    subst (λ (e : EditedText). e.file < length files) at within
 
 -- the numbers of the files, as they stand beside the texts
 pub numbers_are : (edits : List EditedText) → map (λ e. e.0) (map edit_view edits) ≡ map (λ e. e.file) edits
 numbers_are edits = map-map (λ (e : ℕ × List ℕ). e.0) edit_view edits
 
--- an analysis is that of the workspace before the edits
-pub before_edits : (a : AnalysisData) (edits : List EditedText) (changed : List ℕ) (w : Workspace) → IsKnown a → All (λ e. e.file < length a.paths) edits → changed ≡ map (λ e. e.file) edits
-    → w ≡ with_texts (map edit_view edits) (workspace_in a) → IsBefore a w changed
-before_edits a edits changed w known there numbers are =
-    let old = workspace_in a in
+-- what was known before the edits, of which the files are put over those that were there
+pub before_edits : (o : Outdated) (w new : Workspace) (edits : List EditedText) (changed : List ℕ) → All (λ e. e.file < length w) edits → changed ≡ map (λ e. e.file) edits → new ≡ with_texts (map edit_view edits) w
+    → o.table ≡ all_facts w → o.resolutions.links.items ≡ map (resolution_of w) (enumerate_from 0 w) → o.resolutions.diagnostics.items ≡ map (diagnostics_of w) (enumerate_from 0 w) → WasKnown o new changed
+before_edits o w new edits changed there numbers are table links diagnostics =
     let es = map edit_view edits in
-    let stays : StaysBut (map (λ e. e.0) es) old (with_texts es old) = others_stay es old in
     let files : map (λ e. e.0) es ≡ changed = numbers_are edits ∙ sym numbers in
-    let long : length w ≡ length a.paths = ap length are ∙ length-map (enumerate_from 0 old) (after es) ∙ length-enumerate_from 0 old ∙ sym (ap (λ (x : AnalysisData). length x.paths) known.is ∙ length-map old (λ f. f.0)) in
+    let long : length new ≡ length w = ap length are ∙ length-map (enumerate_from 0 w) (after es) ∙ length-enumerate_from 0 w in
     record {
-      old = old;
-      paths = stays.paths ∙ ap (map (λ f. f.0)) (sym are);
-      within = subst (All (λ f. f < length w)) (sym numbers) (All-map (λ f. f < length w) (λ (e : EditedText). e.file) edits (All-weaker (λ (e : EditedText). e.file < length a.paths) (λ e. e.file < length w) (λ e lt. omega (arith, lt, long)) edits there));
-      others = λ n out. stays.others n (λ has. out (subst (λ fs. Contains fs n) files has)) ∙ ap (λ v. get_or v n ([], [])) (sym are);
-      is = known.is;
+      old = w;
+      stays = subst (λ (v : Workspace). StaysBut changed w v) (sym are) (subst (λ (fs : List ℕ). StaysBut fs w (with_texts es w)) files (others_stay es w));
+      within = subst (All (λ f. f < length new)) (sym numbers) (All-map (λ f. f < length new) (λ (e : EditedText). e.file) edits (All-weaker (λ (e : EditedText). e.file < length w) (λ e. e.file < length new) (λ e lt. omega (arith, lt, long)) edits there));
+      table = table;
+      links = links;
+      diagnostics = diagnostics;
     }
-
--- ---- the pieces of the edited texts
-
--- What is made of an analysis: its parts, its texts with the edits, and pieces of these.
-pub record AreEdited (a : AnalysisData) (edits : List EditedText) (old new : List (List ℕ)) (pieces : List TextAt) : Type 0 where
-  pub known : IsKnown a
-  pub texts : old ≡ a.texts
-  pub edited : (paths : List (List ℕ)) → length paths ≡ length old → zip paths new ≡ with_texts (map edit_view edits) (zip paths old)
-  pub pieces_are : workspace_of pieces ≡ zip a.paths new
-
-pub edited_pieces : (a : AnalysisData) (edits : List EditedText) (old new : List (List ℕ)) (pieces : List TextAt) → AreEdited a edits old new pieces → workspace_of pieces ≡ with_texts (map edit_view edits) (workspace_in a)
-edited_pieces a edits old new pieces are =
-    are.pieces_are ∙ are.edited a.paths (as_many_texts a are.known ∙ sym (ap length are.texts)) ∙ ap (λ (texts : List (List ℕ)). with_texts (map edit_view edits) (zip a.paths texts)) are.texts

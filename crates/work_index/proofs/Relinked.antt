@@ -26,11 +26,13 @@ use Rattle.link_changes.specs.Touched.{decl_after, links_after, Tells}
 use Rattle.work_index.specs.declared.again.Effect.{Effect}
 use Rattle.work_index.specs.declared.again.Effect.TheVariants.{Stay, Move, Relink}
 use Rattle.work_index.specs.declared.again.FileChange.{FileChange}
+use Rattle.work_index.specs.declared.again.Outdated.{Outdated}
 use Rattle.work_index.specs.declared.again.Relinking.{Relinking}
 use Rattle.work_index.specs.declared.analysis.Resolutions.{Resolutions}
-use Rattle.work_index.specs.Changes.{AreLinked, AreLinkedBefore, AreTakenBut, DifferAt, Follows, HasPlaces, IsLinked, IsMoved, StillWait, file_text, links_under, no_links, waiting_under, waits}
+use Rattle.work_index.specs.Changes.{AreLinked, AreLinkedBefore, AreTakenBut, DifferAt, Follows, HasPlaces, IsLinked, IsMoved, StillWait, WasKnown, file_text, links_under, no_links, waiting_under, waits}
+use Rattle.work_index.specs.Edited.{StaysBut}
 use Rattle.work_index.specs.Workspace.{Workspace, all_facts, asked_of, diagnostics_of, merged, named_facts, resolution_of}
-use Rattle.work_index.proofs.Changed.{AreParts, is_put, made, made_at, made_length, nothing, others_stay, paths_stay, same_files}
+use Rattle.work_index.proofs.Changed.{is_put, made, made_at, made_length, nothing, others_stay, paths_stay, same_files}
 
 -- ---- files that wait
 
@@ -237,32 +239,43 @@ outside f n rest apart out has = by has.0 has.1 has.2
     by zero there is = apart (sym is)
     by (suc k) there is = out (k, omega (arith, there), is)
 
--- where the analysis before the changes is known, and the files wait whose text changes, no change is taken
-pub none_taken : (old w : Workspace) (changed : List ℕ) (table : List NamedFacts) (paths : List (List ℕ)) (now : Relinking) → map (λ f. f.0) old ≡ map (λ f. f.0) w → All (λ f. f < length w) changed
-    → ((n : ℕ) → (Contains changed n → ⊥) → get_or old n nothing ≡ get_or w n nothing) → AreParts table paths now.resolutions.links.items now.resolutions.diagnostics.items old
-    → length now.waiting.items ≡ length w → All (λ f. waits now f ≡ true) changed → AreTakenBut changed table w now
-none_taken old w changed table paths now same within others are count wait =
-    subst (λ files. AreTakenBut changed files w now) (sym are.table_is) (record {
-      paths = map-map (λ f. f.path) named_facts old ∙ same;
-      others = λ n there out. facts_in old n (omega (arith, there, long)) ∙ ap (λ f. facts_of f.1) (others n out) ∙ sym (facts_in w n there);
+-- where the workspace before the changes is known, and the files wait whose text changes, no change is taken
+pub none_taken : (o : Outdated) (w : Workspace) (changed : List ℕ) (now : Relinking) (was : WasKnown o w changed) → now.resolutions ≡ o.resolutions → length now.waiting.items ≡ length w → All (λ f. waits now f ≡ true) changed
+    → AreTakenBut changed o.table w now
+none_taken o w changed now was kept count wait =
+    subst (λ files. AreTakenBut changed files w now) (sym was.table) (record {
+      paths = map-map (λ f. f.path) named_facts old ∙ stays.paths;
+      others = λ n there out. facts_in old n (omega (arith, there, long)) ∙ ap (λ f. facts_of f.1) (stays.others n out) ∙ sym (facts_in w n there);
       linked = record {
         count = length-map old named_facts ∙ long;
         places = record {
-          links = ap length are.links_are ∙ made_length (resolution_of old) old ∙ long;
-          diagnostics = ap length are.diagnostics_are ∙ made_length (diagnostics_of old) old ∙ long;
+          links = ap length links_are ∙ made_length (resolution_of old) old ∙ long;
+          diagnostics = ap length diagnostics_are ∙ made_length (diagnostics_of old) old ∙ long;
           waiting = count;
         };
-        own = λ n idle. facts_in old n (there n idle) ∙ ap (λ f. facts_of f.1) (others n (out n idle));
+        own = λ n idle. facts_in old n (there n idle) ∙ ap (λ f. facts_of f.1) (stays.others n (out n idle));
         linked = λ n idle. record {
-          links = ap (λ links. get_or links n no_links) are.links_are ∙ made_at (resolution_of old) old n no_links (there n idle) ∙ ap (λ f. resolution_of old (n, f)) (others n (out n idle));
-          diagnostics = ap (λ diagnostics. get_or diagnostics n []) are.diagnostics_are ∙ made_at (diagnostics_of old) old n [] (there n idle) ∙ ap (λ f. diagnostics_of old (n, f)) (others n (out n idle));
+          links = ap (λ links. get_or links n no_links) links_are ∙ made_at (resolution_of old) old n no_links (there n idle) ∙ ap (λ f. resolution_of old (n, f)) (stays.others n (out n idle));
+          diagnostics = ap (λ diagnostics. get_or diagnostics n []) diagnostics_are ∙ made_at (diagnostics_of old) old n [] (there n idle) ∙ ap (λ f. diagnostics_of old (n, f)) (stays.others n (out n idle));
         };
       };
-      wait = λ k d less. (within k d less, wait k d less);
+      wait = λ k d less. (was.within k d less, wait k d less);
     })
   where
+    old : Workspace
+    old = was.old
+
+    stays : StaysBut changed old w
+    stays = was.stays
+
+    links_are : now.resolutions.links.items ≡ made (resolution_of old) old
+    links_are = ap (λ (r : Resolutions). r.links.items) kept ∙ was.links
+
+    diagnostics_are : now.resolutions.diagnostics.items ≡ made (diagnostics_of old) old
+    diagnostics_are = ap (λ (r : Resolutions). r.diagnostics.items) kept ∙ was.diagnostics
+
     long : length old ≡ length w
-    long = sym (length-map old (λ f. f.0)) ∙ ap length same ∙ length-map w (λ f. f.0)
+    long = sym (length-map old (λ f. f.0)) ∙ ap length stays.paths ∙ length-map w (λ f. f.0)
 
     there : (n : ℕ) → waits now n ≡ false → n < length old
     there n idle = omega (arith, within_waiting now.waiting.items n idle, count, long)

@@ -1,7 +1,7 @@
 -- What is known of a workspace after one file came that none of the others imports.
 use Rattle.std.proofs.Common.{◌≡◌, ◌<◌, ◌≤◌, ◌++◌, ℕ, List, [], Option, Some, length, get_or, map, arith, refl, sym, ap, ap₂, ◌∙◌, subst}
 use Rattle.std.specs.List.{enumerate_from, insert}
-use Rattle.std.proofs.lemmas.List.{length-map, get_or-map}
+use Rattle.std.proofs.lemmas.List.{length-map}
 use Rattle.std.proofs.lemmas.Simd.{map-map}
 use Rattle.file_facts.specs.declared.diagnostic.Diag.{Diag}
 use Rattle.file_facts.specs.Facts.{facts_of}
@@ -51,13 +51,12 @@ module _ (old w : Workspace) (to : List (Option ℕ)) (stayed : Stay old w to) (
       let file : IsSameFile old w g n = stayed g n moves in
       made_at before old g d file.there ∙ same g n moves ∙ sym (made_at after w n d file.here)) (after (k, get_or w k nothing)) (sym (made_at after w k d place_within))
 
-  paths_with_it : insert (map (λ f. f.0) old) k (let file = get_or w k nothing in file.0) ≡ map (λ f. f.0) w
-  paths_with_it =
-      let path : List ℕ × List ℕ → List ℕ = λ f. f.0 in
-      let come = come_to to (length (all_facts old)) (length w) k (map path old) (map path w) comes.came (as_many ∙ sym (length-map old path)) (sym (length-map w path)) in
-      with_one_more to (map path old) (map path w) k come [] (λ g n moves.
+  own_with_it : insert old k (get_or w k nothing) ≡ w
+  own_with_it =
+      let come = come_to to (length (all_facts old)) (length w) k old w comes.came as_many refl in
+      with_one_more to old w k come nothing (λ g n moves.
       let file : IsSameFile old w g n = stayed g n moves in
-      get_or-map path old g nothing [] file.there ∙ ap path file.same ∙ sym (get_or-map path w n nothing [] file.here)) (path (get_or w k nothing)) (sym (get_or-map path w k nothing [] place_within))
+      file.same) (get_or w k nothing) refl
 
   files_with_it : insert (all_facts old) k (named_facts (get_or w k nothing)) ≡ all_facts w
   files_with_it = with_one_that_came old w to stayed k (named_facts (get_or w k nothing)) comes.came refl
@@ -95,30 +94,30 @@ module _ (old w : Workspace) (to : List (Option ℕ)) (stayed : Stay old w to) (
     diagnostics_with_it = with_one_made (diagnostics_of old) (diagnostics_of w) [] stays_diagnosed
 
 -- the parts of an analysis, the links under the new numbers, and among them those of the one that came, which has the number k
-pub record AreWithIt (w : Workspace) (to : List (Option ℕ)) (k : ℕ) (file : List ℕ × List ℕ) (table : List NamedFacts) (paths : List (List ℕ)) (links : List Links) (diagnostics : List (List Diag)) : Type 0 where
+pub record AreWithIt (w : Workspace) (to : List (Option ℕ)) (k : ℕ) (file : List ℕ × List ℕ) (table : List NamedFacts) (files : Workspace) (links : List Links) (diagnostics : List (List Diag)) : Type 0 where
   pub place : k < length w
   pub table_count : k ≤ length table
   pub table_is : insert table k (named_facts file) ≡ all_facts w
-  pub paths_count : k ≤ length paths
-  pub paths_are : insert paths k file.0 ≡ map (λ f. f.0) w
+  pub files_count : k ≤ length files
+  pub files_are : insert files k file ≡ w
   pub links_count : k ≤ length links
   pub links_are : insert (map (links_after (decl_moved to)) links) k (resolution_of w (k, file)) ≡ made (resolution_of w) w
   pub diagnostics_count : k ≤ length diagnostics
   pub diagnostics_are : insert diagnostics k (diagnostics_of w (k, file)) ≡ made (diagnostics_of w) w
   pub nobody : NobodyImports table file.0
 
-pub with_it : (old w : Workspace) (to : List (Option ℕ)) (k : ℕ) (file : List ℕ × List ℕ) (table : List NamedFacts) (paths : List (List ℕ)) (links : List Links) (diagnostics : List (List Diag))
-    → AreParts table paths links diagnostics old → Stay old w to → ComesUnimported (all_facts old) w to k → get_or w k nothing ≡ file → MovedLaw → ArrivalLaw
-    → AreWithIt w to k file table paths links diagnostics
-with_it old w to k file table paths links diagnostics of stayed comes at moved_law arrival_law =
+pub with_it : (old w : Workspace) (to : List (Option ℕ)) (k : ℕ) (file : List ℕ × List ℕ) (table : List NamedFacts) (files : Workspace) (links : List Links) (diagnostics : List (List Diag))
+    → AreParts table files links diagnostics old → Stay old w to → ComesUnimported (all_facts old) w to k → get_or w k nothing ≡ file → MovedLaw → ArrivalLaw
+    → AreWithIt w to k file table files links diagnostics
+with_it old w to k file table files links diagnostics of stayed comes at moved_law arrival_law =
     let come = comes.came in
     let long : length (all_facts old) ≡ length old = length-map old named_facts in
     record {
       place = place_within old w to stayed k comes;
       table_count = omega (arith, come.within, ap length of.table_is);
       table_is = ap₂ (λ (files : List NamedFacts) (f : List ℕ × List ℕ). insert files k (named_facts f)) of.table_is (sym at) ∙ files_with_it old w to stayed k comes;
-      paths_count = omega (arith, come.within, long, ap length of.paths_are, length-map old (λ f. f.0));
-      paths_are = ap₂ (λ (ps : List (List ℕ)) (f : List ℕ × List ℕ). insert ps k f.0) of.paths_are (sym at) ∙ paths_with_it old w to stayed k comes;
+      files_count = omega (arith, come.within, long, ap length of.files_are);
+      files_are = ap₂ (λ (fs : Workspace) (f : List ℕ × List ℕ). insert fs k f) of.files_are (sym at) ∙ own_with_it old w to stayed k comes;
       links_count = omega (arith, come.within, long, ap length of.links_are, made_length (resolution_of old) old);
       links_are = ap₂ (λ (ls : List Links) (f : List ℕ × List ℕ). insert (map (links_after (decl_moved to)) ls) k (resolution_of w (k, f))) of.links_are (sym at) ∙ links_with_it old w to stayed k comes moved_law arrival_law;
       diagnostics_count = omega (arith, come.within, long, ap length of.diagnostics_are, made_length (diagnostics_of old) old);

@@ -1,5 +1,6 @@
 -- Changes of the texts of files.
 use Rattle.std.specs.Prelude.{◌≡◌, ◌≢◌, ◌<◌, ℕ, List, [], Bool, true, false, Some, All, Contains, length, map, slice_index_or, slice_set, IfSome, MatchOption, ⊤}
+use Rattle.std.specs.List.{enumerate_from}
 use Rattle.syntax_tree.specs.Read.{value_tree}
 use Rattle.file_facts.specs.Facts.{facts_of}
 use Rattle.file_facts.specs.declared.named_facts.NamedFacts.{NamedFacts}
@@ -20,11 +21,11 @@ use Rattle.work_index.specs.declared.again.Effect.{Effect}
 use Rattle.work_index.specs.declared.again.Effect.TheVariants.{Stay, Move, Relink}
 use Rattle.work_index.specs.declared.again.Told.{Told}
 use Rattle.work_index.specs.declared.again.FileChange.{FileChange}
+use Rattle.work_index.specs.declared.again.Outdated.{Outdated}
 use Rattle.work_index.specs.declared.again.Relinking.{Relinking}
 use Rattle.work_index.specs.declared.analysis.Resolutions.{Resolutions}
-use Rattle.piece_collector.specs.Views.{TextAt}
-use Rattle.work_index.specs.Pieces.{texts_of}
-use Rattle.work_index.specs.Workspace.{Workspace, AnalysisData, all_facts, analysis, merged}
+use Rattle.work_index.specs.Edited.{StaysBut}
+use Rattle.work_index.specs.Workspace.{Workspace, AnalysisData, all_facts, analysis, diagnostics_of, merged, resolution_of}
 
 -- the analysis is that of the workspace before changes of the texts of these files: there the other files had the texts that they have
 pub record IsBefore (a : AnalysisData) (w : Workspace) (files : List ℕ) : Type 0 where
@@ -33,6 +34,15 @@ pub record IsBefore (a : AnalysisData) (w : Workspace) (files : List ℕ) : Type
   pub within : All (λ f. f < length w) files
   pub others : (n : ℕ) → (Contains files n → ⊥) → slice_index_or old n ([], []) ≡ slice_index_or w n ([], [])
   pub is : a ≡ analysis old
+
+-- what was known of the workspace before changes of the texts of these files, and is kept
+pub record WasKnown (o : Outdated) (w : Workspace) (files : List ℕ) : Type 0 where
+  pub old : Workspace
+  pub stays : StaysBut files old w
+  pub within : All (λ f. f < length w) files
+  pub table : o.table ≡ all_facts old
+  pub links : o.resolutions.links.items ≡ map (resolution_of old) (enumerate_from 0 old)
+  pub diagnostics : o.resolutions.diagnostics.items ≡ map (diagnostics_of old) (enumerate_from 0 old)
 
 -- ---- a change of one file
 
@@ -129,9 +139,9 @@ pub record AreTakenBut (rest : List ℕ) (files : List NamedFacts) (w : Workspac
   pub linked : AreLinked files w now
   pub wait : All (λ f. (f < length w) × (waits now f ≡ true)) rest
 
--- ---- the texts that are kept
+-- ---- the files that are kept
 
--- there are as many texts as pieces, and those of other files than these are the pieces'
-pub record AreKeptBut (rest : List ℕ) (kept : List (List ℕ)) (pieces : List TextAt) : Type 0 where
-  pub count : length kept ≡ length pieces
-  pub others : (n : ℕ) → (Contains rest n → ⊥) → slice_index_or kept n [] ≡ slice_index_or (texts_of pieces) n []
+-- there are as many files as in the workspace, and others than these are the same
+pub record AreKeptBut (rest : List ℕ) (kept w : Workspace) : Type 0 where
+  pub count : length kept ≡ length w
+  pub others : (n : ℕ) → (Contains rest n → ⊥) → slice_index_or kept n ([], []) ≡ slice_index_or w n ([], [])

@@ -5,7 +5,3 @@ use Rattle.work_index.specs.Workspace.{Workspace}
 
 abbrev pub workspace_of : List TextAt → Workspace
 workspace_of pieces = map (λ p. (p.path, p.text)) pieces
-
--- their texts
-abbrev pub texts_of : List TextAt → List (List ℕ)
-texts_of pieces = map (λ p. p.text) pieces

@@ -11,7 +11,7 @@ ghost use Rattle.work_index.specs.Pieces.{workspace_of};
 ghost use Rattle.work_index.specs.Stayed.{AreNumbersBefore, HasMoved, IsAmong, IsEarlier};
 ghost use Rattle.work_index.specs.Workspace.{all_facts, analysis, diagnostics_of, resolution_of};
 
-use crate::analyse::{paths_of, push_found, resolution_of, texts_of};
+use crate::analyse::{files_of, push_found, resolution_of};
 use crate::analysis::{Analysis, Resolutions};
 use crate::file_work::FileWork;
 use crate::moved_table::table_after;
@@ -159,7 +159,6 @@ pub fn analyse_after(
         ..
     } = earlier;
     let (table, graph) = table_after(alloc, known, to, pieces)?;
-    let paths = paths_of(alloc, pieces)?;
     let before = numbers_before(alloc, to, pieces.len())?;
     let earlier_files = Earlier {
         graph,
@@ -173,11 +172,10 @@ pub fn analyse_after(
         before.as_slice(),
         pieces,
     )?;
-    let texts = texts_of(alloc, pieces)?;
+    let files = files_of(alloc, pieces)?;
     Ok(Analysis {
         table,
-        paths,
-        texts,
+        files,
         resolutions,
     })
 }

@@ -1,6 +1,7 @@
 // The analysis of a workspace after changes of the texts of some files.
 ghost use Rattle.std.specs.Prelude.{◌≡◌, ◌<◌, List, All, Some, true, false, length, map, slice_index_or, slice_set, IfOk, IfSome, MatchOption, OnOk, IsTrue};
-ghost use Rattle.std.specs.List.{enumerate_from};
+ghost use Rattle.std.specs.List.{enumerate_from, slice_get};
+ghost use Rattle.syntax_tree.specs.Read.{value_tree};
 ghost use Rattle.file_facts.specs.declared.named_facts.NamedFacts.{NamedFacts};
 ghost use Rattle.import_graph.specs.Closures.{seers_of, view_of};
 ghost use Rattle.import_graph.specs.Imports.{graph_of};
@@ -12,19 +13,20 @@ ghost use Rattle.proto_resolve.specs.Seen.{SeenLaw};
 ghost use Rattle.link_changes.specs.Laws.{TouchedLaw};
 ghost use Rattle.link_changes.specs.Touched.{decl_after, links_after};
 ghost use Rattle.work_index.specs.declared.again.FileChange.{FileChange};
-ghost use Rattle.work_index.specs.Changes.{AreKeptBut, AreLinked, AreLinkedBefore, AreTakenBut, DifferAt, Follows, IsBefore, IsSpared, StillWait, links_under, waiting_under, waits};
-ghost use Rattle.work_index.specs.Pieces.{texts_of, workspace_of};
+ghost use Rattle.work_index.specs.Changes.{AreKeptBut, AreLinked, AreLinkedBefore, AreTakenBut, DifferAt, Follows, IsBefore, IsSpared, StillWait, links_under, waiting_under, waits, WasKnown};
+ghost use Rattle.work_index.specs.Pieces.{workspace_of};
 ghost use Rattle.work_index.specs.Workspace.{Workspace, all_facts, analysis, diagnostics_of, resolution_of};
 
-use crate::analyse::{diagnostics_of, resolution_of};
+use crate::analyse::diagnostics_of;
 use crate::analysis::{Analysis, Resolutions};
-use crate::file_work::{FileWork, asked_in, shared_in, shared_text_in};
-use file_facts::FileFacts;
+use crate::file_work::{FileWork, tree_in, tree_of};
+use crate::source_file::SourceFile;
 use import_graph::{FileNo, Graph, SharedFacts, same_outlook};
 use link_changes::{Asked, Renumbering, Touched, renumber, touched_law};
-use piece_collector::{Piece, SharedText};
-use proto_resolve::{Index, Links, ListedTable, Table, same_exports, same_imports, seen_law};
+use piece_collector::Piece;
+use proto_resolve::{Index, Links, ListedTable, Table, resolve_file, same_exports, same_imports, seen_law};
 use std::alloc::{AllocError, Global};
+use syntax_tree::FileTree;
 
 // What a change of one file's text may change for the other files.
 #[derive(Drop)]
@@ -55,6 +57,13 @@ enum Effect {
     Move(Renumbering),
     // The file has to be linked again.
     Relink,
+}
+
+// What was known of a workspace, but for its files, before changes of the texts of some.
+#[derive(Drop)]
+pub struct Outdated {
+    pub table: ListedTable,
+    pub resolutions: Resolutions,
 }
 
 // What is linked while changes are taken one after the other.
@@ -129,25 +138,54 @@ fn effect_on(
     }
 }
 
-// Links a file again.
+// Links a file again, of which this is the tree.
 fn set_linked(
     alloc: Global,
     table: &Table,
     file: usize,
-    piece: &Piece<FileWork>,
+    source: &SourceFile,
+    tree: &FileTree,
     resolutions: &mut Resolutions,
 ) -> Result<(), AllocError>
     requires file { file < length table.now }
+    requires tree { tree.now ≡ value_tree source.now.1 }
     requires links { file < length resolutions.old.links.items }
     requires diagnostics { file < length resolutions.old.diagnostics.items }
-    ensures links { (w : Workspace) → table.now ≡ all_facts w → OnOk result (resolutions.new.links.items ≡ slice_set resolutions.old.links.items file (resolution_of w (file, (piece.now.path, piece.now.text)))) }
-    ensures diagnostics { (w : Workspace) → table.now ≡ all_facts w → OnOk result (resolutions.new.diagnostics.items ≡ slice_set resolutions.old.diagnostics.items file (diagnostics_of w (file, (piece.now.path, piece.now.text)))) }
+    ensures links { (w : Workspace) → table.now ≡ all_facts w → OnOk result (resolutions.new.links.items ≡ slice_set resolutions.old.links.items file (resolution_of w (file, source.now))) }
+    ensures diagnostics { (w : Workspace) → table.now ≡ all_facts w → OnOk result (resolutions.new.diagnostics.items ≡ slice_set resolutions.old.diagnostics.items file (diagnostics_of w (file, source.now))) }
 {
-    let found = resolution_of(alloc, table, file, piece)?;
-    let diagnostics = diagnostics_of(alloc, piece, &found)?;
+    let found = resolve_file(alloc, table, file, source.text(), tree)?;
+    let diagnostics = diagnostics_of(alloc, source.facts().get(), &found)?;
     resolutions.diagnostics[file] = diagnostics;
     resolutions.links[file] = found;
     Ok(())
+}
+
+// The same, with the tree of its piece, or with one that is made again where no pieces are at hand.
+fn link_again(
+    alloc: Global,
+    table: &Table,
+    file: usize,
+    source: &SourceFile,
+    pieces: Option<&[Piece<FileWork>]>,
+    resolutions: &mut Resolutions,
+) -> Result<(), AllocError>
+    requires file { file < length table.now }
+    requires piece { IfSome pieces (λ pieces. slice_get (workspace_of pieces.now) file ≡ Some source.now) }
+    requires links { file < length resolutions.old.links.items }
+    requires diagnostics { file < length resolutions.old.diagnostics.items }
+    ensures links { (w : Workspace) → table.now ≡ all_facts w → OnOk result (resolutions.new.links.items ≡ slice_set resolutions.old.links.items file (resolution_of w (file, source.now))) }
+    ensures diagnostics { (w : Workspace) → table.now ≡ all_facts w → OnOk result (resolutions.new.diagnostics.items ≡ slice_set resolutions.old.diagnostics.items file (diagnostics_of w (file, source.now))) }
+{
+    match pieces {
+        Some(pieces) => {
+            set_linked(alloc, table, file, source, tree_in(&pieces[file]), resolutions)
+        }
+        None => {
+            let tree = tree_of(alloc, source.text())?;
+            set_linked(alloc, table, file, source, &tree, resolutions)
+        }
+    }
 }
 
 // Gives the links of a file the numbers that declarations have now.
@@ -179,41 +217,39 @@ fn take_effect(effect: Effect, file: usize, relinking: &mut Relinking)
 fn follow(
     table: &Table,
     change: &FileChange,
-    pieces: &[Piece<FileWork>],
+    files: &[SourceFile],
     relinking: &mut Relinking,
 ) -> Result<(), AllocError>
-    requires before { AreLinkedBefore table.now change.now (workspace_of pieces.now) relinking.old }
+    requires before { AreLinkedBefore table.now change.now files.now relinking.old }
     requires seen_law { SeenLaw }
     requires touched_law { TouchedLaw }
-    ensures linked { OnOk result (AreLinked table.now (workspace_of pieces.now) relinking.new) }
+    ensures linked { OnOk result (AreLinked table.now files.now relinking.new) }
     ensures wait { OnOk result (StillWait relinking.old relinking.new) }
 {
-    for (file, piece) in pieces.iter().enumerate() {
+    for (file, source) in files.iter().enumerate() {
         if !relinking.waiting[file] {
-            let effect = effect_on(table, change, file, asked_in(piece))?;
+            let effect = effect_on(table, change, file, source.asked())?;
             take_effect(effect, file, relinking);
         }
     }
     Ok(())
 }
 
-// The table after the change, from the one before; and the graph before, where the imports may say another thing now. The file's names
-// are put in order again where it may say another thing of imports or to the files that see it.
+// The table after the change to these facts, from the one before; and the graph before, where the imports may say another thing now. The
+// file's names are put in order again where it may say another thing of imports or to the files that see it.
 fn table_after(
     alloc: Global,
     table: ListedTable,
     changed: usize,
     differences: Differences,
-    pieces: &[Piece<FileWork>],
+    facts: SharedFacts,
 ) -> Result<(ListedTable, Option<Graph>), AllocError>
     requires within { changed < length table }
-    requires piece { changed < length pieces.now }
-    requires imports { differences.imports ≡ false → import_outline (facts_at (all_facts (workspace_of pieces.now)) changed) ≡ import_outline (facts_at table changed) }
-    requires quiet { differences.exports ≡ false → exports (facts_at (all_facts (workspace_of pieces.now)) changed) ≡ exports (facts_at table changed) }
-    ensures table { IfOk result (λ after. after.0 ≡ with_facts table changed (facts_at (all_facts (workspace_of pieces.now)) changed)) }
+    requires imports { differences.imports ≡ false → import_outline facts ≡ import_outline (facts_at table changed) }
+    requires quiet { differences.exports ≡ false → exports facts ≡ exports (facts_at table changed) }
+    ensures table { IfOk result (λ after. after.0 ≡ with_facts table changed facts) }
     ensures graph { IfOk result (λ after. MatchOption after.1 (differences.imports ≡ false) (λ graph. graph ≡ graph_of table)) }
 {
-    let facts = shared_at(pieces, changed).another()?;
     if differences.imports {
         let (table, before) = table.replace_facts(alloc, changed, facts)?;
         return Ok((table, Some(before)));
@@ -243,20 +279,12 @@ fn told_by(
     Ok(Some(Told { seers, touched }))
 }
 
-// The facts of a piece, as what shares them.
-fn shared_at<'p>(pieces: &'p [Piece<FileWork>], file: usize) -> &'p SharedFacts
-    requires { file < length pieces.now }
-    ensures { result.now ≡ facts_at (all_facts (workspace_of pieces.now)) file }
+// The facts of a file.
+fn facts_at(files: &[SourceFile], file: usize) -> &SharedFacts
+    requires { file < length files.now }
+    ensures { result.now ≡ facts_at (all_facts files.now) file }
 {
-    shared_in(&pieces[file])
-}
-
-// The facts of a piece.
-fn facts_at<'p>(pieces: &'p [Piece<FileWork>], file: usize) -> &'p FileFacts
-    requires { file < length pieces.now }
-    ensures { result.now ≡ facts_at (all_facts (workspace_of pieces.now)) file }
-{
-    shared_at(pieces, file).get()
+    files[file].facts()
 }
 
 // The table after one more change, of a file that waits. The links of the files that don't wait are brought up to it.
@@ -264,31 +292,33 @@ fn take_change(
     alloc: Global,
     table: ListedTable,
     changed: FileNo,
-    pieces: &[Piece<FileWork>],
+    files: &[SourceFile],
     relinking: &mut Relinking,
 ) -> Result<ListedTable, AllocError>
-    requires within { changed < length pieces.now }
+    requires within { changed < length files.now }
     requires waits { waits relinking.old changed ≡ true }
-    requires linked { AreLinked table (workspace_of pieces.now) relinking.old }
+    requires linked { AreLinked table files.now relinking.old }
     requires seen_law { SeenLaw }
     requires touched_law { TouchedLaw }
-    ensures table { IfOk result (λ after. after ≡ with_facts table changed (facts_at (all_facts (workspace_of pieces.now)) changed)) }
-    ensures linked { IfOk result (λ after. AreLinked after (workspace_of pieces.now) relinking.new) }
+    ensures table { IfOk result (λ after. after ≡ with_facts table changed (facts_at (all_facts files.now) changed)) }
+    ensures linked { IfOk result (λ after. AreLinked after files.now relinking.new) }
     ensures wait { OnOk result (StillWait relinking.old relinking.new) }
 {
-    let facts = facts_at(pieces, changed);
+    let shared = facts_at(files, changed);
+    let facts = shared.get();
     let imports = !same_imports(facts, table.table().facts(changed));
     let exports = !same_exports(facts, table.table().facts(changed));
     let touched = Touched::of(alloc, changed, table.table().facts(changed), facts)?;
     let differences = Differences { imports, exports };
-    let (table, before) = table_after(alloc, table, changed, differences, pieces)?;
+    let other = shared.another()?;
+    let (table, before) = table_after(alloc, table, changed, differences, other)?;
     let told = told_by(table.table(), changed, exports, touched)?;
     let change = FileChange {
         file: changed,
         told,
         before,
     };
-    follow(table.table(), &change, pieces, relinking)?;
+    follow(table.table(), &change, files, relinking)?;
     Ok(table)
 }
 
@@ -297,18 +327,18 @@ fn take_changes(
     alloc: Global,
     table: ListedTable,
     changed: &[FileNo],
-    pieces: &[Piece<FileWork>],
+    files: &[SourceFile],
     relinking: &mut Relinking,
 ) -> Result<ListedTable, AllocError>
-    requires before { AreTakenBut changed.now table (workspace_of pieces.now) relinking.old }
+    requires before { AreTakenBut changed.now table files.now relinking.old }
     requires seen_law { SeenLaw }
     requires touched_law { TouchedLaw }
-    ensures table { IfOk result (λ after. after ≡ all_facts (workspace_of pieces.now)) }
-    ensures linked { IfOk result (λ after. AreLinked after (workspace_of pieces.now) relinking.new) }
+    ensures table { IfOk result (λ after. after ≡ all_facts files.now) }
+    ensures linked { IfOk result (λ after. AreLinked after files.now relinking.new) }
 {
     let mut table = table;
     for file in changed {
-        table = take_change(alloc, table, *file, pieces, relinking)?;
+        table = take_change(alloc, table, *file, files, relinking)?;
     }
     Ok(table)
 }
@@ -330,41 +360,74 @@ fn waiting_of(alloc: Global, count: usize, changed: &[FileNo]) -> Result<Vec<boo
 fn link_waiting(
     alloc: Global,
     table: &Table,
-    pieces: &[Piece<FileWork>],
+    files: &[SourceFile],
+    pieces: Option<&[Piece<FileWork>]>,
     relinking: Relinking,
 ) -> Result<Resolutions, AllocError>
-    requires table { table.now ≡ all_facts (workspace_of pieces.now) }
-    requires linked { AreLinked table.now (workspace_of pieces.now) relinking }
-    ensures links { IfOk result (λ found. found.links.items ≡ map (resolution_of (workspace_of pieces.now)) (enumerate_from 0 (workspace_of pieces.now))) }
-    ensures diagnostics { IfOk result (λ found. found.diagnostics.items ≡ map (diagnostics_of (workspace_of pieces.now)) (enumerate_from 0 (workspace_of pieces.now))) }
+    requires table { table.now ≡ all_facts files.now }
+    requires linked { AreLinked table.now files.now relinking }
+    requires pieces { IfSome pieces (λ pieces. workspace_of pieces.now ≡ files.now) }
+    ensures links { IfOk result (λ found. found.links.items ≡ map (resolution_of files.now) (enumerate_from 0 files.now)) }
+    ensures diagnostics { IfOk result (λ found. found.diagnostics.items ≡ map (diagnostics_of files.now) (enumerate_from 0 files.now)) }
 {
     let Relinking {
         mut resolutions,
         waiting,
     } = relinking;
-    for (file, piece) in pieces.iter().enumerate() {
+    for (file, source) in files.iter().enumerate() {
         if waiting[file] {
-            set_linked(alloc, table, file, piece, &mut resolutions)?;
+            link_again(alloc, table, file, source, pieces, &mut resolutions)?;
         }
     }
     Ok(resolutions)
 }
 
-// The texts of all pieces, from those before changes of some files: the others stay.
-fn keep_changed(
-    texts: Vec<SharedText>,
+/// The analysis of these files, made of what was known before changes of the texts of some. The pieces are those of all files, if
+/// they are at hand.
+pub fn bring_up(
+    alloc: Global,
+    outdated: Outdated,
+    changed: &[FileNo],
+    files: Vec<SourceFile>,
+    pieces: Option<&[Piece<FileWork>]>,
+) -> Result<Analysis, AllocError>
+    requires known { WasKnown outdated files.items changed.now }
+    requires pieces { IfSome pieces (λ pieces. workspace_of pieces.now ≡ files.items) }
+    ensures { IfOk result (λ found. found ≡ analysis files.items) }
+{
+    seen_law();
+    touched_law();
+    let Outdated { table, resolutions } = outdated;
+    let waiting = waiting_of(alloc, files.len(), changed)?;
+    let mut relinking = Relinking {
+        resolutions,
+        waiting,
+    };
+    let table = take_changes(alloc, table, changed, files.as_slice(), &mut relinking)?;
+    let resolutions = link_waiting(alloc, table.table(), files.as_slice(), pieces, relinking)?;
+    Ok(Analysis {
+        table,
+        files,
+        resolutions,
+    })
+}
+
+// The files of all pieces, from those before changes of the texts of some: the others stay.
+fn with_changed(
+    alloc: Global,
+    files: Vec<SourceFile>,
     changed: &[FileNo],
     pieces: &[Piece<FileWork>],
-) -> Result<Vec<SharedText>, AllocError>
+) -> Result<Vec<SourceFile>, AllocError>
     requires within { All (λ f. f < length pieces.now) changed.now }
-    requires kept { AreKeptBut changed.now texts.items pieces.now }
-    ensures { IfOk result (λ all. all.items ≡ texts_of pieces.now) }
+    requires kept { AreKeptBut changed.now files.items (workspace_of pieces.now) }
+    ensures { IfOk result (λ all. all.items ≡ workspace_of pieces.now) }
 {
-    let mut kept = texts;
+    let mut files = files;
     for file in changed {
-        kept[*file] = shared_text_in(&pieces[*file])?;
+        files[*file] = SourceFile::of(alloc, &pieces[*file])?;
     }
-    Ok(kept)
+    Ok(files)
 }
 
 /// The analysis of the workspace of some pieces, which are in the order of their paths, no path twice, after changes of the texts
@@ -380,26 +443,12 @@ pub fn analyse_again(
     requires { IsBefore earlier (workspace_of pieces.now) changed.now }
     ensures { IfOk result (λ found. found ≡ analysis (workspace_of pieces.now)) }
 {
-    seen_law();
-    touched_law();
     let Analysis {
         table,
-        paths,
-        texts,
+        files,
         resolutions,
     } = earlier;
-    let waiting = waiting_of(alloc, pieces.len(), changed)?;
-    let mut relinking = Relinking {
-        resolutions,
-        waiting,
-    };
-    let table = take_changes(alloc, table, changed, pieces, &mut relinking)?;
-    let resolutions = link_waiting(alloc, table.table(), pieces, relinking)?;
-    let texts = keep_changed(texts, changed, pieces)?;
-    Ok(Analysis {
-        table,
-        paths,
-        texts,
-        resolutions,
-    })
+    let files = with_changed(alloc, files, changed, pieces)?;
+    let outdated = Outdated { table, resolutions };
+    bring_up(alloc, outdated, changed, files, Some(pieces))
 }

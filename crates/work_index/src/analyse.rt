@@ -1,19 +1,20 @@
 // The analysis of a workspace.
-ghost use Rattle.std.specs.Prelude.{◌≡◌, ◌<◌, ◌++◌, [], ◌∷◌, length, map, IfOk, OnOk};
+ghost use Rattle.std.specs.Prelude.{◌≡◌, ◌<◌, ◌++◌, ℕ, List, [], ◌∷◌, length, map, IfOk, OnOk};
 ghost use Rattle.std.specs.List.{enumerate_from};
 ghost use Rattle.file_facts.specs.Facts.{facts_of};
 ghost use Rattle.piece_collector.specs.Board.{Ascends};
-ghost use Rattle.work_index.specs.Pieces.{texts_of, workspace_of};
+ghost use Rattle.work_index.specs.Pieces.{workspace_of};
 ghost use Rattle.work_index.specs.Shares.{AreNumbersIn};
 ghost use Rattle.work_index.specs.Workspace.{Workspace, all_facts, analysis, resolution_of, merged, diagnostics_of};
 
 use crate::analysis::{Analysis, Resolutions};
-use crate::file_work::{FileWork, facts_in, shared_text_in, tree_in};
+use crate::file_work::{FileWork, facts_in, tree_in};
 use crate::gate::{Gate, OpenGate};
 use crate::room::make_room;
+use crate::source_file::SourceFile;
 use crate::table_of::listed_table_of;
-use file_facts::{Diag, Name, in_order};
-use piece_collector::{Piece, SharedText};
+use file_facts::{Diag, FileFacts, Name, in_order};
+use piece_collector::Piece;
 use proto_resolve::{Links, Table, resolve_file};
 use sqlite_items::Items;
 use std::alloc::{AllocError, Global};
@@ -24,27 +25,20 @@ pub fn paths_of(alloc: Global, pieces: &[Piece<FileWork>]) -> Result<Vec<Name>, 
 {
     let mut paths = Vec::new(alloc);
     for piece in pieces {
-        paths.push(path_of(alloc, piece)?)?;
+        paths.push(Name::of(String::from_str(alloc, piece.path())?))?;
     }
     Ok(paths)
 }
 
-// The path of a piece.
-pub fn path_of(alloc: Global, piece: &Piece<FileWork>) -> Result<Name, AllocError>
-    ensures { IfOk result (λ path. path ≡ piece.now.path) }
+// The files of pieces.
+pub fn files_of(alloc: Global, pieces: &[Piece<FileWork>]) -> Result<Vec<SourceFile>, AllocError>
+    ensures { IfOk result (λ files. files.items ≡ workspace_of pieces.now) }
 {
-    Ok(Name::of(String::from_str(alloc, piece.path())?))
-}
-
-// The texts of pieces for another owner.
-pub fn texts_of(alloc: Global, pieces: &[Piece<FileWork>]) -> Result<Vec<SharedText>, AllocError>
-    ensures { IfOk result (λ texts. texts.items ≡ texts_of pieces.now) }
-{
-    let mut texts = Vec::with_capacity(alloc, pieces.len())?;
+    let mut files = Vec::with_capacity(alloc, pieces.len())?;
     for piece in pieces {
-        texts.push(shared_text_in(piece)?)?;
+        files.push(SourceFile::of(alloc, piece)?)?;
     }
-    Ok(texts)
+    Ok(files)
 }
 
 // What the names of a file of the table mean, and what is wrong in it by what it sees.
@@ -60,15 +54,15 @@ pub fn resolution_of(
     resolve_file(alloc, table, file, piece.text(), tree_in(piece))
 }
 
-// All that is wrong in a file, by itself and by what it sees.
+// All that is wrong in a file with these facts, which are those of a text, by itself and by what it sees.
 pub fn diagnostics_of(
     alloc: Global,
-    piece: &Piece<FileWork>,
+    facts: &FileFacts,
     links: &Links,
 ) -> Result<Items<Diag>, AllocError>
-    ensures { IfOk result (λ diags. diags ≡ merged (facts_of piece.now.text) links.now) }
+    ensures { (text : List ℕ) → facts.now ≡ facts_of text → IfOk result (λ diags. diags ≡ merged (facts_of text) links.now) }
 {
-    let mut found = Items::from_slice(alloc, facts_in(piece).diags.as_slice())?;
+    let mut found = Items::from_slice(alloc, facts.diags.as_slice())?;
     if links.diags.is_empty() {
         // Those of the file by itself are in order.
         return Ok(found);
@@ -89,7 +83,7 @@ pub fn push_found(
     ensures links { OnOk result (resolutions.new.links.items ≡ resolutions.old.links.items ++ found ∷ []) }
     ensures diagnostics { OnOk result (resolutions.new.diagnostics.items ≡ resolutions.old.diagnostics.items ++ merged (facts_of piece.now.text) found ∷ []) }
 {
-    let diagnostics = diagnostics_of(alloc, piece, &found)?;
+    let diagnostics = diagnostics_of(alloc, facts_in(piece), &found)?;
     resolutions.diagnostics.push(diagnostics)?;
     resolutions.links.push(found)?;
     Ok(())
@@ -147,7 +141,7 @@ fn push_diagnosed(
     ensures { (w : Workspace) → table.now ≡ all_facts w → OnOk result (diagnostics.new.items ≡ diagnostics.old.items ++ diagnostics_of w (file, (piece.now.path, piece.now.text)) ∷ []) }
 {
     let found = resolution_of(alloc, table, file, piece)?;
-    diagnostics.push(diagnostics_of(alloc, piece, &found)?)?;
+    diagnostics.push(diagnostics_of(alloc, facts_in(piece), &found)?)?;
     Ok(())
 }
 
@@ -180,13 +174,11 @@ pub fn analyse_here(alloc: Global, pieces: &[Piece<FileWork>]) -> Result<Analysi
     ensures { IfOk result (λ found. found ≡ analysis (workspace_of pieces.now)) }
 {
     let table = listed_table_of(alloc, pieces)?;
-    let paths = paths_of(alloc, pieces)?;
+    let files = files_of(alloc, pieces)?;
     let resolutions = link_files(alloc, table.table(), 0, pieces, &OpenGate)?;
-    let texts = texts_of(alloc, pieces)?;
     Ok(Analysis {
         table,
-        paths,
-        texts,
+        files,
         resolutions,
     })
 }

@@ -2,9 +2,9 @@
 ghost use Rattle.std.specs.Prelude.{◌≡◌, ◌<◌, ◌↔◌, [], length, Some, None, bytes_eq, position, slice_index_or, IfOk, IsFalse};
 ghost use Rattle.work_index.specs.Arrivals.{NoneImports};
 
-use file_facts::{Diag, FileFacts, Name};
+use crate::source_file::SourceFile;
+use file_facts::{Diag, FileFacts};
 use import_graph::FileNo;
-use piece_collector::SharedText;
 use proto_resolve::{DeclRef, Index, Links, ListedTable};
 use sqlite_items::Items;
 use std::alloc::{AllocError, Global};
@@ -17,8 +17,7 @@ use std::marker::Model;
 #[derive(Drop)]
 pub struct Analysis {
     pub(crate) table: ListedTable,
-    pub(crate) paths: Vec<Name>,
-    pub(crate) texts: Vec<SharedText>,
+    pub(crate) files: Vec<SourceFile>,
     pub(crate) resolutions: Resolutions,
 }
 
@@ -51,26 +50,15 @@ fn copy_diagnostics(alloc: Global, all: &[Items<Diag>]) -> Result<Vec<Items<Diag
     Ok(copies)
 }
 
-// Once more the paths of the files.
-fn copy_paths(alloc: Global, all: &[Name]) -> Result<Vec<Name>, AllocError>
+// Once more the files.
+fn copy_files(alloc: Global, all: &[SourceFile]) -> Result<Vec<SourceFile>, AllocError>
     ensures { IfOk result (λ copies. copies.items ≡ all.now) }
 {
     let mut copies = Vec::with_capacity(alloc, all.len())?;
-    for path in all {
-        copies.push(path.copy(alloc)?)?;
+    for file in all {
+        copies.push(file.another(alloc)?)?;
     }
     Ok(copies)
-}
-
-// The same texts for another owner.
-pub fn share_texts(alloc: Global, all: &[SharedText]) -> Result<Vec<SharedText>, AllocError>
-    ensures { IfOk result (λ shared. shared.items ≡ all.now) }
-{
-    let mut shared = Vec::with_capacity(alloc, all.len())?;
-    for text in all {
-        shared.push(text.another()?)?;
-    }
-    Ok(shared)
 }
 
 impl Model for Analysis {
@@ -79,20 +67,28 @@ impl Model for Analysis {
 
     ghost Value = { AnalysisData };
 
-    ghost view = { λ a. analysis_with a.table a.paths.items a.texts.items a.resolutions.links.items a.resolutions.diagnostics.items };
+    ghost view = { λ a. analysis_with a.table a.files.items a.resolutions.links.items a.resolutions.diagnostics.items };
 
-    ghost invariant = { λ a. HoldTogether a.table a.paths.items a.texts.items a.resolutions.links.items a.resolutions.diagnostics.items };
+    ghost invariant = { λ a. HoldTogether a.table a.files.items a.resolutions.links.items a.resolutions.diagnostics.items };
 }
 
 impl Analysis {
     ghost use Rattle.std.specs.List.{slice_get};
     ghost use Rattle.work_index.specs.Workspace.{IsKnown, decls_named, diags_at};
 
-    /// The paths of the files, by their bytes.
-    pub fn files(&self) -> &[Name]
-        ensures { result.now ≡ self.now.paths }
+    /// How many files there are.
+    pub fn file_count(&self) -> usize
+        ensures { result ≡ length self.now.paths }
     {
-        self.paths.as_slice()
+        self.files.len()
+    }
+
+    /// The path of a file. The files are in the order of their paths, by their bytes.
+    pub fn path(&self, file: FileNo) -> &str
+        requires { file < length self.now.paths }
+        ensures { slice_get self.now.paths file ≡ Some result.now }
+    {
+        self.files[file].path()
     }
 
     /// The text of a file.
@@ -100,30 +96,28 @@ impl Analysis {
         requires { file < length self.now.paths }
         ensures { slice_get self.now.texts file ≡ Some result.now }
     {
-        self.texts[file].as_str()
+        self.files[file].text()
     }
 
     /// Says that this is the analysis of the workspace of its paths and texts, as each analysis is. Does nothing.
     pub fn known(&self)
         ensures { IsKnown self.now }
     {
-        let _ = &self.paths;
+        let _ = &self.files;
     }
 
-    // The same analysis, in memory of its own but for texts and facts, which it shares. An `Err` comes only where memory was refused.
+    // The same analysis, in memory of its own but for what is known of each text by itself, which it shares. An `Err` comes only where memory was refused.
     pub(crate) fn copy(&self, alloc: Global) -> Result<Analysis, AllocError>
         ensures { IfOk result (λ a. a ≡ self.now) }
     {
         let table = self.table.copy(alloc)?;
-        let paths = copy_paths(alloc, self.paths.as_slice())?;
-        let texts = share_texts(alloc, self.texts.as_slice())?;
+        let files = copy_files(alloc, self.files.as_slice())?;
         let links = copy_links(alloc, self.resolutions.links.as_slice())?;
         let diagnostics = copy_diagnostics(alloc, self.resolutions.diagnostics.as_slice())?;
         let resolutions = Resolutions { links, diagnostics };
         Ok(Analysis {
             table,
-            paths,
-            texts,
+            files,
             resolutions,
         })
     }

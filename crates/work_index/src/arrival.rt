@@ -6,9 +6,10 @@ ghost use Rattle.link_changes.specs.Touched.{links_after};
 ghost use Rattle.work_index.specs.Arrivals.{Arrives, numbers_with};
 ghost use Rattle.work_index.specs.Workspace.{analysis};
 
-use crate::analyse::{diagnostics_of, path_of, resolution_of};
+use crate::analyse::{diagnostics_of, resolution_of};
 use crate::analysis::Analysis;
-use crate::file_work::{FileWork, shared_text_in};
+use crate::file_work::{FileWork, facts_in};
+use crate::source_file::SourceFile;
 use crate::table_of::named_facts;
 use import_graph::{FileNo, arrival_law};
 use link_changes::{move_files, moved_law};
@@ -67,23 +68,20 @@ pub fn analyse_with(
     arrival_law();
     let Analysis {
         table,
-        mut paths,
-        mut texts,
+        mut files,
         mut resolutions,
     } = earlier;
     let at = table.table().place_for(piece.path());
-    make_way(alloc, at, paths.len(), &mut resolutions.links)?;
+    make_way(alloc, at, files.len(), &mut resolutions.links)?;
     let table = table.with_unimported(alloc, at, named_facts(alloc, piece)?)?;
-    paths.insert(at, path_of(alloc, piece)?)?;
-    texts.insert(at, shared_text_in(piece)?)?;
+    files.insert(at, SourceFile::of(alloc, piece)?)?;
     let found = resolution_of(alloc, table.table(), at, piece)?;
-    let diagnostics = diagnostics_of(alloc, piece, &found)?;
+    let diagnostics = diagnostics_of(alloc, facts_in(piece), &found)?;
     resolutions.links.insert(at, found)?;
     resolutions.diagnostics.insert(at, diagnostics)?;
     Ok(Analysis {
         table,
-        paths,
-        texts,
+        files,
         resolutions,
     })
 }

@@ -1,18 +1,16 @@
 // Analyses of texts that are no pieces yet: of a workspace as another one with other texts of some files, and from nothing.
-ghost use Rattle.std.specs.Prelude.{◌≡◌, ◌<◌, ℕ, List, All, length, map, slice_set, IfOk, OnOk, string_bytes};
-ghost use Rattle.std.specs.List.{zip};
+ghost use Rattle.std.specs.Prelude.{◌≡◌, ◌<◌, [], All, length, map, slice_index_or, slice_set, IfOk, OnOk, string_bytes};
 ghost use Rattle.std.specs.Cmp.Lexicographic.{slice_cmp};
 ghost use Rattle.std.specs.List.Sorted.{IsStrictlySortedBy};
 ghost use Rattle.std.specs.Ordering.{nat_cmp};
 ghost use Rattle.work_index.specs.Edited.{edit_view, named_text, with_texts};
-ghost use Rattle.work_index.specs.Pieces.{workspace_of};
 ghost use Rattle.work_index.specs.Workspace.{analysis, workspace_in};
 
-use crate::again::analyse_again;
+use crate::again::{Outdated, bring_up};
 use crate::analyse::analyse_here;
-use crate::analysis::{Analysis, share_texts};
+use crate::analysis::Analysis;
 use crate::file_work::FileWork;
-use file_facts::Name;
+use crate::source_file::SourceFile;
 use import_graph::FileNo;
 use piece_collector::{Job, Piece, SharedText};
 use std::alloc::{AllocError, Global};
@@ -47,30 +45,13 @@ fn piece_of(alloc: Global, path: &str, text: SharedText) -> Result<Piece<FileWor
     }
 }
 
-// What is made of texts, with their paths.
-fn pieces_of(
-    alloc: Global,
-    paths: &[Name],
-    texts: &[SharedText],
-) -> Result<Vec<Piece<FileWork>>, AllocError>
-    requires { length paths.now ≡ length texts.now }
-    ensures { IfOk result (λ pieces. workspace_of pieces.items ≡ zip paths.now texts.now) }
-{
-    let mut pieces = Vec::with_capacity(alloc, paths.len())?;
-    for (file, path) in paths.iter().enumerate() {
-        let text = texts[file].another()?;
-        pieces.push(piece_of(alloc, path.as_str(), text)?)?;
-    }
-    Ok(pieces)
-}
-
 // Gives a file its other text.
-fn edit(alloc: Global, edited: EditedText, texts: &mut Vec<SharedText>) -> Result<(), AllocError>
-    requires { edited.file < length texts.old.items }
-    ensures { OnOk result (texts.new.items ≡ slice_set texts.old.items edited.file (string_bytes edited.text)) }
+fn edit(alloc: Global, edited: EditedText, files: &mut Vec<SourceFile>) -> Result<(), AllocError>
+    requires { edited.file < length files.old.items }
+    ensures { OnOk result (files.new.items ≡ slice_set files.old.items edited.file ((slice_index_or files.old.items edited.file ([], [])).0, string_bytes edited.text)) }
 {
     let EditedText { file, text } = edited;
-    texts[file] = SharedText::shared(alloc, text)?;
+    files[file] = files[file].with_text(alloc, text)?;
     Ok(())
 }
 
@@ -78,15 +59,14 @@ fn edit(alloc: Global, edited: EditedText, texts: &mut Vec<SharedText>) -> Resul
 fn edit_all(
     alloc: Global,
     edits: Vec<EditedText>,
-    texts: &mut Vec<SharedText>,
+    files: &mut Vec<SourceFile>,
 ) -> Result<(), AllocError>
-    requires { All (λ e. e.file < length texts.old.items) edits.items }
-    ensures count { OnOk result (length texts.new.items ≡ length texts.old.items) }
-    ensures edited { OnOk result ((paths : List (List ℕ)) → length paths ≡ length texts.old.items → zip paths texts.new.items ≡ with_texts (map edit_view edits.items) (zip paths texts.old.items)) }
+    requires { All (λ e. e.file < length files.old.items) edits.items }
+    ensures { OnOk result (files.new.items ≡ with_texts (map edit_view edits.items) files.old.items) }
 {
     let mut edits = edits;
     'edits: while let Some(edited) = edits.pop() {
-        edit(alloc, edited, texts)?;
+        edit(alloc, edited, files)?;
     }
     Ok(())
 }
@@ -102,9 +82,9 @@ fn numbers_of(alloc: Global, edits: &[EditedText]) -> Result<Vec<FileNo>, AllocE
     Ok(files)
 }
 
-/// The analysis of a workspace with other texts of some files, from its analysis, which stays as it is. All files are read again; of the links only
-/// those of the edited files are made anew, and of the files that may ask for a name that an edit touches. Of two texts for one file the first counts. An
-/// `Err` comes only where memory was refused.
+/// The analysis of a workspace with other texts of some files, from its analysis, which stays as it is. Those texts are read, and of the links
+/// only those of the edited files are made anew, and of the files that may ask for a name that an edit touches. Of two texts for one file the
+/// first counts. An `Err` comes only where memory was refused.
 pub fn analyse_edited(
     alloc: Global,
     earlier: &Analysis,
@@ -114,15 +94,15 @@ pub fn analyse_edited(
     ensures { IfOk result (λ found. found ≡ analysis (with_texts (map edit_view edits.items) (workspace_in earlier.now))) }
 {
     let changed = numbers_of(alloc, edits.as_slice())?;
-    let mut texts = share_texts(alloc, earlier.texts.as_slice())?;
-    edit_all(alloc, edits, &mut texts)?;
-    let pieces = pieces_of(alloc, earlier.paths.as_slice(), texts.as_slice())?;
-    analyse_again(
-        alloc,
-        earlier.copy(alloc)?,
-        changed.as_slice(),
-        pieces.as_slice(),
-    )
+    let own = earlier.copy(alloc)?;
+    let Analysis {
+        table,
+        mut files,
+        resolutions,
+    } = own;
+    edit_all(alloc, edits, &mut files)?;
+    let outdated = Outdated { table, resolutions };
+    bring_up(alloc, outdated, changed.as_slice(), files, None)
 }
 
 /// The analysis of a workspace of these files, which are in the order of their paths, no path twice. An `Err` comes only where memory was refused.

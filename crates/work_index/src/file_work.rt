@@ -12,7 +12,8 @@ use link_changes::Asked;
 use piece_collector::{Piece, SharedText, Work};
 use proto_facts::facts;
 use proto_syntax::parse_text;
-use std::alloc::{AllocError, Global};
+use std::alloc::{AllocError, AllocFailed, Global};
+use std::sync::Arc;
 use syntax_tree::{FileTree, is_too_long};
 
 /// What is made of a file's text by itself.
@@ -22,8 +23,8 @@ pub struct FileOut {
     pub tree: FileTree,
     /// What the text says by itself.
     pub facts: SharedFacts,
-    /// For which full names the file asks, or more of them.
-    pub asked: Asked,
+    /// For which full names the file asks, or more of them; shared, as the facts are.
+    pub asked: Arc<Asked>,
 }
 
 /// The work on one file: its tokens, its tree and its facts, and for which names it asks.
@@ -88,23 +89,30 @@ impl Work for FileWork {
 
     type Out = FileOut;
 
-    ghost is_product_of = { λ out text. (out.tree ≡ value_tree text) × (out.facts ≡ facts_of text) × (has_all out.asked (asked_of text) ≡ true) };
+    ghost is_product_of = { λ out text. (out.tree ≡ value_tree text) × (out.facts ≡ facts_of text) × (has_all out.asked.value (asked_of text) ≡ true) };
 
     fn work(&self, text: &str) -> Result<FileOut, AllocError> {
         make_room(self.alloc, text.len())?;
         let tree = tree_of(self.alloc, text)?;
         let facts = facts(self.alloc, text, &tree)?;
-        let asked = self.asked(text, &facts, &tree)?;
-        Ok(FileOut {
-            tree,
-            facts: SharedFacts::of(self.alloc, facts)?,
-            asked,
-        })
+        let asked = share(self.alloc, self.asked(text, &facts, &tree)?)?;
+        let facts = SharedFacts::of(self.alloc, facts)?;
+        Ok(FileOut { tree, facts, asked })
+    }
+}
+
+// What is asked for, for several owners.
+fn share(alloc: Global, asked: Asked) -> Result<Arc<Asked>, AllocError>
+    ensures { IfOk result (λ shared. shared.value ≡ asked) }
+{
+    match Arc::new(alloc, asked) {
+        Ok(shared) => Ok(shared),
+        Err(AllocFailed { .. }) => Err(AllocError),
     }
 }
 
 // The tree of a text. A text that is too long has the tree of the empty text.
-fn tree_of(alloc: Global, text: &str) -> Result<FileTree, AllocError>
+pub fn tree_of(alloc: Global, text: &str) -> Result<FileTree, AllocError>
     ensures { IfOk result (λ tree. tree ≡ value_tree text.now) }
 {
     if is_too_long(text) {
@@ -135,9 +143,9 @@ pub fn shared_in(piece: &Piece<FileWork>) -> &SharedFacts
     &piece.out().facts
 }
 
-// For which full names the file of a piece asks.
-pub fn asked_in(piece: &Piece<FileWork>) -> &Asked
-    ensures { has_all result.now (asked_of piece.now.text) ≡ true }
+// For which full names the file of a piece asks, as what shares them.
+pub fn shared_asked_in(piece: &Piece<FileWork>) -> &Arc<Asked>
+    ensures { has_all result.now.value (asked_of piece.now.text) ≡ true }
 {
     &piece.out().asked
 }

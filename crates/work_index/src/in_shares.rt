@@ -7,7 +7,7 @@ ghost use Rattle.work_index.specs.Pieces.{workspace_of};
 ghost use Rattle.work_index.specs.Shares.{pieces_in, AreConsecutive, AreNumbersIn, ArePlacedIn, IsLinkedBy, IsLinkedIn, AreLinkedBy};
 ghost use Rattle.work_index.specs.Workspace.{all_facts, analysis, diagnosis};
 
-use crate::analyse::{paths_of, texts_of};
+use crate::analyse::{files_of, paths_of};
 use crate::analysis::{Analysis, Resolutions};
 use crate::diagnosis::Diagnosis;
 use crate::fault::AnalyseFault;
@@ -187,7 +187,6 @@ pub fn analyse_in_shares<R: Threads + Wait, G: Gate>(
     ensures analysis { IfOk result (λ r. r.1 ≡ analysis (workspace_of lent)) }
 {
     let pieces = lent.into_pieces();
-    let paths = paths_of(alloc, pieces.as_slice())?;
     let all = Share {
         first: 0,
         pieces,
@@ -198,11 +197,10 @@ pub fn analyse_in_shares<R: Threads + Wait, G: Gate>(
         pieces,
         resolutions,
     } = linked;
-    let texts = texts_of(alloc, pieces.as_slice())?;
+    let files = files_of(alloc, pieces.as_slice())?;
     let analysis = Analysis {
         table: ListedTable::of(alloc, table)?,
-        paths,
-        texts,
+        files,
         resolutions,
     };
     Ok((Lent::of(pieces), analysis))

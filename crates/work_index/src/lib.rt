@@ -24,6 +24,7 @@ mod moved_table;
 mod part_table;
 mod room;
 mod shares;
+mod source_file;
 mod table_of;
 
 pub use after::analyse_after;

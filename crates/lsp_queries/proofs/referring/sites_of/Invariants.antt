@@ -6,4 +6,4 @@ use Rattle.lsp_queries.proofs.referring.sites_of.Given as goal
 -- what is found and what is left are all
 abbrev pub invariant-loop-file : goal.invariant-loop-file
 invariant-loop-file l =
-    l.found.items ++ flat_map (λ e. sites_in l.analysis l.decl l.own e.0) (enumerate_from l.file (drop l.file l.items)) ≡ sites_of l.analysis l.decl l.own
+    l.found.items ++ flat_map (λ e. sites_in l.analysis l.decl l.own e.0) (enumerate_from l.file (drop l.file l.analysis.paths)) ≡ sites_of l.analysis l.decl l.own

@@ -1,5 +1,5 @@
 use Rattle.std.proofs.Common.{◌≡◌, ◌<◌, [], ◌∷◌, length, get_or, length-append, sym, ap, ◌∙◌, arith}
-use Rattle.std.proofs.lemmas.List.{get_or_default}
+use Rattle.std.proofs.lemmas.Option.{get_or_from_slice_get}
 use Rattle.lsp_workspace.proofs.Earlier.{one_numbered}
 use Rattle.lsp_workspace.proofs.known.numbers_now.Goals as goal
 
@@ -8,9 +8,8 @@ loop-file-preserved c =
     let names = c.args.analysis.now.paths in
     let file = c.loop-file.file in
     let so_far = c.loop-file.invariant in
-    let there : file < length names = omega (arith, c.loop-file-test.true, ap length c.files-paths.ensures) in
-    let is : get_or names file [] ≡ c.as_str-in-loop-file.result.now =
-    ap (λ ps. get_or ps file []) (sym c.files-paths.ensures) ∙ get_or_default c.files-paths.result.now file [] c.index-paths-file.result c.loop-file-test.true ∙ sym c.index-paths-file.is ∙ sym c.as_str-in-loop-file.ensures in record {
+    let there : file < length names = omega (arith, c.loop-file-test.true, c.file_count-count.ensures) in
+    let is : get_or names file [] ≡ c.path.result.now = get_or_from_slice_get names file c.path.result.now [] c.path.ensures in record {
       count = omega (arith, so_far.count, ap length c.in_ok-push.ensures.items, length-append c.loop-file.to.items (c.number_now.result ∷ []));
-      each = one_numbered names c.args.changed.now c.args.pieces.now c.loop-file.to.items c.push.new.self.items c.number_now.result file c.as_str-in-loop-file.result.now so_far.count so_far.each c.in_ok-push.ensures.items there is c.number_now.ensures.unchanged c.number_now.ensures.here c.number_now.ensures.path;
+      each = one_numbered names c.args.changed.now c.args.pieces.now c.loop-file.to.items c.push.new.self.items c.number_now.result file c.path.result.now so_far.count so_far.each c.in_ok-push.ensures.items there is c.number_now.ensures.unchanged c.number_now.ensures.here c.number_now.ensures.path;
     }

@@ -17,19 +17,19 @@ pub link_after-requires-clause-earlier : goal.link_after-requires-clause-earlier
 link_after-requires-clause-earlier c =
     let was = c.requires.stayed in
     let inside = c.earlier.inside in
-    let of = parts inside.table inside.paths.items inside.texts.items inside.resolutions.links.items inside.resolutions.diagnostics.items was.old c.earlier.invariant.3 (c.earlier.view_is ∙ was.is) in
+    let of = parts inside.table inside.files.items inside.resolutions.links.items inside.resolutions.diagnostics.items was.old c.earlier.invariant.3 (c.earlier.view_is ∙ was.is) in
     none_taken was.old (workspace_of c.args.pieces.now) c.args.to.now was.stayed (record { graph = c.in_ok-table.graph; links = inside.resolutions.links }) (c.in_ok-table.ensures.graph ∙ ap graph_of of.table_is) of.links_are
 
 pub invariant_of-result : goal.invariant_of-result
 invariant_of-result c =
-    hold_together c.args.pieces.now _ _ _ _ _ c.in_ok-table.ensures.table c.in_ok-paths.ensures c.in_ok-texts.ensures c.in_ok-resolutions.ensures.links c.in_ok-resolutions.ensures.diagnostics
+    hold_together (workspace_of c.args.pieces.now) _ _ _ _ c.in_ok-table.ensures.table c.in_ok-files.ensures c.in_ok-resolutions.ensures.links c.in_ok-resolutions.ensures.diagnostics
 
 pub returns : goal.returns
-returns c = is_analysis c.args.pieces.now _ _ _ _ _ c.in_ok-table.ensures.table c.in_ok-paths.ensures c.in_ok-texts.ensures c.in_ok-resolutions.ensures.links c.in_ok-resolutions.ensures.diagnostics
+returns c = is_analysis (workspace_of c.args.pieces.now) _ _ _ _ c.in_ok-table.ensures.table c.in_ok-files.ensures c.in_ok-resolutions.ensures.links c.in_ok-resolutions.ensures.diagnostics
 
 pub table_after-requires-clause-before : goal.table_after-requires-clause-before
 table_after-requires-clause-before c =
     let was = c.requires.stayed in
     let inside = c.earlier.inside in
-    let of = parts inside.table inside.paths.items inside.texts.items inside.resolutions.links.items inside.resolutions.diagnostics.items was.old c.earlier.invariant.3 (c.earlier.view_is ∙ was.is) in
+    let of = parts inside.table inside.files.items inside.resolutions.links.items inside.resolutions.diagnostics.items was.old c.earlier.invariant.3 (c.earlier.view_is ∙ was.is) in
     record { old = was.old; is = of.table_is; stayed = was.stayed }

@@ -2,32 +2,30 @@ use Rattle.std.proofs.Common.{◌≡◌, ◌<◌, ◌≤◌, ◌+◌, true, leng
 use Rattle.std.proofs.lemmas.List.{get_or_default}
 use Rattle.link_changes.specs.Asked.{has_all}
 use Rattle.work_index.specs.Changes.{waits}
-use Rattle.work_index.specs.Pieces.{workspace_of}
 use Rattle.work_index.specs.Workspace.{asked_of}
 use Rattle.work_index.specs.declared.again.Relinking.{Relinking}
-use Rattle.work_index.proofs.Changed.{nothing, piece_at, pieces_length}
+use Rattle.work_index.proofs.Changed.{nothing}
 use Rattle.work_index.proofs.Relinked.{AreFollowed, all_followed, one_followed, passed_over}
 use Rattle.work_index.proofs.again.follow.Goals as goal
 use Rattle.work_index.proofs.again.follow.Goals.{then-not-index+in_ok-effect, else-not-index}
 
 pub loop-file-preserved : goal.loop-file-preserved
 loop-file-preserved c =
-    let ts = c.args.pieces.now in
-    let w = workspace_of ts in
+    let w = c.args.files.now in
     let new = c.args.table.now in
     let start = c.args.relinking.now in
     let now = c.loop-file.relinking in
     let n = c.loop-file.file in
     let so_far = c.loop-file.invariant in
     let places = so_far.places in
-    let there : n < length w = omega (arith, pieces_length ts, c.loop-file-test.true) in
+    let there : n < length w = c.loop-file-test.true in
     let is : waits now n ≡ c.index.result.now = get_or_default now.waiting.items n true c.index.result.now (omega (arith, there, places.waiting)) ∙ sym c.index.ensures in
     elim c.if-not-index.branch [
       | then-not-index+in_ok-effect x ↦
-          let piece = c.index-pieces-file.result in
-          let at : get_or w n nothing ≡ (piece.path, piece.text) = piece_at ts n piece c.loop-file-test.true c.index-pieces-file.is in
-          let has : has_all x.asked_in.result.now (asked_of (let file = get_or w n nothing in file.1)) ≡ true = rw at x.asked_in.ensures in
-          one_followed new w start now n so_far c.args.change.now c.requires.before c.requires.seen_law c.requires.touched_law there x.asked_in.result.now has (is ∙ x.if-not-index.true) x.in_ok-effect.effect x.in_ok-effect.ensures c.if-not-index.relinking
+          let source = c.index-files-file.result in
+          let at : get_or w n nothing ≡ source = get_or_default w n nothing source there ∙ sym c.index-files-file.is in
+          let has : has_all x.asked.result.now (asked_of (let file = get_or w n nothing in file.1)) ≡ true = rw at x.asked.ensures in
+          one_followed new w start now n so_far c.args.change.now c.requires.before c.requires.seen_law c.requires.touched_law there x.asked.result.now has (is ∙ x.if-not-index.true) x.in_ok-effect.effect x.in_ok-effect.ensures c.if-not-index.relinking
           (record {
             links = ap (λ (r : Relinking). r.resolutions.links.items) x.relinking-is ∙ x.take_effect.ensures.links;
             diagnostics = ap (λ (r : Relinking). r.resolutions.diagnostics.items) x.relinking-is ∙ x.take_effect.ensures.diagnostics;
@@ -38,6 +36,6 @@ loop-file-preserved c =
 
 pub returns-clause-linked : goal.returns-clause-linked
 returns-clause-linked c =
-    let w = workspace_of c.args.pieces.now in
-    let end' : length w ≤ c.loop-file.file = omega (arith, pieces_length c.args.pieces.now) in
+    let w = c.args.files.now in
+    let end' : length w ≤ c.loop-file.file = omega arith in
     all_followed c.args.table.now w c.args.relinking.now c.loop-file.relinking c.loop-file.file c.loop-file.invariant c.args.change.now c.requires.before end'

@@ -1,6 +1,5 @@
-use Rattle.work_index.specs.Pieces.{workspace_of}
 use Rattle.work_index.proofs.Relinked.{AreFollowed}
 use Rattle.work_index.proofs.again.follow.Given as goal
 
 abbrev pub invariant-loop-file : goal.invariant-loop-file
-invariant-loop-file l = AreFollowed l.table (workspace_of l.pieces) l.fn.relinking l.relinking l.file
+invariant-loop-file l = AreFollowed l.table l.files l.fn.relinking l.relinking l.file

@@ -13,7 +13,7 @@ invariant_of-result c =
     let w = workspace_of ts in
     let all = c.in_ok-table.ensures in
     let known = c.table-2.ensures ∙ all in
-    hold_together ts _ _ _ _ _ all c.in_ok-paths.ensures c.in_ok-texts.ensures (c.in_ok-resolutions.ensures.links w known) (c.in_ok-resolutions.ensures.diagnostics w known)
+    hold_together w _ _ _ _ all c.in_ok-files.ensures (c.in_ok-resolutions.ensures.links w known) (c.in_ok-resolutions.ensures.diagnostics w known)
 
 pub returns : goal.returns
 returns c =
@@ -21,4 +21,4 @@ returns c =
     let w = workspace_of ts in
     let all = c.in_ok-table.ensures in
     let known = c.table-2.ensures ∙ all in
-    is_analysis ts _ _ _ _ _ all c.in_ok-paths.ensures c.in_ok-texts.ensures (c.in_ok-resolutions.ensures.links w known) (c.in_ok-resolutions.ensures.diagnostics w known)
+    is_analysis w _ _ _ _ all c.in_ok-files.ensures (c.in_ok-resolutions.ensures.links w known) (c.in_ok-resolutions.ensures.diagnostics w known)

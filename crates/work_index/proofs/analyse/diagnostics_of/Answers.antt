@@ -1,8 +1,9 @@
-use Rattle.std.proofs.Common.{◌∙◌, ap, refl}
+use Rattle.std.proofs.Common.{◌≡◌, ◌∙◌, ℕ, List, ap, refl}
 use Rattle.file_facts.specs.declared.fact.FileFacts.{FileFacts}
+use Rattle.file_facts.specs.Facts.{facts_of}
 use Rattle.work_index.proofs.OwnDiags.{own-merged}
 use Rattle.work_index.proofs.analyse.diagnostics_of.Goals as goal
 
 pub returns-then-is_empty : goal.returns-then-is_empty
-returns-then-is_empty c =
-    c.in_ok-found.ensures ∙ c.as_slice.ensures ∙ ap (λ (f : FileFacts). f.diags) c.facts_in.ensures ∙ own-merged c.args.piece.now.text c.args.links.now (c.if-is_empty.ensures.0 refl)
+returns-then-is_empty c text is =
+    c.in_ok-found.ensures ∙ c.as_slice.ensures ∙ ap (λ (f : FileFacts). f.diags) is ∙ own-merged text c.args.links.now (c.if-is_empty.ensures.0 refl)

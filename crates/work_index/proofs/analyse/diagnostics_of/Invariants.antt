@@ -1,7 +1,6 @@
 use Rattle.std.proofs.Common.{◌≡◌, ◌++◌, drop}
-use Rattle.file_facts.specs.Facts.{facts_of}
 use Rattle.work_index.proofs.analyse.diagnostics_of.Given as goal
 
 -- what is found and what is left are all
 abbrev pub invariant-links : goal.invariant-links
-invariant-links l = l.found ++ drop l.diag-index l.diag-items ≡ (let facts = facts_of l.piece.text in facts.diags) ++ l.links.diags
+invariant-links l = l.found ++ drop l.diag-index l.diag-items ≡ l.facts.diags ++ l.links.diags

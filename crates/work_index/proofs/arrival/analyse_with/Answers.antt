@@ -10,9 +10,9 @@ use Rattle.link_changes.specs.Touched.{links_after}
 use Rattle.proto_resolve.specs.declared.resolve.Links.{Links}
 use Rattle.work_index.specs.Arrivals.{numbers_with}
 use Rattle.work_index.specs.Workspace.{AnalysisData, all_facts, diagnostics_of, merged, named_facts, resolution_of}
-use Rattle.work_index.proofs.Arrived.{arrived, texts_with, place_is, still_ordered}
+use Rattle.work_index.proofs.Arrived.{arrived, place_is, still_ordered}
 use Rattle.work_index.proofs.Changed.{made, parts}
-use Rattle.work_index.proofs.Known.{hold_together_of, is_analysis_of}
+use Rattle.work_index.proofs.Known.{hold_together, is_analysis}
 use Rattle.work_index.proofs.arrival.analyse_with.Goals as goal
 
 pub with_unimported-requires-clause-within : goal.with_unimported-requires-clause-within
@@ -20,10 +20,10 @@ with_unimported-requires-clause-within c =
     let inside = c.earlier.inside in
     let file : List ℕ × List ℕ = (c.args.piece.now.path, c.args.piece.now.text) in
     let k = c.place_for-at.result in
-    let of = parts inside.table inside.paths.items inside.texts.items inside.resolutions.links.items inside.resolutions.diagnostics.items c.requires.old c.earlier.invariant.3 (c.earlier.view_is ∙ c.requires.is) in
+    let of = parts inside.table inside.files.items inside.resolutions.links.items inside.resolutions.diagnostics.items c.requires.old c.earlier.invariant.3 (c.earlier.view_is ∙ c.requires.is) in
     let here : k ≡ c.requires.at = place_is c.args.earlier file c.requires k inside.table of.table_is (λ at f path within ordered.
     c.place_for-at.ensures at f (path ∙ sym c.path.ensures) (omega (arith, within, ap length c.table-2.ensures)) (subst (λ (files : List NamedFacts). IsInPathOrder (insert files at f)) (sym c.table-2.ensures) ordered)) in
-    let with = arrived c.args.earlier file c.requires k inside.table inside.paths.items inside.resolutions.links.items inside.resolutions.diagnostics.items of (ap (λ (a : AnalysisData). a.facts) c.earlier.view_is) here c.moved_law.ensures c.arrival_law.ensures in
+    let with = arrived c.args.earlier file c.requires k inside.table inside.files.items inside.resolutions.links.items inside.resolutions.diagnostics.items of (ap (λ (a : AnalysisData). a.facts) c.earlier.view_is) here c.moved_law.ensures c.arrival_law.ensures in
     let w = insert c.requires.old c.requires.at file in
     omega (arith, with.table_count, ap length c.table.view_is)
 
@@ -32,7 +32,7 @@ with_unimported-requires-clause-ordered c =
     let inside = c.earlier.inside in
     let file : List ℕ × List ℕ = (c.args.piece.now.path, c.args.piece.now.text) in
     let k = c.place_for-at.result in
-    let of = parts inside.table inside.paths.items inside.texts.items inside.resolutions.links.items inside.resolutions.diagnostics.items c.requires.old c.earlier.invariant.3 (c.earlier.view_is ∙ c.requires.is) in
+    let of = parts inside.table inside.files.items inside.resolutions.links.items inside.resolutions.diagnostics.items c.requires.old c.earlier.invariant.3 (c.earlier.view_is ∙ c.requires.is) in
     let here : k ≡ c.requires.at = place_is c.args.earlier file c.requires k inside.table of.table_is (λ at f path within ordered.
     c.place_for-at.ensures at f (path ∙ sym c.path.ensures) (omega (arith, within, ap length c.table-2.ensures)) (subst (λ (files : List NamedFacts). IsInPathOrder (insert files at f)) (sym c.table-2.ensures) ordered)) in
     subst (λ (table : List NamedFacts). IsInPathOrder (insert table k c.in_ok-named_facts.field-0)) (sym c.table.view_is)
@@ -43,10 +43,10 @@ with_unimported-requires-clause-nobody c =
     let inside = c.earlier.inside in
     let file : List ℕ × List ℕ = (c.args.piece.now.path, c.args.piece.now.text) in
     let k = c.place_for-at.result in
-    let of = parts inside.table inside.paths.items inside.texts.items inside.resolutions.links.items inside.resolutions.diagnostics.items c.requires.old c.earlier.invariant.3 (c.earlier.view_is ∙ c.requires.is) in
+    let of = parts inside.table inside.files.items inside.resolutions.links.items inside.resolutions.diagnostics.items c.requires.old c.earlier.invariant.3 (c.earlier.view_is ∙ c.requires.is) in
     let here : k ≡ c.requires.at = place_is c.args.earlier file c.requires k inside.table of.table_is (λ at f path within ordered.
     c.place_for-at.ensures at f (path ∙ sym c.path.ensures) (omega (arith, within, ap length c.table-2.ensures)) (subst (λ (files : List NamedFacts). IsInPathOrder (insert files at f)) (sym c.table-2.ensures) ordered)) in
-    let with = arrived c.args.earlier file c.requires k inside.table inside.paths.items inside.resolutions.links.items inside.resolutions.diagnostics.items of (ap (λ (a : AnalysisData). a.facts) c.earlier.view_is) here c.moved_law.ensures c.arrival_law.ensures in
+    let with = arrived c.args.earlier file c.requires k inside.table inside.files.items inside.resolutions.links.items inside.resolutions.diagnostics.items of (ap (λ (a : AnalysisData). a.facts) c.earlier.view_is) here c.moved_law.ensures c.arrival_law.ensures in
     let w = insert c.requires.old c.requires.at file in
     subst (λ (table : List NamedFacts). NobodyImports table (let f = c.in_ok-named_facts.field-0 in f.path)) (sym c.table.view_is)
     (subst (λ (f : NamedFacts). NobodyImports inside.table f.path) (sym c.in_ok-named_facts.ensures) with.nobody)
@@ -56,60 +56,49 @@ insert-requires c =
     let inside = c.earlier.inside in
     let file : List ℕ × List ℕ = (c.args.piece.now.path, c.args.piece.now.text) in
     let k = c.place_for-at.result in
-    let of = parts inside.table inside.paths.items inside.texts.items inside.resolutions.links.items inside.resolutions.diagnostics.items c.requires.old c.earlier.invariant.3 (c.earlier.view_is ∙ c.requires.is) in
+    let of = parts inside.table inside.files.items inside.resolutions.links.items inside.resolutions.diagnostics.items c.requires.old c.earlier.invariant.3 (c.earlier.view_is ∙ c.requires.is) in
     let here : k ≡ c.requires.at = place_is c.args.earlier file c.requires k inside.table of.table_is (λ at f path within ordered.
     c.place_for-at.ensures at f (path ∙ sym c.path.ensures) (omega (arith, within, ap length c.table-2.ensures)) (subst (λ (files : List NamedFacts). IsInPathOrder (insert files at f)) (sym c.table-2.ensures) ordered)) in
-    let with = arrived c.args.earlier file c.requires k inside.table inside.paths.items inside.resolutions.links.items inside.resolutions.diagnostics.items of (ap (λ (a : AnalysisData). a.facts) c.earlier.view_is) here c.moved_law.ensures c.arrival_law.ensures in
+    let with = arrived c.args.earlier file c.requires k inside.table inside.files.items inside.resolutions.links.items inside.resolutions.diagnostics.items of (ap (λ (a : AnalysisData). a.facts) c.earlier.view_is) here c.moved_law.ensures c.arrival_law.ensures in
     let w = insert c.requires.old c.requires.at file in
-    omega (arith, with.paths_count, inside.paths.ok)
-
-pub insert-requires-2 : goal.insert-requires-2
-insert-requires-2 c =
-    let inside = c.earlier.inside in
-    let file : List ℕ × List ℕ = (c.args.piece.now.path, c.args.piece.now.text) in
-    let k = c.place_for-at.result in
-    let of = parts inside.table inside.paths.items inside.texts.items inside.resolutions.links.items inside.resolutions.diagnostics.items c.requires.old c.earlier.invariant.3 (c.earlier.view_is ∙ c.requires.is) in
-    let here : k ≡ c.requires.at = place_is c.args.earlier file c.requires k inside.table of.table_is (λ at f path within ordered.
-    c.place_for-at.ensures at f (path ∙ sym c.path.ensures) (omega (arith, within, ap length c.table-2.ensures)) (subst (λ (files : List NamedFacts). IsInPathOrder (insert files at f)) (sym c.table-2.ensures) ordered)) in
-    let many : length inside.texts.items ≡ length c.requires.old = ap (λ (a : AnalysisData). length a.texts) (c.earlier.view_is ∙ c.requires.is) ∙ length-map c.requires.old (λ f. f.1) in
-    omega (arith, here, c.requires.within, many, inside.texts.ok)
+    omega (arith, with.files_count, inside.files.ok)
 
 pub resolution_of-requires : goal.resolution_of-requires
 resolution_of-requires c =
     let inside = c.earlier.inside in
     let file : List ℕ × List ℕ = (c.args.piece.now.path, c.args.piece.now.text) in
     let k = c.place_for-at.result in
-    let of = parts inside.table inside.paths.items inside.texts.items inside.resolutions.links.items inside.resolutions.diagnostics.items c.requires.old c.earlier.invariant.3 (c.earlier.view_is ∙ c.requires.is) in
+    let of = parts inside.table inside.files.items inside.resolutions.links.items inside.resolutions.diagnostics.items c.requires.old c.earlier.invariant.3 (c.earlier.view_is ∙ c.requires.is) in
     let here : k ≡ c.requires.at = place_is c.args.earlier file c.requires k inside.table of.table_is (λ at f path within ordered.
     c.place_for-at.ensures at f (path ∙ sym c.path.ensures) (omega (arith, within, ap length c.table-2.ensures)) (subst (λ (files : List NamedFacts). IsInPathOrder (insert files at f)) (sym c.table-2.ensures) ordered)) in
-    let with = arrived c.args.earlier file c.requires k inside.table inside.paths.items inside.resolutions.links.items inside.resolutions.diagnostics.items of (ap (λ (a : AnalysisData). a.facts) c.earlier.view_is) here c.moved_law.ensures c.arrival_law.ensures in
+    let with = arrived c.args.earlier file c.requires k inside.table inside.files.items inside.resolutions.links.items inside.resolutions.diagnostics.items of (ap (λ (a : AnalysisData). a.facts) c.earlier.view_is) here c.moved_law.ensures c.arrival_law.ensures in
     let w = insert c.requires.old c.requires.at file in
     let put : c.in_ok-table.table ≡ insert c.table.inside.table k c.in_ok-named_facts.field-0 = c.in_ok-table.ensures in
     let all : c.in_ok-table.table ≡ all_facts w = put ∙ ap₂ (λ (table : List NamedFacts) (f : NamedFacts). insert table k f) c.table.view_is c.in_ok-named_facts.ensures ∙ with.table_is in
     let is : c.table-4.result.now ≡ all_facts w = c.table-4.ensures ∙ all in
     omega (arith, with.place, ap length is, length-map w named_facts)
 
+pub insert-requires-2 : goal.insert-requires-2
+insert-requires-2 c =
+    let inside = c.earlier.inside in
+    let file : List ℕ × List ℕ = (c.args.piece.now.path, c.args.piece.now.text) in
+    let k = c.place_for-at.result in
+    let of = parts inside.table inside.files.items inside.resolutions.links.items inside.resolutions.diagnostics.items c.requires.old c.earlier.invariant.3 (c.earlier.view_is ∙ c.requires.is) in
+    let here : k ≡ c.requires.at = place_is c.args.earlier file c.requires k inside.table of.table_is (λ at f path within ordered.
+    c.place_for-at.ensures at f (path ∙ sym c.path.ensures) (omega (arith, within, ap length c.table-2.ensures)) (subst (λ (files : List NamedFacts). IsInPathOrder (insert files at f)) (sym c.table-2.ensures) ordered)) in
+    let with = arrived c.args.earlier file c.requires k inside.table inside.files.items inside.resolutions.links.items inside.resolutions.diagnostics.items of (ap (λ (a : AnalysisData). a.facts) c.earlier.view_is) here c.moved_law.ensures c.arrival_law.ensures in
+    let w = insert c.requires.old c.requires.at file in
+    omega (arith, with.links_count, ap length c.in_ok-make_way.ensures, length-map inside.resolutions.links.items (links_after (decl_moved (numbers_with k c.len.result))))
+
 pub insert-requires-3 : goal.insert-requires-3
 insert-requires-3 c =
     let inside = c.earlier.inside in
     let file : List ℕ × List ℕ = (c.args.piece.now.path, c.args.piece.now.text) in
     let k = c.place_for-at.result in
-    let of = parts inside.table inside.paths.items inside.texts.items inside.resolutions.links.items inside.resolutions.diagnostics.items c.requires.old c.earlier.invariant.3 (c.earlier.view_is ∙ c.requires.is) in
+    let of = parts inside.table inside.files.items inside.resolutions.links.items inside.resolutions.diagnostics.items c.requires.old c.earlier.invariant.3 (c.earlier.view_is ∙ c.requires.is) in
     let here : k ≡ c.requires.at = place_is c.args.earlier file c.requires k inside.table of.table_is (λ at f path within ordered.
     c.place_for-at.ensures at f (path ∙ sym c.path.ensures) (omega (arith, within, ap length c.table-2.ensures)) (subst (λ (files : List NamedFacts). IsInPathOrder (insert files at f)) (sym c.table-2.ensures) ordered)) in
-    let with = arrived c.args.earlier file c.requires k inside.table inside.paths.items inside.resolutions.links.items inside.resolutions.diagnostics.items of (ap (λ (a : AnalysisData). a.facts) c.earlier.view_is) here c.moved_law.ensures c.arrival_law.ensures in
-    let w = insert c.requires.old c.requires.at file in
-    omega (arith, with.links_count, ap length c.in_ok-make_way.ensures, length-map inside.resolutions.links.items (links_after (decl_moved (numbers_with k c.len.result))))
-
-pub insert-requires-4 : goal.insert-requires-4
-insert-requires-4 c =
-    let inside = c.earlier.inside in
-    let file : List ℕ × List ℕ = (c.args.piece.now.path, c.args.piece.now.text) in
-    let k = c.place_for-at.result in
-    let of = parts inside.table inside.paths.items inside.texts.items inside.resolutions.links.items inside.resolutions.diagnostics.items c.requires.old c.earlier.invariant.3 (c.earlier.view_is ∙ c.requires.is) in
-    let here : k ≡ c.requires.at = place_is c.args.earlier file c.requires k inside.table of.table_is (λ at f path within ordered.
-    c.place_for-at.ensures at f (path ∙ sym c.path.ensures) (omega (arith, within, ap length c.table-2.ensures)) (subst (λ (files : List NamedFacts). IsInPathOrder (insert files at f)) (sym c.table-2.ensures) ordered)) in
-    let with = arrived c.args.earlier file c.requires k inside.table inside.paths.items inside.resolutions.links.items inside.resolutions.diagnostics.items of (ap (λ (a : AnalysisData). a.facts) c.earlier.view_is) here c.moved_law.ensures c.arrival_law.ensures in
+    let with = arrived c.args.earlier file c.requires k inside.table inside.files.items inside.resolutions.links.items inside.resolutions.diagnostics.items of (ap (λ (a : AnalysisData). a.facts) c.earlier.view_is) here c.moved_law.ensures c.arrival_law.ensures in
     let w = insert c.requires.old c.requires.at file in
     omega (arith, with.diagnostics_count, inside.resolutions.diagnostics.ok)
 
@@ -118,43 +107,39 @@ invariant_of-result c =
     let inside = c.earlier.inside in
     let file : List ℕ × List ℕ = (c.args.piece.now.path, c.args.piece.now.text) in
     let k = c.place_for-at.result in
-    let of = parts inside.table inside.paths.items inside.texts.items inside.resolutions.links.items inside.resolutions.diagnostics.items c.requires.old c.earlier.invariant.3 (c.earlier.view_is ∙ c.requires.is) in
+    let of = parts inside.table inside.files.items inside.resolutions.links.items inside.resolutions.diagnostics.items c.requires.old c.earlier.invariant.3 (c.earlier.view_is ∙ c.requires.is) in
     let here : k ≡ c.requires.at = place_is c.args.earlier file c.requires k inside.table of.table_is (λ at f path within ordered.
     c.place_for-at.ensures at f (path ∙ sym c.path.ensures) (omega (arith, within, ap length c.table-2.ensures)) (subst (λ (files : List NamedFacts). IsInPathOrder (insert files at f)) (sym c.table-2.ensures) ordered)) in
-    let with = arrived c.args.earlier file c.requires k inside.table inside.paths.items inside.resolutions.links.items inside.resolutions.diagnostics.items of (ap (λ (a : AnalysisData). a.facts) c.earlier.view_is) here c.moved_law.ensures c.arrival_law.ensures in
+    let with = arrived c.args.earlier file c.requires k inside.table inside.files.items inside.resolutions.links.items inside.resolutions.diagnostics.items of (ap (λ (a : AnalysisData). a.facts) c.earlier.view_is) here c.moved_law.ensures c.arrival_law.ensures in
     let w = insert c.requires.old c.requires.at file in
     let put : c.in_ok-table.table ≡ insert c.table.inside.table k c.in_ok-named_facts.field-0 = c.in_ok-table.ensures in
     let all : c.in_ok-table.table ≡ all_facts w = put ∙ ap₂ (λ (table : List NamedFacts) (f : NamedFacts). insert table k f) c.table.view_is c.in_ok-named_facts.ensures ∙ with.table_is in
-    let paths : c.insert.new.self.items ≡ map (λ f. f.0) w = c.in_ok-insert.ensures.items ∙ ap (insert inside.paths.items k) c.in_ok-path_of.ensures ∙ with.paths_are in
+    let files : c.insert.new.self.items ≡ w = c.in_ok-insert.ensures.items ∙ ap (insert inside.files.items k) c.in_ok-of.ensures ∙ with.files_are in
     let found : c.in_ok-found.found ≡ resolution_of w (k, file) = c.in_ok-found.ensures w (c.table-4.ensures ∙ all) in
-    let moved : c.make_way.new.links.items ≡ map (links_after (decl_moved (numbers_with k (length inside.paths.items)))) inside.resolutions.links.items =
-    c.in_ok-make_way.ensures ∙ ap (λ (n : ℕ). map (links_after (decl_moved (numbers_with k n))) inside.resolutions.links.items) (omega (arith, c.len.ensures, inside.paths.ok)) in
-    let links : c.insert-3.new.self.items ≡ made (resolution_of w) w = c.in_ok-insert-3.ensures.items ∙ ap₂ (λ (others : List Links) (own : Links). insert others k own) moved found ∙ with.links_are in
-    let diagnostics : c.insert-4.new.self.items ≡ made (diagnostics_of w) w =
-    c.in_ok-insert-4.ensures.items ∙ ap (insert inside.resolutions.diagnostics.items k) (c.in_ok-diagnostics.ensures ∙ ap (merged (facts_of c.args.piece.now.text)) found) ∙ with.diagnostics_are in
-    let texts : c.insert-2.new.self.items ≡ map (λ f. f.1) w =
-    c.in_ok-insert-2.ensures.items ∙ texts_with inside.texts.items c.in_ok-shared_text_in.field-0 k c.requires.at c.requires.old file (ap (λ (a : AnalysisData). a.texts) (c.earlier.view_is ∙ c.requires.is)) c.in_ok-shared_text_in.ensures here in
-    hold_together_of w _ _ _ _ _ all paths texts links diagnostics
+    let moved : c.make_way.new.links.items ≡ map (links_after (decl_moved (numbers_with k (length inside.files.items)))) inside.resolutions.links.items =
+    c.in_ok-make_way.ensures ∙ ap (λ (n : ℕ). map (links_after (decl_moved (numbers_with k n))) inside.resolutions.links.items) (omega (arith, c.len.ensures, inside.files.ok)) in
+    let links : c.insert-2.new.self.items ≡ made (resolution_of w) w = c.in_ok-insert-2.ensures.items ∙ ap₂ (λ (others : List Links) (own : Links). insert others k own) moved found ∙ with.links_are in
+    let diagnostics : c.insert-3.new.self.items ≡ made (diagnostics_of w) w =
+    c.in_ok-insert-3.ensures.items ∙ ap (insert inside.resolutions.diagnostics.items k) (c.in_ok-diagnostics.ensures c.args.piece.now.text c.facts_in.ensures ∙ ap (merged (facts_of c.args.piece.now.text)) found) ∙ with.diagnostics_are in
+    hold_together w _ _ _ _ all files links diagnostics
 
 pub returns : goal.returns
 returns c = λ arrives.
     let inside = c.earlier.inside in
     let file : List ℕ × List ℕ = (c.args.piece.now.path, c.args.piece.now.text) in
     let k = c.place_for-at.result in
-    let of = parts inside.table inside.paths.items inside.texts.items inside.resolutions.links.items inside.resolutions.diagnostics.items arrives.old c.earlier.invariant.3 (c.earlier.view_is ∙ arrives.is) in
+    let of = parts inside.table inside.files.items inside.resolutions.links.items inside.resolutions.diagnostics.items arrives.old c.earlier.invariant.3 (c.earlier.view_is ∙ arrives.is) in
     let here : k ≡ arrives.at = place_is c.args.earlier file arrives k inside.table of.table_is (λ at f path within ordered.
     c.place_for-at.ensures at f (path ∙ sym c.path.ensures) (omega (arith, within, ap length c.table-2.ensures)) (subst (λ (files : List NamedFacts). IsInPathOrder (insert files at f)) (sym c.table-2.ensures) ordered)) in
-    let with = arrived c.args.earlier file arrives k inside.table inside.paths.items inside.resolutions.links.items inside.resolutions.diagnostics.items of (ap (λ (a : AnalysisData). a.facts) c.earlier.view_is) here c.moved_law.ensures c.arrival_law.ensures in
+    let with = arrived c.args.earlier file arrives k inside.table inside.files.items inside.resolutions.links.items inside.resolutions.diagnostics.items of (ap (λ (a : AnalysisData). a.facts) c.earlier.view_is) here c.moved_law.ensures c.arrival_law.ensures in
     let w = insert arrives.old arrives.at file in
     let put : c.in_ok-table.table ≡ insert c.table.inside.table k c.in_ok-named_facts.field-0 = c.in_ok-table.ensures in
     let all : c.in_ok-table.table ≡ all_facts w = put ∙ ap₂ (λ (table : List NamedFacts) (f : NamedFacts). insert table k f) c.table.view_is c.in_ok-named_facts.ensures ∙ with.table_is in
-    let paths : c.insert.new.self.items ≡ map (λ f. f.0) w = c.in_ok-insert.ensures.items ∙ ap (insert inside.paths.items k) c.in_ok-path_of.ensures ∙ with.paths_are in
+    let files : c.insert.new.self.items ≡ w = c.in_ok-insert.ensures.items ∙ ap (insert inside.files.items k) c.in_ok-of.ensures ∙ with.files_are in
     let found : c.in_ok-found.found ≡ resolution_of w (k, file) = c.in_ok-found.ensures w (c.table-4.ensures ∙ all) in
-    let moved : c.make_way.new.links.items ≡ map (links_after (decl_moved (numbers_with k (length inside.paths.items)))) inside.resolutions.links.items =
-    c.in_ok-make_way.ensures ∙ ap (λ (n : ℕ). map (links_after (decl_moved (numbers_with k n))) inside.resolutions.links.items) (omega (arith, c.len.ensures, inside.paths.ok)) in
-    let links : c.insert-3.new.self.items ≡ made (resolution_of w) w = c.in_ok-insert-3.ensures.items ∙ ap₂ (λ (others : List Links) (own : Links). insert others k own) moved found ∙ with.links_are in
-    let diagnostics : c.insert-4.new.self.items ≡ made (diagnostics_of w) w =
-    c.in_ok-insert-4.ensures.items ∙ ap (insert inside.resolutions.diagnostics.items k) (c.in_ok-diagnostics.ensures ∙ ap (merged (facts_of c.args.piece.now.text)) found) ∙ with.diagnostics_are in
-    let texts : c.insert-2.new.self.items ≡ map (λ f. f.1) w =
-    c.in_ok-insert-2.ensures.items ∙ texts_with inside.texts.items c.in_ok-shared_text_in.field-0 k arrives.at arrives.old file (ap (λ (a : AnalysisData). a.texts) (c.earlier.view_is ∙ arrives.is)) c.in_ok-shared_text_in.ensures here in
-    is_analysis_of w _ _ _ _ _ all paths texts links diagnostics
+    let moved : c.make_way.new.links.items ≡ map (links_after (decl_moved (numbers_with k (length inside.files.items)))) inside.resolutions.links.items =
+    c.in_ok-make_way.ensures ∙ ap (λ (n : ℕ). map (links_after (decl_moved (numbers_with k n))) inside.resolutions.links.items) (omega (arith, c.len.ensures, inside.files.ok)) in
+    let links : c.insert-2.new.self.items ≡ made (resolution_of w) w = c.in_ok-insert-2.ensures.items ∙ ap₂ (λ (others : List Links) (own : Links). insert others k own) moved found ∙ with.links_are in
+    let diagnostics : c.insert-3.new.self.items ≡ made (diagnostics_of w) w =
+    c.in_ok-insert-3.ensures.items ∙ ap (insert inside.resolutions.diagnostics.items k) (c.in_ok-diagnostics.ensures c.args.piece.now.text c.facts_in.ensures ∙ ap (merged (facts_of c.args.piece.now.text)) found) ∙ with.diagnostics_are in
+    is_analysis w _ _ _ _ all files links diagnostics

@@ -1,57 +1,32 @@
-use Rattle.std.proofs.Common.{◌≡◌, ◌∙◌, List, ℕ, arith, length, map, ap, ap₂, subst, sym}
+use Rattle.std.proofs.Common.{◌≡◌, ◌∙◌, ◌<◌, ℕ, List, arith, length, map, ap, subst, sym}
 use Rattle.std.specs.Prelude.{IfOk}
-use Rattle.std.specs.List.{zip}
-use Rattle.piece_collector.specs.Views.{TextAt}
+use Rattle.std.proofs.lemmas.List.{length-map}
 use Rattle.work_index.specs.declared.edited.EditedText.{EditedText}
-use Rattle.work_index.specs.Changes.{IsBefore}
 use Rattle.work_index.specs.Edited.{edit_view, with_texts}
-use Rattle.work_index.specs.Pieces.{workspace_of}
-use Rattle.work_index.specs.Workspace.{AnalysisData, IsKnown, Workspace, analysis, workspace_in}
-use Rattle.work_index.proofs.Known.{as_many_texts}
-use Rattle.work_index.proofs.OtherTexts.{AreEdited, before_edits, edited_pieces}
+use Rattle.work_index.specs.Workspace.{AnalysisData, Workspace, analysis, workspace_in}
+use Rattle.work_index.proofs.Changed.{parts, zipped}
+use Rattle.work_index.proofs.OtherTexts.{before_edits}
 use Rattle.work_index.proofs.edited.analyse_edited.Goals as goal
 
 pub edit_all-requires : goal.edit_all-requires
 edit_all-requires c = λ k d lt.
-    let known = subst (λ (x : AnalysisData). IsKnown x) c.earlier.view_is c.earlier.invariant.4 in
-    let many = as_many_texts c.args.earlier.now known in
-    let old = ap length (c.in_ok-texts.ensures ∙ c.as_slice-2.ensures.value) in
-    omega (arith, c.requires k d lt, many, old, ap (λ (x : AnalysisData). length x.texts) c.earlier.view_is)
+    let files : Workspace = c.own.inside.files.items in
+    omega (arith, c.requires k d lt, length-map files (λ f. f.0), ap (λ (a : AnalysisData). length a.paths) (c.own.view_is ∙ c.in_ok-own.ensures))
 
-pub pieces_of-requires : goal.pieces_of-requires
-pieces_of-requires c =
-    let known = subst (λ (x : AnalysisData). IsKnown x) c.earlier.view_is c.earlier.invariant.4 in
-    let many = as_many_texts c.args.earlier.now known in
-    let old = ap length (c.in_ok-texts.ensures ∙ c.as_slice-2.ensures.value) in
-    let paths = ap length c.as_slice-3.ensures.value in
-    let texts = ap length c.as_slice-4.ensures.value in
-    omega (arith, many, old, paths, texts, c.in_ok-edit_all.ensures.count, ap (λ (x : AnalysisData). length x.paths) c.earlier.view_is, ap (λ (x : AnalysisData). length x.texts) c.earlier.view_is)
-
-pub analyse_again-requires : goal.analyse_again-requires
-analyse_again-requires c =
-    let a : AnalysisData = c.args.earlier.now in
+pub bring_up-requires-clause-known : goal.bring_up-requires-clause-known
+bring_up-requires-clause-known c =
+    let inside = c.own.inside in
+    let files : Workspace = inside.files.items in
     let edits : List EditedText = c.args.edits.items in
-    let pieces : List TextAt = c.as_slice-6.result.now in
-    let known : IsKnown a = subst (λ (x : AnalysisData). IsKnown x) c.earlier.view_is c.earlier.invariant.4 in
-    let are : AreEdited a edits c.in_ok-texts.texts.items c.edit_all.new.texts.items pieces = record {
-      known = known;
-      texts = c.in_ok-texts.ensures ∙ c.as_slice-2.ensures.value ∙ ap (λ (x : AnalysisData). x.texts) c.earlier.view_is;
-      edited = c.in_ok-edit_all.ensures.edited;
-      pieces_are = ap workspace_of c.as_slice-6.ensures.value ∙ c.in_ok-pieces.ensures ∙ ap₂ zip (c.as_slice-3.ensures.value ∙ ap (λ (x : AnalysisData). x.paths) c.earlier.view_is) c.as_slice-4.ensures.value;
-    } in
-    subst (λ (x : AnalysisData). IsBefore x (workspace_of pieces) c.as_slice-5.result.now) (sym c.in_ok-copy.ensures)
-    (before_edits a edits c.as_slice-5.result.now (workspace_of pieces) known c.requires (c.as_slice-5.ensures.value ∙ c.in_ok-changed.ensures ∙ ap (map (λ (e : EditedText). e.file)) c.as_slice.ensures.value)
-    (edited_pieces a edits c.in_ok-texts.texts.items c.edit_all.new.texts.items pieces are))
+    let known = c.own.invariant.4 in
+    let of = parts inside.table files inside.resolutions.links.items inside.resolutions.diagnostics.items files c.own.invariant.3 (known.is ∙ ap analysis (zipped files)) in
+    let many = ap (λ (a : AnalysisData). length a.paths) (c.own.view_is ∙ c.in_ok-own.ensures) in
+    before_edits (record { table = inside.table; resolutions = inside.resolutions }) files c.edit_all.new.files.items edits c.as_slice-2.result.now
+    (λ k d lt. omega (arith, c.requires k d lt, length-map files (λ f. f.0), many))
+    (c.as_slice-2.ensures.value ∙ c.in_ok-changed.ensures ∙ ap (map (λ (e : EditedText). e.file)) c.as_slice.ensures.value) c.in_ok-edit_all.ensures of.table_is of.links_are of.diagnostics_are
 
 pub returns : goal.returns
 returns c =
-    let a : AnalysisData = c.args.earlier.now in
-    let edits : List EditedText = c.args.edits.items in
-    let pieces : List TextAt = c.as_slice-6.result.now in
-    let are : AreEdited a edits c.in_ok-texts.texts.items c.edit_all.new.texts.items pieces = record {
-      known = subst (λ (x : AnalysisData). IsKnown x) c.earlier.view_is c.earlier.invariant.4;
-      texts = c.in_ok-texts.ensures ∙ c.as_slice-2.ensures.value ∙ ap (λ (x : AnalysisData). x.texts) c.earlier.view_is;
-      edited = c.in_ok-edit_all.ensures.edited;
-      pieces_are = ap workspace_of c.as_slice-6.ensures.value ∙ c.in_ok-pieces.ensures ∙ ap₂ zip (c.as_slice-3.ensures.value ∙ ap (λ (x : AnalysisData). x.paths) c.earlier.view_is) c.as_slice-4.ensures.value;
-    } in
-    subst (λ (w : Workspace). IfOk c.analyse_again.result (λ found. found ≡ analysis w)) (edited_pieces a edits c.in_ok-texts.texts.items c.edit_all.new.texts.items pieces are) c.analyse_again.ensures
+    let files : Workspace = c.own.inside.files.items in
+    let was : files ≡ workspace_in c.args.earlier.now = sym (zipped files) ∙ ap workspace_in (c.own.view_is ∙ c.in_ok-own.ensures) in
+    subst (λ (w : Workspace). IfOk c.bring_up.result (λ found. found ≡ analysis w)) (c.in_ok-edit_all.ensures ∙ ap (with_texts (map edit_view c.args.edits.items)) was) c.bring_up.ensures

@@ -1,7 +1,7 @@
-use Rattle.std.proofs.Common.{◌∙◌, List, map, refl, sym, ap, subst}
+use Rattle.std.proofs.Common.{◌∙◌, List, refl, sym, ap, subst}
 use Rattle.piece_collector.specs.Board.{Ascends}
 use Rattle.piece_collector.specs.Views.{TextAt}
-use Rattle.work_index.specs.Pieces.{texts_of, workspace_of}
+use Rattle.work_index.specs.Pieces.{workspace_of}
 use Rattle.work_index.specs.Workspace.{analysis}
 use Rattle.work_index.proofs.Known.{hold_together, is_analysis}
 use Rattle.work_index.proofs.in_shares.analyse_in_shares.Goals as goal
@@ -13,11 +13,9 @@ of-requires-2-after_bounds g c κs =
 pub invariant_of-analysis : goal.invariant_of-analysis
 invariant_of-analysis g c =
     let ts : List TextAt = c.into_pieces-pieces.result.items in
-    let all = c.in_ok-of.ensures ∙ c.in_ok-table.ensures.table in
     let linked = c.in_ok-table.ensures.linked in
-    let paths = c.in_ok-paths.ensures ∙ ap (map (λ (t : TextAt). t.path)) c.as_slice.ensures.value in
-    let texts = c.in_ok-texts.ensures ∙ ap texts_of (c.as_slice-2.ensures.value ∙ linked.pieces) in
-    hold_together ts _ _ _ _ _ all paths texts (linked.links refl) linked.diagnostics
+    let files = c.in_ok-files.ensures ∙ ap workspace_of (c.as_slice.ensures.value ∙ linked.pieces) in
+    hold_together (workspace_of ts) _ _ _ _ (c.in_ok-of.ensures ∙ c.in_ok-table.ensures.table) files (linked.links refl) linked.diagnostics
 
 pub returns-clause-pieces : goal.returns-clause-pieces
 returns-clause-pieces g c = c.of-2.ensures ∙ (c.in_ok-table.ensures.linked.pieces ∙ c.into_pieces-pieces.ensures.pieces)
@@ -26,6 +24,5 @@ pub returns-clause-analysis : goal.returns-clause-analysis
 returns-clause-analysis g c =
     let ts : List TextAt = c.into_pieces-pieces.result.items in
     let linked = c.in_ok-table.ensures.linked in
-    let paths = c.in_ok-paths.ensures ∙ ap (map (λ (t : TextAt). t.path)) c.as_slice.ensures.value in
-    let texts = c.in_ok-texts.ensures ∙ ap texts_of (c.as_slice-2.ensures.value ∙ linked.pieces) in
-    is_analysis ts _ _ _ _ _ (c.in_ok-of.ensures ∙ c.in_ok-table.ensures.table) paths texts (linked.links refl) linked.diagnostics ∙ ap (λ us. analysis (workspace_of us)) c.into_pieces-pieces.ensures.pieces
+    let files = c.in_ok-files.ensures ∙ ap workspace_of (c.as_slice.ensures.value ∙ linked.pieces) in
+    is_analysis (workspace_of ts) _ _ _ _ (c.in_ok-of.ensures ∙ c.in_ok-table.ensures.table) files (linked.links refl) linked.diagnostics ∙ ap (λ us. analysis (workspace_of us)) c.into_pieces-pieces.ensures.pieces

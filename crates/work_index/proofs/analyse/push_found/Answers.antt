@@ -1,0 +1,6 @@
+use Rattle.std.proofs.Common.{◌∙◌, ◌++◌, [], ◌∷◌, List, ap}
+use Rattle.file_facts.specs.declared.diagnostic.Diag.{Diag}
+use Rattle.work_index.proofs.analyse.push_found.Goals as goal
+
+pub returns-clause-diagnostics : goal.returns-clause-diagnostics
+returns-clause-diagnostics c = c.in_ok-push.ensures.items ∙ ap (λ (diagnostics : List Diag). c.args.resolutions.now.diagnostics.items ++ diagnostics ∷ []) (c.in_ok-diagnostics.ensures c.args.piece.now.text c.facts_in.ensures)
