@@ -13,7 +13,6 @@ use Rattle.std.proofs.lemmas.List.Edits.{get_or-insert_at, get_or-insert_below, 
 use Rattle.std.proofs.lemmas.List.Elements.{All-map}
 use Rattle.std.proofs.lemmas.List.FromFn.{length-map-range_with_len, get_or-map-range_with_len}
 use Rattle.std.proofs.lemmas.Option.{same_Some}
-use Rattle.std.proofs.lemmas.Simd.{map-map}
 use Rattle.file_facts.specs.declared.diagnostic.Diag.{Diag}
 use Rattle.file_facts.specs.declared.fact.FileFacts.{FileFacts}
 use Rattle.file_facts.specs.declared.named_facts.NamedFacts.{NamedFacts}
@@ -31,9 +30,9 @@ use Rattle.link_changes.specs.Touched.{links_after, target_after, use_after}
 use Rattle.work_index.specs.Arrivals.{Arrives, NoneImports, numbers_with}
 use Rattle.work_index.specs.FilesMoves.{HasCome}
 use Rattle.work_index.specs.Stayed.{Stay}
-use Rattle.work_index.specs.Workspace.{Workspace, AnalysisData, all_facts, analysis, diagnostics_of, named_facts, resolution_of}
+use Rattle.work_index.specs.Workspace.{Workspace, AnalysisData, all_facts, named_facts}
 use Rattle.work_index.proofs.Ascending.{ordered_files}
-use Rattle.work_index.proofs.Changed.{AreParts, made, made_length, nothing}
+use Rattle.work_index.proofs.Changed.{AreParts, nothing}
 use Rattle.work_index.proofs.Unimported.{AreWithIt, ComesUnimported, with_it}
 
 -- ---- the numbers of files

@@ -21,7 +21,7 @@ use Rattle.import_graph.proofs.ImportEdges.{filter_from, filter_to}
 use Rattle.import_graph.proofs.OneView.{in_range, rising}
 use Rattle.file_facts.specs.declared.diagnostic.Diag.{Diag}
 use Rattle.proto_resolve.specs.declared.resolve.Links.{Links}
-use Rattle.proto_names.specs.Files.{all_decls, facts_at, is_seen}
+use Rattle.proto_names.specs.Files.{facts_at, is_seen}
 use Rattle.proto_resolve.specs.Outlines.{import_outline}
 use Rattle.proto_names.specs.Outlines.{with_facts, exports}
 use Rattle.proto_resolve.proofs.Outlines.{asking, same_graph}

@@ -1,5 +1,5 @@
 -- Other texts of some files.
-use Rattle.std.proofs.Common.{◌≡◌, ◌∙◌, ◌<◌, ◌≤◌, ℕ, zero, suc, ◌+◌, cond, List, [], ◌∷◌, ◌++◌, Some, None, Option, Bool, true, false, length, get_or, map, set, refl, sym, ap, ap₂, subst, arith, zero-add, length-append}
+use Rattle.std.proofs.Common.{◌≡◌, ◌∙◌, ◌<◌, ℕ, zero, suc, ◌+◌, cond, List, [], ◌∷◌, ◌++◌, Some, None, Option, Bool, true, false, length, get_or, map, set, refl, sym, ap, ap₂, subst, arith, zero-add, length-append}
 use Rattle.std.specs.Prelude.{◌==◌, All, Contains, find}
 use Rattle.std.specs.List.{enumerate_from}
 use Rattle.std.specs.Option.{option_map_or, option_or}

@@ -1,5 +1,5 @@
 -- The workspace of some pieces.
-use Rattle.std.specs.Prelude.{ℕ, List, map}
+use Rattle.std.specs.Prelude.{List, map}
 use Rattle.piece_collector.specs.Views.{TextAt}
 use Rattle.work_index.specs.Workspace.{Workspace}
 

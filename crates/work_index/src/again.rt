@@ -24,7 +24,9 @@ use crate::source_file::SourceFile;
 use import_graph::{FileNo, Graph, SharedFacts, same_outlook};
 use link_changes::{Asked, Renumbering, Touched, renumber, touched_law};
 use piece_collector::Piece;
-use proto_resolve::{Index, Links, ListedTable, Table, resolve_file, same_exports, same_imports, seen_law};
+use proto_resolve::{
+    Index, Links, ListedTable, Table, resolve_file, same_exports, same_imports, seen_law,
+};
 use std::alloc::{AllocError, Global};
 use syntax_tree::FileTree;
 
@@ -179,7 +181,14 @@ fn link_again(
 {
     match pieces {
         Some(pieces) => {
-            set_linked(alloc, table, file, source, tree_in(&pieces[file]), resolutions)
+            set_linked(
+                alloc,
+                table,
+                file,
+                source,
+                tree_in(&pieces[file]),
+                resolutions,
+            )
         }
         None => {
             let tree = tree_of(alloc, source.text())?;

@@ -1,4 +1,4 @@
-use Rattle.std.proofs.Common.{◌≡◌, ◌<◌, ◌∙◌, ℕ, ap, subst, sym}
+use Rattle.std.proofs.Common.{◌≡◌, ◌<◌, ◌∙◌, ℕ, subst, sym}
 use Rattle.std.specs.Prelude.{All, IfOk}
 use Rattle.work_index.specs.Changes.{WasKnown}
 use Rattle.work_index.specs.Pieces.{workspace_of}

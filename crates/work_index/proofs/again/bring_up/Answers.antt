@@ -1,5 +1,4 @@
-use Rattle.std.proofs.Common.{◌≡◌, ◌∙◌, arith, map, refl, sym, ap, subst}
-use Rattle.std.specs.List.{enumerate_from}
+use Rattle.std.proofs.Common.{◌∙◌, arith, refl, sym, ap, subst}
 use Rattle.work_index.specs.Changes.{AreTakenBut}
 use Rattle.work_index.specs.declared.again.Relinking.{Relinking}
 use Rattle.work_index.specs.Workspace.{Workspace, all_facts, diagnostics_of, resolution_of}

@@ -1,6 +1,5 @@
-use Rattle.std.proofs.Common.{◌≡◌, ◌∙◌, ℕ, List, ap, refl}
+use Rattle.std.proofs.Common.{◌∙◌, ap, refl}
 use Rattle.file_facts.specs.declared.fact.FileFacts.{FileFacts}
-use Rattle.file_facts.specs.Facts.{facts_of}
 use Rattle.work_index.proofs.OwnDiags.{own-merged}
 use Rattle.work_index.proofs.analyse.diagnostics_of.Goals as goal
 

@@ -1,4 +1,4 @@
-use Rattle.std.proofs.Common.{◌≡◌, ◌∙◌, ℕ, List, map, length, arith, sym, ap, ap₂, refl, subst}
+use Rattle.std.proofs.Common.{◌≡◌, ◌∙◌, ℕ, List, map, length, arith, sym, ap, ap₂, subst}
 use Rattle.std.specs.List.{insert}
 use Rattle.std.proofs.lemmas.List.{length-map}
 use Rattle.file_facts.specs.Facts.{facts_of}
