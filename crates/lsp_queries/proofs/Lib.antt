@@ -20,3 +20,4 @@ pub mod RenamingLemmas
 pub mod Spans
 pub mod TakenLemmas
 pub mod WithTexts
+mod NextFile

@@ -101,7 +101,12 @@ fn has_package(analysis: &Analysis, file: FileNo, full_name: &str) -> bool
 fn is_package(analysis: &Analysis, full_name: &str) -> bool
     ensures { result ≡ is_package analysis.now full_name.now }
 {
-    (0..analysis.file_count()).any(|file| has_package(analysis, file, full_name))
+    for file in 0..analysis.file_count() {
+        if has_package(analysis, file, full_name) {
+            return true;
+        }
+    }
+    false
 }
 
 // Whether the full name of a declaration with a new name is that of another declaration, or of a package.

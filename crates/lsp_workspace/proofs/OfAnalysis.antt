@@ -1,9 +1,9 @@
 -- The workspace of an analysis, file by file.
-use Rattle.std.proofs.Common.{◌≡◌, ◌<◌, ◌≤◌, ◌∙◌, ℕ, zero, suc, List, [], ◌∷◌, Some, length, get_or, map, refl, sym, ap, arith}
+use Rattle.std.proofs.Common.{◌≡◌, ◌<◌, ◌≤◌, ◌∙◌, ℕ, List, [], Some, length, get_or, map, sym, ap, arith}
 use Rattle.std.specs.List.{slice_get}
 use Rattle.std.proofs.lemmas.List.{length-map, get_or-map, get_or_past}
-use Rattle.std.proofs.lemmas.Option.{get_or_from_slice_get, slice_get_within}
-use Rattle.work_index.specs.Workspace.{AnalysisData, IsKnown, Workspace, analysis, workspace_in}
+use Rattle.std.proofs.lemmas.Option.{get_or_from_slice_get}
+use Rattle.work_index.specs.Workspace.{AnalysisData, IsKnown, Workspace, workspace_in}
 
 module _ (a : AnalysisData) (known : IsKnown a) where
   abbrev w : Workspace

@@ -1,4 +1,4 @@
-use Rattle.std.proofs.Common.{length, refl, sym, ap, ◌∙◌, arith}
+use Rattle.std.proofs.Common.{refl, sym, ◌∙◌, arith}
 use Rattle.lsp_queries.proofs.FileByFile.{as_many-same, files-same}
 use Rattle.lsp_queries.proofs.comparing.same_meaning.Goals as goal
 

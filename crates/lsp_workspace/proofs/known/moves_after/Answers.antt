@@ -1,1 +1,0 @@
-use Rattle.lsp_workspace.proofs.known.moves_after.Goals as goal

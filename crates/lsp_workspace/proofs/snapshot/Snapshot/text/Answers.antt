@@ -1,4 +1,0 @@
-use Rattle.std.proofs.Common.{◌≡◌, ◌<◌, ◌≤◌, ◌∙◌, [], get_or, length, sym, ap, arith}
-use Rattle.work_index.specs.Workspace.{Workspace}
-use Rattle.lsp_workspace.proofs.OfAnalysis.{none_past, text_of}
-use Rattle.lsp_workspace.proofs.snapshot.Snapshot.text.Goals as goal
