@@ -110,6 +110,12 @@ def in_many_scopes(n):
     return {"a.proto": f"{HEAD}package {'.'.join(f'p{k}' for k in range(100))};\nmessage M {{\n{fields}}}\n"}
 
 
+def of_two_components(n):
+    """A package of n components, and n names of two components that nothing declares."""
+    fields = "".join(f"T{k}.U f{k} = {k + 1};\n" for k in range(n))
+    return {"a.proto": f"{HEAD}package {'.'.join(f'p{k}' for k in range(n))};\nmessage M {{\n{fields}}}\n"}
+
+
 def uses(files, each):
     """A file that declares a message, and others that each name it so often."""
     fields = "".join(f"M f{k} = {k + 1};\n" for k in range(each))

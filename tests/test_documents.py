@@ -96,12 +96,14 @@ class Documents(unittest.TestCase):
                         found = named.search(path.read_text(encoding="utf-8"))
                         self.assertIsNone(found, found and f"{found[0]}: {OLD_NAMES[found[0]]}")
 
-    def test_each_library_has_a_readme(self):
+    def test_each_crate_says_what_is_proved_what_is_only_tested_and_what_is_neither(self):
         for line in (ROOT / "crates.txt").read_text().splitlines():
             crate = line.partition(":")[0]
-            if re.match(r"\w+:", line) and (ROOT / "crates" / crate / "specs").is_dir():
+            if re.match(r"\w+:", line):
                 with self.subTest(crate=crate):
-                    self.assertTrue((ROOT / "crates" / crate / "README.md").is_file())
+                    headings = HEADING.findall((ROOT / "crates" / crate / "README.md").read_text(encoding="utf-8"))
+                    said = [heading for heading in headings if heading in ("What is proved", "What is only tested", "What is neither")]
+                    self.assertEqual(said, ["What is proved", "What is only tested", "What is neither"])
 
     def test_each_library_is_in_the_table_of_crates(self):
         rows = re.findall(r"^\| (`[^|]*) \|", (ROOT / "docs/ARCHITECTURE.md").read_text(encoding="utf-8"), re.MULTILINE)
@@ -111,9 +113,9 @@ class Documents(unittest.TestCase):
 
     def test_documents_are_short(self):
         words = {document: len(document.read_text(encoding="utf-8").split()) for document in documents()}
-        self.assertLess(words[ROOT / "README.md"], 1500)
+        self.assertLessEqual(words[ROOT / "README.md"], 1200)
         self.assertLessEqual(words[ROOT / "docs/BENCHMARKS.md"], 800)
-        self.assertLessEqual(sum(count for document, count in words.items() if document.parent == ROOT / "docs"), 20_000)
+        self.assertLessEqual(sum(count for document, count in words.items() if document.parent == ROOT / "docs"), 17_000)
 
     def test_the_lines_of_a_check_are_those_of_the_example(self):
         shown = re.findall(r"^    (shop/.*)$", (ROOT / "README.md").read_text(encoding="utf-8"), re.MULTILINE)
