@@ -24,6 +24,48 @@ OLD, ORDER, GOOD = 'syntax = "proto2";|', "S|/* 😀é */ message M { Gone g = 1
 TREE = {"old.proto": OLD, "shop/order.proto": ORDER, "good.proto": GOOD}
 SUMMARY = b"protols: 3 files checked, 1 error\n"
 
+# A file that imports a missing one, one that sees it, and one that sees only that one, so that its view is closed.
+LOST = {
+    "a.proto": 'S|import "gone/none.proto";|message A { Gone g = 1; }|',
+    "b.proto": 'S|import "a.proto";|message B { Gone g = 1; }|',
+    "c.proto": 'S|import "b.proto";|message C { Gone g = 1; }|',
+}
+WHY = "not checked for unknown names, since an import is missing or isn't proto3"
+
+# Files by path, the files that are named, and what the last line says behind `protols: `.
+UNCHECKED = [
+    ({"a.proto": 'S|import "b.proto";|message A { Gone g = 1; }|', "b.proto": "S|"}, [], "2 files checked, 1 error"),
+    ({"a.proto": 'S|import "none.proto";|'}, [], f"1 file checked, 1 error; 1 file {WHY}: none.proto"),
+    (LOST, [], f"3 files checked, 2 errors; 2 files {WHY}: gone/none.proto"),
+    (LOST, ["protos/b.proto"], f"1 file checked, 0 errors; 1 file {WHY}: gone/none.proto"),
+    (LOST, ["protos/c.proto"], "1 file checked, 1 error"),
+    (LOST, ["protos/c.proto", "protos/b.proto"], f"2 files checked, 1 error; 1 file {WHY}: gone/none.proto"),
+    # A file that isn't proto3 is a file whose imports aren't known, and none of those that aren't checked.
+    ({"a.proto": 'S|import "old.proto";|message A { Gone g = 1; }|', "old.proto": OLD + 'import "none.proto";|'}, [], f"2 files checked, 0 errors; 1 file {WHY}: old.proto"),
+    ({"old.proto": OLD + 'import "none.proto";|'}, [], "1 file checked, 0 errors"),
+    # Public imports show a file from afar.
+    (
+        {"a.proto": 'S|import public "old.proto";|', "b.proto": 'S|import public "a.proto";|', "c.proto": 'S|import "b.proto";|', "d.proto": 'S|import "c.proto";|', "old.proto": OLD},
+        [],
+        f"5 files checked, 0 errors; 3 files {WHY}: old.proto",
+    ),
+    # The first file, of the files that it sees the first, and there the first import, by paths and by the text; not the first of all paths.
+    (
+        {"b.proto": 'S|import "d.proto";|import "none.proto";|', "c.proto": 'S|import "a.proto";|', "d.proto": 'S|import "good.proto";|import "z.proto";|import "old.proto";|', "good.proto": GOOD, "old.proto": OLD},
+        [],
+        f"5 files checked, 3 errors; 3 files {WHY}: none.proto",
+    ),
+    (
+        {"c.proto": 'S|import "b.proto";|import "none.proto";|', "b.proto": 'S|import "good.proto";|import "z.proto";|import "old.proto";|', "good.proto": GOOD, "old.proto": OLD},
+        ["protos/c.proto"],
+        f"1 file checked, 1 error; 1 file {WHY}: z.proto",
+    ),
+    # Files in a ring see each other.
+    ({"a.proto": 'S|import public "b.proto";|', "b.proto": 'S|import public "a.proto";|import "none.proto";|'}, [], f"2 files checked, 3 errors; 2 files {WHY}: none.proto"),
+    # The path stands there as it is written.
+    ({"a.proto": 'S|import "/a b/" "\\x41é.proto";|'}, [], f"1 file checked, 1 error; 1 file {WHY}: /a b/\\x41é.proto"),
+]
+
 # The name of a file, how a property of a workflow command writes it, and how a URI does.
 NAMES = [
     ("a\nb", "a%0Ab", "a%0Ab"),
@@ -239,6 +281,16 @@ class StandardError(FormatsTest):
         self.assertEqual(self.run_check("--root", "protos", "protos/good.proto"), (b"", b"protols: 1 file checked, 0 errors\n", 0))
         self.put("more.proto", spelled("S|##|"))
         self.assertEqual(self.run_check("--root", "protos")[1:], (b"protols: 4 files checked, 3 errors\n", 1))
+
+    def test_files_that_are_not_checked_for_unknown_names(self):
+        for files, words, line in UNCHECKED:
+            with self.subTest(files=files, words=words):
+                shutil.rmtree(self.root)
+                self.root.mkdir()
+                self.put_all(files)
+                out, err, status = self.run_check("--root", "protos", *words)
+                self.assertEqual((err.decode(), status), (f"protols: {line}\n", int(", 0 errors" not in line)))
+                self.assertEqual(self.run_check("--quiet", "--root", "protos", *words), (out, b"", status))
 
     def test_a_folder_without_files(self):
         nothing, none = b"protols: no .proto files below protos\n", b"protols: 0 files checked, 0 errors\n"

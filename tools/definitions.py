@@ -28,7 +28,7 @@ ORDER = {
     "proto_resolve": "Sites Names Uses Finding FindingLaws ViewDiagnostics Resolved Laws DiagnosticLaws Seen Outlines".split(),
     "doc_text": "Lines Positions Edits Laws".split(),
     "piece_collector": "Events History Views Board Runs Fault Laws".split(),
-    "work_index": "Workspace Pieces Changes Fault".split(),
+    "work_index": "Workspace Unchecked Pieces Changes Fault".split(),
     "lsp_workspace": "Files Roots Texts Disk View".split(),
     "lsp_answers": "Context Questions Answers Reports Diagnostics Ranges Views".split(),
     "lsp_check": "Lines Listing Sarif".split(),

@@ -20,6 +20,7 @@ pub mod Representatives
 pub mod Sharing
 pub mod Flagged
 pub mod Seers
+pub mod OpenViews
 pub mod NewNumbers
 pub mod OneMoreFile
 pub mod FileInserted

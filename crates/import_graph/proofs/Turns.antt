@@ -1,14 +1,14 @@
 -- Rows turned round, file by file.
-use Rattle.std.proofs.Common.{◌≡◌, ◌⊎◌, inl, inr, ⊎_elim, ◌↔◌, ℕ, ◌<◌, List, [], ◌∷◌, ◌++◌, length, get_or, get_or-set_other, get_or-set_same, sym, subst, ◌∙◌, arith}
+use Rattle.std.proofs.Common.{◌≡◌, ◌⊎◌, inl, inr, ⊎_elim, ◌↔◌, ℕ, ◌<◌, List, [], ◌∷◌, ◌++◌, length, get_or, get_or-set_other, get_or-set_same, sym, ◌∙◌, arith}
 use Rattle.std.proofs.Math.ListN.{set}
 use Rattle.std.specs.Prelude.{Contains}
 use Rattle.std.proofs.lemmas.Bool.{cases_eq, cases_lt}
 use Rattle.std.proofs.lemmas.List.{get_or_past, get_or_push, get_or_append_left}
 use Rattle.std.proofs.lemmas.List.Elements.{Contains-push, Contains-append_left, Contains-push_cases}
-use Rattle.import_graph.specs.Condensed.{Leads}
+use Rattle.import_graph.specs.Condensed.{LeadsToOne}
 use Rattle.import_graph.specs.Walks.{Lists, ReachedFrom}
 use Rattle.import_graph.specs.Tours.{Adds, IsTurned}
-use Rattle.import_graph.proofs.ImportEdges.{here, here_or_next}
+use Rattle.import_graph.proofs.ImportEdges.{here}
 use Rattle.import_graph.proofs.Mutual.{lists_push}
 use Rattle.import_graph.proofs.Search.{walk_back}
 
@@ -61,12 +61,9 @@ IsTurned-push rows old new row file long before adds a b = (
   λ has. (adds a b).1 (⊎_elim (λ (_, earlier). inl ((before a b).1 earlier)) (λ (last, there). inr (there, last ∙ long)) (lists_push rows row b a has)),
 )
 
--- from a file turned rows lead to those from which the rows lead to it
-pub turned_leads : (rows turned : List (List ℕ)) → IsTurned rows turned → (file g : ℕ) → ReachedFrom turned (file ∷ []) g ↔ Leads rows g file
-turned_leads rows turned is file g = (
-  λ (h, has, walk). ⊎_elim
-      (λ same. let by = walk_back (λ a b. (is a b).0) walk in subst (λ (x : ℕ). Leads rows g x) (sym same) by)
-      (λ bad. absurd (omega (arith, bad.1)))
-      (here_or_next file h [] has),
-  λ walk. (file, here file [], walk_back (λ a b. (is b a).1) walk),
+-- from some files turned rows lead to those from which the rows lead to one of them
+pub turned_leads : (rows turned : List (List ℕ)) → IsTurned rows turned → (files : List ℕ) (g : ℕ) → ReachedFrom turned files g ↔ LeadsToOne rows files g
+turned_leads rows turned is files g = (
+  λ (h, has, walk). (h, has, walk_back (λ a b. (is a b).0) walk),
+  λ (h, has, walk). (h, has, walk_back (λ a b. (is b a).1) walk),
 )

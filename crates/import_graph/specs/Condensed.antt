@@ -6,6 +6,10 @@ use Rattle.import_graph.specs.Walks.{Lists, Walk}
 abbrev pub Leads : List (List ℕ) → ℕ → ℕ → Type 0
 Leads next a b = Walk (λ x y. Lists next x y) a b
 
+-- steps lead from a to one of these files
+abbrev pub LeadsToOne : List (List ℕ) → List ℕ → ℕ → Type 0
+LeadsToOne next files a = (b : ℕ) × Contains files b × Leads next a b
+
 -- steps of both kinds lead from each file to the same ones
 abbrev pub LeadAlike : List (List ℕ) → List (List ℕ) → Type 0
 LeadAlike some others = (a b : ℕ) → Leads some a b ↔ Leads others a b

@@ -10,7 +10,7 @@ use crate::coming::{components_with, flags_with, imports_with, rows_with};
 use crate::components::{Components, components_of};
 use crate::condensed::condensed_steps;
 use crate::file_search::reached;
-use crate::imports::{FileImports, completeness, imports_of};
+use crate::imports::{FileImports, completeness, imports_of, is_analysed};
 use crate::paths::FileNo;
 use crate::seen_by::{importing, leading_to};
 use crate::shared::{SharedLists, shared_lists};
@@ -51,10 +51,10 @@ impl Model for Graph {
 }
 
 impl Graph {
-    ghost use Rattle.import_graph.specs.Imports.{graph_of, edges_at, target_at};
+    ghost use Rattle.import_graph.specs.Imports.{graph_of, edges_at, target_at, is_analysed};
     ghost use Rattle.std.specs.List.{list_all};
-    ghost use Rattle.import_graph.specs.Closures.{view_of, seers_of, reaches, closes_cycle, is_complete, is_closed};
-    ghost use Rattle.import_graph.specs.Views.{Imports, Sees, Reaches, ClosesCycle, IsClosed};
+    ghost use Rattle.import_graph.specs.Closures.{view_of, seers_of, reaches, closes_cycle, is_complete, is_closed, incomplete_files, open_views};
+    ghost use Rattle.import_graph.specs.Views.{Imports, Sees, SeesOne, Reaches, ClosesCycle, IsClosed};
 
     /// The graph of files, which are given in the order of their paths' bytes, no path twice. Each file's number is its
     /// place in the list, from 0. `Err` where memory was refused.
@@ -146,6 +146,16 @@ impl Graph {
         self.files[file].edges.as_slice()[import].target
     }
 
+    /// Whether an import names a file that is not opaque. The import is given by its place, from 0, among the imports of its file. Takes no
+    /// memory.
+    pub fn names_analysed(&self, file: FileNo, import: usize) -> bool
+        requires file { file < length self.now }
+        requires import { import < length (edges_at self.now file) }
+        ensures { result ≡ is_analysed self.now (target_at self.now file import) }
+    {
+        is_analysed(self.files.as_slice(), self.import_of(file, import))
+    }
+
     // How many imports a file has.
     pub(crate) fn import_count(&self, file: FileNo) -> usize
         requires { file < length self.now }
@@ -205,9 +215,48 @@ impl Graph {
         ensures within { IfOk result (λ v. All (λ g. g < length self.now) v.items) }
         ensures exact { IfOk result (λ v. (g : ℕ) → Contains v.items g ↔ Sees self.now g file) }
     {
+        let _ = &self.files;
+        let seers = self.seers(&[file])?;
+        Ok(seers)
+    }
+
+    // The files that see one of these, ascending.
+    fn seers(&self, files: &[FileNo]) -> Result<Vec<FileNo>, AllocError>
+        requires { All (λ g. g < length self.now) files.now }
+        ensures ascending { IfOk result (λ v. IsStrictlyIncreasing v.items) }
+        ensures exact { IfOk result (λ v. (g : ℕ) → Contains v.items g ↔ SeesOne self.now files.now g) }
+    {
         let steps = self.steps.as_slice();
-        let leading = leading_to(self.alloc, steps, file)?;
-        let seers = importing(self.alloc, self.imports.as_slice(), &leading, file)?;
+        let leading = leading_to(self.alloc, steps, files)?;
+        let seers = importing(self.alloc, self.imports.as_slice(), &leading)?;
+        Ok(seers)
+    }
+
+    // The files that aren't complete, ascending.
+    fn incomplete(&self) -> Result<Vec<FileNo>, AllocError>
+        ensures { IfOk result (λ v. v.items ≡ incomplete_files self.now) }
+    {
+        let mut found = Vec::new(self.alloc);
+        for file in 0..self.files.len() {
+            if !self.is_complete(file) {
+                found.push(file)?;
+            }
+        }
+        Ok(found)
+    }
+
+    /// The numbers of the files whose view isn't closed, ascending, each once. One search finds them, back from all files of which an import
+    /// names no file, or an opaque one. `Err` where memory was refused.
+    pub fn open_views(&self) -> Result<Vec<FileNo>, AllocError>
+        ensures value { IfOk result (λ v. v.items ≡ open_views self.now) }
+        ensures within { IfOk result (λ v. All (λ g. g < length self.now) v.items) }
+    {
+        let _ = &self.files;
+        let incomplete = self.incomplete()?;
+        if incomplete.is_empty() {
+            return Ok(incomplete);
+        }
+        let seers = self.seers(incomplete.as_slice())?;
         Ok(seers)
     }
 

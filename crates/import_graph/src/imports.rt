@@ -84,7 +84,8 @@ pub fn imports_of(
     })
 }
 
-fn is_analysed(files: &[FileImports], target: Option<FileNo>) -> bool
+// Whether an import of this target names one of the files that is not opaque.
+pub fn is_analysed(files: &[FileImports], target: Option<FileNo>) -> bool
     ensures { result ≡ is_analysed files.now target }
 {
     match target {

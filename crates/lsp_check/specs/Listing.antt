@@ -1,11 +1,12 @@
 -- What is wrong in a workspace, as a command line shows it.
-use Rattle.std.specs.Prelude.{ℕ, ◌-◌, ◌^◌, List, [], ◌∷◌, Bool, true, if◌then◌else◌, Option, Some, None, slice_index_or, length, map, min, string_bytes, sum_by, count_by}
+use Rattle.std.specs.Prelude.{ℕ, ◌-◌, ◌^◌, List, [], ◌∷◌, Bool, true, if◌then◌else◌, Option, Some, None, slice_index_or, length, map, min, string_bytes, sum_by, count_by, filter, slice_get, option_and_then}
 use Rattle.std.specs.List.{enumerate_from, flat_map, list_any}
 use Rattle.std.specs.BTreeSet.{BTreeSet, contains_text}
 use Rattle.std.specs.declared.alloc.Global.{Global}
 use Rattle.std.specs.declared.string.String.{String}
 use Rattle.file_facts.specs.declared.diagnostic.Diag.{Diag}
-use Rattle.work_index.specs.Workspace.{Workspace, AnalysisData, analysis}
+use Rattle.work_index.specs.Unchecked.{unchecked, first_lost}
+use Rattle.work_index.specs.Workspace.{Workspace, AnalysisData, all_facts, analysis}
 use Rattle.lsp_workspace.specs.Files.{Files, text_of, workspace}
 use Rattle.lsp_check.specs.Lines.{lines_of, ListedFileData, written, is_error_message, document}
 use Rattle.lsp_check.specs.declared.wanted.Checked.{Checked}
@@ -92,6 +93,19 @@ file_errors how a file = count_by is_error (wanted_diags how a file)
 abbrev pub error_count : Listing → Workspace → ℕ
 error_count how w = sum_by (file_errors how (analysis w)) (enumerate_from 0 w)
 
+-- those of the files that aren't checked for unknown names, by number
+abbrev pub wanted_unchecked : Listing → Workspace → List ℕ
+wanted_unchecked how w = filter (λ n. is_wanted how (slice_index_or w n ([], [])).0) (unchecked (all_facts w))
+
+-- the path in the first import because of which the first of some files isn't
+abbrev pub lost_of_first : Workspace → List ℕ → Option (List ℕ)
+lost_of_first w numbers = option_and_then (first_lost (all_facts w)) (slice_get numbers 0)
+
 -- what a check found; the highest number if there are more errors
 abbrev pub checked_of : Listing → Workspace → Checked
-checked_of how w = record { files = wanted_count how w; errors = min (error_count how w) (2 ^ 64 - 1) }
+checked_of how w = record {
+  files = wanted_count how w;
+  errors = min (error_count how w) (2 ^ 64 - 1);
+  unchecked = length (wanted_unchecked how w);
+  first_lost = lost_of_first w (wanted_unchecked how w);
+}

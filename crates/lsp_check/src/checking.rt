@@ -252,11 +252,14 @@ fn send_and_judge<R: Threads + Wait, K: ByteSink>(
     ensures once { (K.counts writer.new).errors ≤ (K.counts writer.old).errors + 1 }
 {
     send_document(rt, alloc, writer, listed, workers)?;
-    Ok(listed.checked())
+    match listed.checked(alloc) {
+        Ok(checked) => Ok(checked),
+        Err(_) => Err(ServeFault::Memory),
+    }
 }
 
 /// Checks the files of a configuration: writes a line for each diagnostic of the files that are asked for, as it is asked for, and answers
-/// how many of these files there are, and how many errors.
+/// how many of these files there are, how many errors, and how many of the files aren't checked for unknown names.
 ///
 /// The lines come by path, and those of a file by start, end, number and words. Each ends with a line feed, but for the results of a document
 /// of SARIF, which is one line. They are gathered in memory and written whenever they come to 64 KiB, and at the end: at most 4,096 lines beyond
@@ -287,7 +290,7 @@ pub fn check_as<R: Threads + Wait + Clone + Send + Drop + 'static, K: ByteSink, 
     ensures prefix { SendsPrefix (K.written writer.old) (K.written writer.new) (listed asked.how (files_of asked.config)) }
     ensures whole { OnOk result (Appends (K.written writer.old) (K.written writer.new) (listed asked.how (files_of asked.config))) }
 
-    // It answers how many files are asked for, and how many of their diagnostics are errors.
+    // It answers how many files are asked for, how many of their diagnostics are errors, and how many of them aren't checked for unknown names.
     ensures checked { IfOk result (λ found. found ≡ checked_of asked.how (workspace (files_of asked.config))) }
 
     // The faults are those of memory and threads, and the sink's, which is reported only where the sink failed in the call.

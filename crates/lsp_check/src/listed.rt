@@ -1,14 +1,14 @@
 // The files of a check with what is wrong in them, and what is asked for.
-ghost use Rattle.std.specs.Prelude.{◌≡◌, ◌-◌, ◌<◌, ◌^◌, [], length, None, slice_index_or, min};
+ghost use Rattle.std.specs.Prelude.{◌≡◌, ◌-◌, ◌<◌, ◌^◌, [], length, All, IfOk, None, slice_index_or, min};
 ghost use Rattle.work_index.specs.Workspace.{analysis};
-ghost use Rattle.lsp_check.specs.Listing.{is_error, is_wanted, listed_file, wanted_diags, wanted_count, line_count, error_count, file_errors, checked_of};
+ghost use Rattle.lsp_check.specs.Listing.{is_error, is_wanted, listed_file, wanted_diags, wanted_count, line_count, error_count, file_errors, wanted_unchecked, lost_of_first, checked_of};
 
 use crate::gnu_line::is_error_message;
 use crate::lines::ListedFile;
 use crate::wanted::{Checked, Listing};
-use file_facts::Diag;
+use file_facts::{Diag, Name};
 use lsp_workspace::DiagnosedFiles;
-use std::alloc::Global;
+use std::alloc::{AllocError, Global};
 
 // The files of a check with what is wrong in them, the number of the root of each, and what is asked for.
 #[derive(Drop)]
@@ -107,14 +107,45 @@ impl Listed {
         count
     }
 
-    // What was found.
-    pub fn checked(&self) -> Checked
-        ensures { result ≡ checked_of self.now.how self.now.files }
+    // The numbers of the files that are asked for and aren't checked for unknown names, ascending.
+    fn unchecked(&self, alloc: Global) -> Result<Vec<usize>, AllocError>
+        ensures value { IfOk result (λ v. v.items ≡ wanted_unchecked self.now.how self.now.files) }
+        ensures within { IfOk result (λ v. All (λ n. n < length self.now.files) v.items) }
     {
-        Checked {
+        let all = self.files.diagnosis().unchecked()?;
+        let mut wanted = Vec::new(alloc);
+        for &file in all.as_slice() {
+            if self.wants(file) {
+                wanted.push(file)?;
+            }
+        }
+        Ok(wanted)
+    }
+
+    // The path in the first import because of which the first of some files isn't checked for unknown names.
+    fn lost_of_first(&self, alloc: Global, files: &[usize]) -> Result<Option<Name>, AllocError>
+        requires { All (λ n. n < length self.now.files) files.now }
+        ensures { IfOk result (λ path. path ≡ lost_of_first self.now.files files.now) }
+    {
+        match files.first() {
+            Some(file) => self.files.diagnosis().first_lost(alloc, *file),
+            None => Ok(None),
+        }
+    }
+
+    // What was found.
+    pub fn checked(&self, alloc: Global) -> Result<Checked, AllocError>
+        ensures { IfOk result (λ found. found ≡ checked_of self.now.how self.now.files) }
+    {
+        let numbers = self.unchecked(alloc)?;
+        let unchecked = numbers.as_slice();
+        let first_lost = self.lost_of_first(alloc, unchecked)?;
+        Ok(Checked {
             files: self.wanted_count(),
             errors: self.error_count(),
-        }
+            unchecked: unchecked.len(),
+            first_lost,
+        })
     }
 }
 

@@ -3,6 +3,7 @@ ghost use Rattle.std.specs.Prelude.{◌≡◌};
 ghost use Rattle.lsp_check.specs.Listing.{folder_of, is_wanted};
 
 use crate::format::Format;
+use file_facts::Name;
 use lsp_config::Config;
 use std::collections::BTreeSet;
 
@@ -29,12 +30,18 @@ pub struct Asked {
 }
 
 /// What a check found.
-#[derive(Clone, Copy, Debug, PartialEq, Eq)]
+#[derive(Debug, Drop)]
 pub struct Checked {
     /// How many files were asked for.
     pub files: usize,
     /// How many of their diagnostics are errors; the highest number if there are more.
     pub errors: usize,
+    /// How many of them aren't checked for unknown names (401, 402), since an import of theirs, or of a file that they see, names no file, or
+    /// one that isn't proto3.
+    pub unchecked: usize,
+    /// The path in the first such import, as it is written: of the first of these files by path, the first file by path that it sees, itself
+    /// among them, which has such an import, and there the first. `None` if there is none.
+    pub first_lost: Option<Name>,
 }
 
 impl Listing {

@@ -116,7 +116,7 @@ fn check_files<
     let asked = check_of(rt, options)?;
     let checked = check_with(rt, asked)?;
     if !options.quiet {
-        tell_summary(rt, checked);
+        tell_summary(rt, &checked);
     }
     Ok(checked.errors > 0)
 }

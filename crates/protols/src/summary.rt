@@ -35,10 +35,21 @@ fn word_for(count: usize, one: &'static str, several: &'static str) -> &'static 
     if count == 1 { one } else { several }
 }
 
-// Says how many files were checked, and how many errors were found in them.
-pub(crate) fn tell_summary(rt: &impl Eprint, checked: Checked) {
-    let Checked { files, errors } = checked;
+// Says how many files were checked, how many errors were found in them, and how many weren't checked for unknown names and why, if there
+// are any.
+pub(crate) fn tell_summary(rt: &impl Eprint, checked: &Checked) {
+    let files = checked.files;
     let file_word = word_for(files, "file", "files");
+    let errors = checked.errors;
     let error_word = word_for(errors, "error", "errors");
-    let _told = eprintln!(rt; "protols: {files} {file_word} checked, {errors} {error_word}");
+    let Some(lost) = &checked.first_lost else {
+        let _told = eprintln!(rt; "protols: {files} {file_word} checked, {errors} {error_word}");
+        return;
+    };
+    let path = lost.as_str();
+    let unchecked = checked.unchecked;
+    let unchecked_word = word_for(unchecked, "file", "files");
+    let _told = eprintln!(rt;
+        "protols: {files} {file_word} checked, {errors} {error_word}; {unchecked} {unchecked_word} not checked for unknown names, since an import is missing or isn't proto3: {path}"
+    );
 }

@@ -18,3 +18,5 @@ pub mod OwnDiags
 pub mod Known
 pub mod KeptFiles
 pub mod OtherTexts
+pub mod FirstLost
+pub mod WhyUnchecked

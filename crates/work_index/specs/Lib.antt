@@ -1,4 +1,5 @@
 pub mod Workspace
+pub mod Unchecked
 pub mod Pieces
 pub mod Changes
 pub mod Stayed

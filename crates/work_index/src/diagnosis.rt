@@ -1,12 +1,14 @@
 // What is wrong in the files of a workspace.
-ghost use Rattle.std.specs.Prelude.{◌≡◌, ◌<◌, length, Some};
+ghost use Rattle.std.specs.Prelude.{◌≡◌, ◌<◌, length, All, IfOk, Some};
 
 use crate::file_work::FileWork;
+use crate::unchecked::first_lost_path;
 use file_facts::{Diag, Name};
 use import_graph::FileNo;
 use piece_collector::Piece;
-use proto_resolve::Table;
+use proto_resolve::{Index, Table};
 use sqlite_items::Items;
+use std::alloc::{AllocError, Global};
 use std::marker::Model;
 
 /// The paths of the files of a workspace, and what is wrong in each. A file is a number: its place, counted from 0, in the list of
@@ -15,8 +17,8 @@ use std::marker::Model;
 pub struct Diagnosis {
     pub(crate) paths: Vec<Name>,
     pub(crate) diagnostics: Vec<Items<Diag>>,
-    // The work on the texts, and the table of their names. No call reads them: they are freed with the diagnosis and not before, since that
-    // takes a good part of the time in which it is made.
+    // The work on the texts. No call reads it: it is freed with the diagnosis and not before, since that takes a good part of the time in
+    // which it is made.
     pub(crate) pieces: Vec<Piece<FileWork>>,
     pub(crate) table: Table,
 }
@@ -27,13 +29,14 @@ impl Model for Diagnosis {
 
     ghost Value = { DiagnosisData };
 
-    ghost view = { λ d. record { paths = d.paths.items; diagnostics = d.diagnostics.items } };
+    ghost view = { λ d. record { paths = d.paths.items; files = d.table; diagnostics = d.diagnostics.items } };
 
     ghost invariant = { λ d. length d.diagnostics.items ≡ length d.paths.items };
 }
 
 impl Diagnosis {
     ghost use Rattle.std.specs.List.{slice_get};
+    ghost use Rattle.work_index.specs.Unchecked.{unchecked, first_lost};
 
     /// The paths of the files, by their bytes.
     pub fn files(&self) -> &[Name]
@@ -48,6 +51,26 @@ impl Diagnosis {
         ensures { slice_get self.now.diagnostics file ≡ Some result.now }
     {
         self.diagnostics.as_slice()[file].as_slice()
+    }
+
+    /// The numbers of the files that aren't checked for unknown names (401, 402), ascending: an import of theirs, or of a file that they see,
+    /// names no file, or one that isn't analysed. An `Err` comes only where memory was refused.
+    pub fn unchecked(&self) -> Result<Vec<FileNo>, AllocError>
+        ensures value { IfOk result (λ v. v.items ≡ unchecked self.now.files) }
+        ensures within { IfOk result (λ v. All (λ file. file < length self.now.files) v.items) }
+    {
+        let unchecked = self.table.graph().open_views()?;
+        Ok(unchecked)
+    }
+
+    /// The path in the first import because of which a file isn't checked for unknown names: of the files that it sees, itself among them, the
+    /// first by path of which an import names no file, or one that isn't analysed, and there the first such import. `None` if there is none.
+    /// An `Err` comes only where memory was refused.
+    pub fn first_lost(&self, alloc: Global, file: FileNo) -> Result<Option<Name>, AllocError>
+        requires { file < length self.now.files }
+        ensures { IfOk result (λ path. path ≡ first_lost self.now.files file) }
+    {
+        first_lost_path(alloc, &self.table, file)
     }
 
     /// The diagnostics of all files, by path.

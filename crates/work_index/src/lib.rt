@@ -26,6 +26,7 @@ mod room;
 mod shares;
 mod source_file;
 mod table_of;
+mod unchecked;
 
 pub use after::analyse_after;
 pub use again::analyse_again;
@@ -40,3 +41,4 @@ pub use file_work::{FileOut, FileWork};
 pub use gate::{Gate, OpenGate};
 pub use in_shares::{analyse_in_shares, diagnose};
 pub use part_table::{PartTable, merge_tables};
+pub use unchecked::unchecked_law;
