@@ -1,5 +1,5 @@
 // The files of a check with what is wrong in them, and what is asked for.
-ghost use Rattle.std.specs.Prelude.{◌≡◌, ◌-◌, ◌<◌, ◌^◌, [], length, All, IfOk, None, slice_index_or, min};
+ghost use Rattle.std.specs.Prelude.{◌≡◌, ◌-◌, ◌<◌, ◌^◌, [], length, filter, All, IfOk, None, slice_index_or, min};
 ghost use Rattle.work_index.specs.Workspace.{analysis};
 ghost use Rattle.lsp_check.specs.Listing.{is_error, is_wanted, listed_file, wanted_diags, wanted_count, line_count, error_count, file_errors, wanted_unchecked, lost_of_first, checked_of};
 
@@ -107,18 +107,26 @@ impl Listed {
         count
     }
 
+    // Those of some files that are asked for.
+    fn wanted(&self, alloc: Global, files: &[usize]) -> Result<Vec<usize>, AllocError>
+        ensures { IfOk result (λ v. v.items ≡ filter (λ n. is_wanted self.now.how (slice_index_or self.now.files n ([], [])).0) files.now) }
+    {
+        let mut found = Vec::new(alloc);
+        for &file in files {
+            if self.wants(file) {
+                found.push(file)?;
+            }
+        }
+        Ok(found)
+    }
+
     // The numbers of the files that are asked for and aren't checked for unknown names, ascending.
     fn unchecked(&self, alloc: Global) -> Result<Vec<usize>, AllocError>
         ensures value { IfOk result (λ v. v.items ≡ wanted_unchecked self.now.how self.now.files) }
         ensures within { IfOk result (λ v. All (λ n. n < length self.now.files) v.items) }
     {
         let all = self.files.diagnosis().unchecked()?;
-        let mut wanted = Vec::new(alloc);
-        for &file in all.as_slice() {
-            if self.wants(file) {
-                wanted.push(file)?;
-            }
-        }
+        let wanted = self.wanted(alloc, all.as_slice())?;
         Ok(wanted)
     }
 
