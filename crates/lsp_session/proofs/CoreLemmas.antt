@@ -23,10 +23,10 @@ use Rattle.lsp_workspace.specs.Files.{Files, text_at, workspace}
 use Rattle.work_index.specs.Workspace.{Workspace}
 use Rattle.lsp_workspace.specs.Texts.{text_event, event_at, is_open, events_at}
 use Rattle.lsp_config.specs.Configuration.{Configuration, files_of}
-use Rattle.lsp_session.specs.Core.{Event, Arrive, Advance, Give, Offer, Fail, messages, processed, has_begun, begun, done, waiting, next_body, state_after, beginning, pending_after, board_events, MayBegin, MayFinish, IsLegal, IsSettled, CoreState, IsAfter, Replied, Steps, Advances}
+use Rattle.lsp_session.specs.Core.{Event, Arrive, Advance, Give, Offer, Fail, messages, processed, has_begun, begun, done, waiting, next_body, state_after, beginning, pending_after, board_events, MayBegin, MayFinish, IsLegal, IsSettled, CoreState, IsAfter, ComesToAnAnalysis, Replied, Steps, Advances}
 use Rattle.lsp_session.specs.Run.{event_of}
-use Rattle.lsp_session.specs.Session.{State, Pending, start, turn, path_of, path_in, replies_of, replies_to, waits, next, session}
-use Rattle.lsp_session.specs.Steps.{unprocessed, right_work, with_round, with_rounds, IsWorked, HasWorked, Knows, Awaits, WorksOn, HandsOut, Progresses, replies_after}
+use Rattle.lsp_session.specs.Session.{State, Pending, start, turn, path_of, path_in, replies_of, replies_to, waits, needs_analysis, next, session}
+use Rattle.lsp_session.specs.Steps.{NeedsAnalysis, unprocessed, right_work, with_round, with_rounds, IsWorked, HasWorked, Knows, Awaits, WorksOn, HandsOut, Progresses, replies_after}
 use Rattle.lsp_session.specs.Working.{events_for_path, events_by_method, events_in_phase, events_of, board_events_of}
 use Rattle.lsp_session.specs.declared.phase.Phase.{Phase}
 use Rattle.lsp_session.specs.declared.phase.Phase.TheVariants.{Running}
@@ -76,7 +76,7 @@ get-arrived (first ∷ bodies) (suc n) body there = get-arrived bodies n body (o
 
 -- ---- how many have begun
 
-begun-idle : (h : List Event) → has_begun h ≡ false → begun h ≡ processed h
+pub begun-idle : (h : List Event) → has_begun h ≡ false → begun h ≡ processed h
 begun-idle h idle = rw idle refl
 
 pub begun-more : (h : List Event) → has_begun h ≡ true → begun h ≡ suc (processed h)
@@ -544,3 +544,14 @@ module _ (config : Configuration) (core : CoreState) (bodies : List (List ℕ)) 
       let all = known.0.idle in
       absurd (omega (arith, more, all))
   still-awaits (inr w) there = w
+
+-- ---- what is left to be answered is that of a message of the history
+
+pub comes_to_analysis : (o : ℕ) (config : Configuration) (core : CoreState) (h : List Event) (steps : List Step) → IsAfter o config core (map Advance steps ++ h) → NeedsAnalysis core → ComesToAnAnalysis o config h
+comes_to_analysis o config core h steps after needs = by (has_begun (map Advance steps ++ h)) refl (sym needs.1 ∙ after.pending)
+  where
+    by : (b : Bool) → has_begun (map Advance steps ++ h) ≡ b → Some needs.0 ≡ (if b then Some (beginning config (map Advance steps ++ h)).pending else None) → ComesToAnAnalysis o config h
+    by true is same =
+        let left : needs.0 ≡ (beginning config (map Advance steps ++ h)).pending = cc in
+        record { steps = steps; legal = after.legal; begun = is; needs = ap needs_analysis (sym left) ∙ needs.2 }
+    by false is same = cc

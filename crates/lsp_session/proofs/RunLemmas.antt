@@ -3,7 +3,7 @@ use Rattle.std.proofs.Common.{◌≡◌, ℕ, suc, Bool, true, false, cond, ◌+
 use Rattle.piece_collector.specs.declared.verdict.Verdict.{Verdict}
 use Rattle.std.proofs.lemmas.List.{take-append-le}
 use Rattle.lsp_config.specs.Configuration.{Configuration}
-use Rattle.lsp_session.specs.Core.{Event, Advance, messages, processed, done, CoreState, IsAfter, Advances}
+use Rattle.lsp_session.specs.Core.{Event, Advance, messages, processed, done, CoreState, IsAfter, ExhaustsStamps, Advances}
 use Rattle.lsp_session.specs.Run.{Incoming, Message, Made, Failed, Work, incoming_of, is_message, verdicts_of, Comes, Follows, Runs, HasRun, HasCome, HasFollowed}
 use Rattle.lsp_session.specs.Session.{session}
 use Rattle.lsp_session.specs.Steps.{unprocessed}
@@ -71,20 +71,17 @@ run_more config old new es e replies more verdicts judged r f =
 
 -- ---- how many messages came
 
+plus_none : (n : ℕ) → n ≡ n + 0
+plus_none n = omega arith
+
+messages-come : (o : ℕ) (config : Configuration) (e : Incoming) (h after : List Event) → Comes o config e h after → length (messages after) ≡ length (messages h) + length (filter is_message (e ∷ []))
+messages-come o config (Message body) h after comes = ap (λ g. length (messages g)) comes ∙ length-append (messages h) (body ∷ [])
+messages-come o config (Made path stamp text) h after comes = ap (λ g. length (messages g)) comes ∙ plus_none (length (messages h))
+messages-come o config (Failed path stamp) h after comes = ap (λ g. length (messages g)) comes ∙ plus_none (length (messages h))
+messages-come o config Work h after comes = ap (λ g. length (messages g)) comes.is ∙ ap length (messages-rounds o config comes.rounds h) ∙ plus_none (length (messages h))
+
 messages-follow : (o : ℕ) (config : Configuration) (e : Incoming) (h last : List Event) → Follows o config e h last → length (messages last) ≡ length (messages h) + length (filter is_message (e ∷ []))
-messages-follow o config (Message body) h last f = ap length (ap messages f.is ∙ messages-steps f.steps f.after ∙ ap messages f.comes) ∙ length-append (messages h) (body ∷ [])
-messages-follow o config (Made path stamp text) h last f = ap length (ap messages f.is ∙ messages-steps f.steps f.after ∙ ap messages f.comes) ∙ plus_none (length (messages h))
-  where
-    plus_none : (n : ℕ) → n ≡ n + 0
-    plus_none n = omega arith
-messages-follow o config (Failed path stamp) h last f = ap length (ap messages f.is ∙ messages-steps f.steps f.after ∙ ap messages f.comes) ∙ plus_none (length (messages h))
-  where
-    plus_none : (n : ℕ) → n ≡ n + 0
-    plus_none n = omega arith
-messages-follow o config Work h last f = ap length (ap messages f.is ∙ messages-steps f.steps f.after ∙ ap messages f.comes.is ∙ messages-rounds o config f.comes.rounds h) ∙ plus_none (length (messages h))
-  where
-    plus_none : (n : ℕ) → n ≡ n + 0
-    plus_none n = omega arith
+messages-follow o config e h last f = ap length (ap messages f.is ∙ messages-steps f.steps f.after) ∙ messages-come o config e h f.after f.comes
 
 one-more : (e : Incoming) (es : List Incoming) → length (filter is_message (e ∷ es)) ≡ length (filter is_message (e ∷ [])) + length (filter is_message es)
 one-more (Message body) es = omega arith
@@ -98,6 +95,23 @@ messages-run o config (e ∷ es) h last verdicts runs =
     let first = messages-follow o config e h runs.0 runs.1 in
     let later = messages-run o config es runs.0 last runs.2.0 runs.2.2 in
     omega (arith, first, later, one-more e es)
+
+counted-append : (es later : List Incoming) → length (filter is_message (es ++ later)) ≡ length (filter is_message es) + length (filter is_message later)
+counted-append [] later = omega arith
+counted-append (e ∷ es) later = omega (arith, one-more e (es ++ later), one-more e es, counted-append es later)
+
+-- an advance behind an event found no stamp
+pub out_behind : (o : ℕ) (config : Configuration) (core : CoreState) (e : Incoming) (h : List Event) → HasCome o config core e h → ((g : List Event) → IsAfter o config core g → ExhaustsStamps o config (length (messages g)))
+    → ExhaustsStamps o config (length (messages h) + length (filter is_message (e ∷ [])))
+out_behind o config core e h come out = subst (λ n. ExhaustsStamps o config n) (messages-come o config e h come.after come.comes) (out come.after come.is_after)
+
+-- an event of a run found none
+pub run_out : (config : Configuration) (core : CoreState) (es : List Incoming) (e : Incoming) (later all : List Incoming) (replies : List (List ℕ)) (verdicts : List Verdict) → HasRunTo config core es replies verdicts → es ++ e ∷ later ≡ all
+    → ((h : List Event) → IsAfter 0 config core h → ExhaustsStamps 0 config (length (messages h) + length (filter is_message (e ∷ [])))) → ExhaustsStamps 0 config (length (filter is_message all))
+run_out config core es e later all replies verdicts r parts out =
+    let ran = messages-run 0 config es [] r.history verdicts r.runs in
+    let here = out r.history r.is_after in
+    omega (arith, ran, here, counted-append es (e ∷ later), one-more e later, ap (λ l. length (filter is_message l)) parts)
 
 -- those that are left aren't processed
 pub run_counted : (config : Configuration) (core : CoreState) (es : List Incoming) (replies : List (List ℕ)) (verdicts : List Verdict) → (r : HasRunTo config core es replies verdicts)

@@ -1,15 +1,18 @@
 -- A session over a stream: what was read, what was written, and what is left.
-use Rattle.std.proofs.Common.{◌≡◌, ℕ, zero, suc, ◌+◌, ◌<◌, ◌≤◌, true, false, Bool, List, [], ◌∷◌, ◌++◌, map, take, drop, get_or, length, fold, refl, sym, ap, ◌∙◌, arith, append_assoc, append-nil, length-append, Option, None, Some, option_map, Result, Ok, Err, take-append-drop}
-use Rattle.std.specs.Prelude.{IfSome, IfOk, IfErr, OnOk, ⊤, is_some}
+use Rattle.std.proofs.Common.{◌≡◌, ℕ, zero, suc, ◌+◌, ◌<◌, ◌≤◌, true, false, Bool, List, [], ◌∷◌, ◌++◌, map, take, drop, get_or, length, fold, refl, sym, ap, ◌∙◌, arith, append_assoc, append-nil, length-append, Option, None, Some, option_map, Result, Ok, Err, take-append-drop, subst, inl, inr}
+use Rattle.std.specs.Prelude.{IfSome, IfOk, IfErr, OnOk, OnErr, ◌⊎◌, ⊤, is_some}
+use Rattle.std.specs.Option.{option_to_list}
 use Rattle.std.specs.Io.KnownBytes.{Appends}
 use Rattle.std.proofs.KnownBytes.{Appends-trans, Appends-nil}
+use Rattle.std.proofs.Math.Seq.{take-append-add}
 use Rattle.std.proofs.lemmas.Grind.{flat_map-append}
 use Rattle.std.proofs.lemmas.List.{take_all, take_more, drop_more}
 use Rattle.serde_json.specs.Written.{compact_text}
 use Rattle.lsp_frame.specs.Fault.{code_of}
-use Rattle.lsp_frame.specs.Stream.{StreamEnd, InputEnd, BadFrame, first_frame, frames, with_body, no_frames}
-use Rattle.lsp_frame.specs.Counts.{NoneFell, NoError, HasFailed}
-use Rattle.lsp_frame.specs.Reading.{TakesFrame, BreaksOff, Shows, ShowsEnd, HasCause, NoErrorUnlessRead}
+use Rattle.lsp_frame.specs.Stream.{StreamEnd, InputEnd, BadFrame, Whole, NoFrame, least_below, header_len, first_frame, frames, with_body, no_frames}
+use Rattle.lsp_frame.specs.StreamLaws.{IsFrame}
+use Rattle.lsp_frame.specs.Counts.{no_counts, NoneFell, NoError, HasFailed}
+use Rattle.lsp_frame.specs.Reading.{TakesFrame, BreaksOff, RunsOut, Shows, ShowsEnd, HasCause, NoErrorUnlessRead}
 use Rattle.lsp_frame.specs.declared.counts.Counts.{Counts}
 use Rattle.lsp_frame.specs.declared.fault.FrameFault.{FrameFault}
 use Rattle.lsp_frame.specs.declared.fault.FrameFault.TheVariants.{BadHeader, NoLength, BadLength, BodyTooLong, HeaderTooLong, Truncated, Read, Memory}
@@ -20,15 +23,17 @@ use Rattle.lsp_frame.proofs.CountsLemmas.{NoneFell-refl, NoneFell-trans, HasFail
 use Rattle.lsp_frame.proofs.Splits.{begins_with}
 use Rattle.lsp_frame.proofs.StreamLemmas.{frames-whole, frames-end}
 use Rattle.lsp_rpc.specs.Message.{message_of}
-use Rattle.lsp_config.specs.Configuration.{Configuration}
-use Rattle.lsp_config.specs.Fault.{ComesWhileServing, IsOfCore, IsWriteOrCore, serve_fault_of}
+use Rattle.lsp_workspace.specs.Files.{workspace}
+use Rattle.lsp_workspace.specs.Texts.{StampsRunOut}
+use Rattle.lsp_config.specs.Configuration.{Configuration, files_of}
+use Rattle.lsp_config.specs.Fault.{ComesWhileServing, IsOfCore, IsOfWorkers, IsWriteOrCore, serve_fault_of}
 use Rattle.lsp_config.specs.Sending.{SendsPrefix}
 use Rattle.lsp_config.proofs.SendingLemmas.{front-of, front-behind, nothing_sent}
 use Rattle.lsp_config.specs.declared.fault.CoreFault.{CoreFault}
 use Rattle.lsp_config.specs.declared.fault.CoreFault.TheVariants as core_fault
 use Rattle.lsp_config.specs.declared.fault.ServeFault.{ServeFault}
 use Rattle.lsp_config.specs.declared.fault.ServeFault.TheVariants as served
-use Rattle.lsp_session.specs.Core.{Event, CoreState, IsAfter}
+use Rattle.lsp_session.specs.Core.{Event, CoreState, IsAfter, ExhaustsStamps}
 use Rattle.lsp_session.specs.Session.{State, Run, turn, turn_in, replies_of, replies_to, next, start, session}
 use Rattle.lsp_session.specs.Serving.{Calls, IsCaused, Serves, Serving, Ends, Finishes, Fails, Served, Comes, exit_in, end_by}
 use Rattle.lsp_session.specs.Steps.{Knows, WorksOn, replies_after}
@@ -37,6 +42,8 @@ use Rattle.lsp_session.specs.declared.ended.Ended.{Ended}
 use Rattle.lsp_session.specs.declared.ended.Ended.TheVariants as how
 use Rattle.lsp_session.specs.declared.phase.Phase.{Phase}
 use Rattle.lsp_session.specs.declared.phase.Phase.TheVariants.{Uninitialized, Running, Shut, Exited}
+use Rattle.lsp_session.proofs.FaultLemmas.{of_workers, not_of_workers}
+use Rattle.lsp_session.proofs.StampLemmas.{files_alone}
 use Rattle.lsp_session.proofs.CoreLemmas.{session-none, session-append, session-snoc, knows-state, knows-on}
 
 -- the bodies of the stream are those that were taken, and those that are left
@@ -234,20 +241,121 @@ pub frames-more : (replies : List (List ℕ)) (i : ℕ) (reply : List ℕ) → i
 frames-more replies i reply lt is =
     ap frames_of (take_more replies i reply lt ∙ ap (λ r. take i replies ++ r ∷ []) (sym is)) ∙ flat_map-append frame_of (take i replies) (reply ∷ []) ∙ ap (λ l. frames_of (take i replies) ++ l) (append-nil (frame_of reply))
 
--- ---- where the source failed
+-- ---- what was answered where it stopped
 
-pub answered_so_far : (config : Configuration) (a b c v w : Option (List ℕ)) (core : CoreState) → Serving config a b core v w → IfSome b (λ rest. BreaksOff rest c) → IfSome a (λ bytes. Answered config bytes c v w)
+first-of-none : first_frame [] ≡ NoFrame InputEnd
+unfolding first_frame header_len least_below
+first-of-none = refl
+
+bodies-of-none : (frames []).bodies ≡ []
+bodies-of-none = ap (λ f. f.bodies) (frames-end [] InputEnd first-of-none)
+
+one-body : (frame body : List ℕ) → first_frame frame ≡ Whole body [] → (frames frame).bodies ≡ body ∷ []
+one-body frame body is = ap (λ f. f.bodies) (frames-whole frame body [] is) ∙ ap (λ l. body ∷ l) bodies-of-none
+
+module _ (config : Configuration) (bytes rest : List ℕ) (c v w : Option (List ℕ)) (core : CoreState) (s : Serves config bytes rest core v w) (taken left : List ℕ) (cut : rest ≡ taken ++ left) (is_left : c ≡ Some left) where
+  output-taken : (body : Option (List ℕ)) → (frames taken).bodies ≡ option_to_list body → output config (s.front ++ taken) ≡ frames_of (session config (s.bodies ++ option_to_list body)).replies
+  output-taken body one = ap (λ bs. frames_of (session config bs).replies) (s.whatever taken ∙ ap (λ l. s.bodies ++ l) one)
+
+  -- the replies to the messages before went out, and a part of what is said to these last bytes
+  answered-part : (x : Option (List ℕ)) (body : Option (List ℕ)) (said : List ℕ) (n : ℕ) → (frames taken).bodies ≡ option_to_list body → output config (s.front ++ taken) ≡ frames_of (session config s.bodies).replies ++ said → Appends w x (take n said)
+      → Answered config bytes taken c v x
+  answered-part x body said n one says part =
+      let first = frames_of (session config s.bodies).replies in
+      let before : (frames s.front).bodies ≡ s.bodies = ap (λ l. (frames l).bodies) (sym (append-nil s.front)) ∙ s.whatever [] ∙ ap (λ l. s.bodies ++ l) bodies-of-none ∙ append-nil s.bodies in
+      let sent : take (length first + n) (output config (s.front ++ taken)) ≡ first ++ take n said = ap (take (length first + n)) says ∙ take-append-add first said n in
+      record {
+        front = s.front;
+        rest = left;
+        joined = s.joined ∙ ap (λ l. s.front ++ l) cut ∙ sym (append_assoc s.front taken left);
+        is_left = is_left;
+        one_at_most = (body, s.whatever taken ∙ ap (λ l. s.bodies ++ l) one ∙ ap (λ bs. bs ++ option_to_list body) (sym before));
+        sent = length first + n;
+        enough = omega (arith, ap (λ bs. length (frames_of (session config bs).replies)) before);
+        wrote = subst (λ l. Appends v x l) (sym sent) (Appends-trans v w x first (take n said) s.wrote part);
+      }
+
+  -- and nothing of what is said to these
+  answered-none : (body : Option (List ℕ)) → (frames taken).bodies ≡ option_to_list body → Answered config bytes taken c v w
+  answered-none body one =
+      let more = output-more config s.bodies (option_to_list body) in
+      answered-part w body more.0 0 one (output-taken body one ∙ more.1) (Appends-nil w)
+
+-- before anything was read
+unread : (config : Configuration) (a v : Option (List ℕ)) → IfSome a (λ bytes. (last : List ℕ) × Answered config bytes last a v v)
+unread config None v = tt
+unread config (Some bytes) v =
+    let silent : output config [] ≡ [] = ap (λ bs. frames_of (session config bs).replies) bodies-of-none ∙ ap (λ r. frames_of r.replies) (session-none config) in (
+      [],
+      record {
+        front = [];
+        rest = bytes;
+        joined = refl;
+        is_left = refl;
+        one_at_most = (None, sym (append-nil (frames []).bodies));
+        sent = 0;
+        enough = omega (arith, ap length silent);
+        wrote = Appends-nil v;
+      },
+    )
+
+-- between two messages
+unread-since : (config : Configuration) (a b v w : Option (List ℕ)) (core : CoreState) → Serving config a b core v w → IfSome a (λ bytes. (last : List ℕ) × Answered config bytes last b v w)
+unread-since config None b v w core s = tt
+unread-since config (Some bytes) None v w core s = absurd s
+unread-since config (Some bytes) (Some rest) v w core s = ([], answered-none config bytes rest (Some rest) v w core s [] rest refl refl None bodies-of-none)
+
+-- where the source failed
+answered_so_far : (config : Configuration) (a b c v w : Option (List ℕ)) (core : CoreState) → Serving config a b core v w → IfSome b (λ rest. BreaksOff rest c) → IfSome a (λ bytes. Answered config bytes [] c v w)
 answered_so_far config None b c v w core s broken = tt
 answered_so_far config (Some bytes) None c v w core s broken = absurd s
 answered_so_far config (Some bytes) (Some rest) c v w core s broken =
-    let all : (frames (s.front ++ broken.taken)).bodies ≡ s.bodies = s.whatever broken.taken ∙ ap (λ f. s.bodies ++ f.bodies) (frames-end broken.taken broken.end broken.first) ∙ append-nil s.bodies in
+    let front = s.front ++ broken.taken in
+    let all : (frames front).bodies ≡ s.bodies = s.whatever broken.taken ∙ ap (λ f. s.bodies ++ f.bodies) (frames-end broken.taken broken.end broken.first) ∙ append-nil s.bodies in
+    let same : front ++ [] ≡ front = append-nil front in
+    let sent : take (length (output config front)) (output config (front ++ [])) ≡ frames_of (session config s.bodies).replies =
+    ap (λ l. take (length (output config front)) (output config l)) same ∙ take_all (length (output config front)) (output config front) (omega arith) ∙ ap (λ bs. frames_of (session config bs).replies) all in
     record {
-      taken = s.front ++ broken.taken;
+      front = front;
       rest = broken.rest;
-      joined = s.joined ∙ ap (λ l. s.front ++ l) broken.joined ∙ sym (append_assoc s.front broken.taken broken.rest);
+      joined = s.joined ∙ ap (λ l. s.front ++ l) broken.joined ∙ sym (append_assoc s.front broken.taken broken.rest) ∙ ap (λ l. l ++ broken.rest) (sym same);
       is_left = broken.is_left;
-      wrote = rw (ap (λ bs. frames_of (session config bs).replies) all) s.wrote;
+      one_at_most = (None, ap (λ l. (frames l).bodies) same ∙ sym (append-nil (frames front).bodies));
+      sent = length (output config front);
+      enough = omega arith;
+      wrote = subst (λ l. Appends v w l) (sym sent) s.wrote;
     }
+
+with_none : (a left v w : Option (List ℕ)) (config : Configuration) → IfSome a (λ bytes. Answered config bytes [] left v w) → IfSome a (λ bytes. (last : List ℕ) × Answered config bytes last left v w)
+with_none None left v w config answered = tt
+with_none (Some bytes) left v w config answered = ([], answered)
+
+-- where memory ran out as a frame was read
+taken-bodies : (taken : List ℕ) → ((end : StreamEnd) × (first_frame taken ≡ NoFrame end)) ⊎ ((body : List ℕ) × IsFrame taken body) → (body : Option (List ℕ)) × ((frames taken).bodies ≡ option_to_list body)
+taken-bodies taken (inl none) = (None, ap (λ f. f.bodies) (frames-end taken none.0 none.1))
+taken-bodies taken (inr whole) = (Some whole.0, one-body taken whole.0 whole.1)
+
+loses_frame : (config : Configuration) (a b c v w : Option (List ℕ)) (core : CoreState) → Serving config a b core v w → IfSome b (λ rest. RunsOut rest c) → IfSome a (λ bytes. (last : List ℕ) × Answered config bytes last c v w)
+loses_frame config None b c v w core s out = tt
+loses_frame config (Some bytes) None c v w core s out = absurd s
+loses_frame config (Some bytes) (Some rest) c v w core s out =
+    let one = taken-bodies out.taken out.within in
+    (out.taken, answered-none config bytes rest c v w core s out.taken out.rest out.joined out.is_left one.0 one.1)
+
+-- where a message wasn't answered, or the writer failed within the replies to it
+pub loses_message : (config : Configuration) (a b c v w x : Option (List ℕ)) (core : CoreState) (body : List ℕ) → Serving config a b core v w → IfSome b (λ rest. TakesFrame rest c body)
+    → ((bodies : List (List ℕ)) → Knows config core bodies → SendsPrefix w x (frames_of (replies_after config bodies body))) → IfSome a (λ bytes. (last : List ℕ) × Answered config bytes last c v x)
+loses_message config None b c v w x core body s t sent = tt
+loses_message config (Some bytes) None c v w x core body s t sent = absurd s
+loses_message config (Some bytes) (Some rest) c v w x core body s t sent =
+    let first = session config s.bodies in
+    let new = replies_after config s.bodies body in
+    let begin = begins_with rest body t.rest t.first in
+    let one : (frames begin.frame).bodies ≡ body ∷ [] = one-body begin.frame body (ap first_frame (sym (append-nil begin.frame)) ∙ begin.whatever []) in
+    let says : output config (s.front ++ begin.frame) ≡ frames_of first.replies ++ frames_of new =
+    output-taken config bytes rest c v w core s begin.frame t.rest begin.joined t.is_left (Some body) one ∙ ap (λ r. frames_of r.replies) (session-snoc config s.bodies body) ∙ flat_map-append frame_of first.replies new in
+    let part = sent s.bodies s.knows in
+    (begin.frame, answered-part config bytes rest c v w core s begin.frame t.rest begin.joined t.is_left x (Some body) (frames_of new) part.0 one says part.2)
 
 -- ---- a message
 
@@ -260,14 +368,15 @@ pub message_comes : (config : Configuration) (a c v x : Option (List ℕ)) (core
 message_comes config a c v x core s = message_in config a c v x core (exit_of core.state.phase) refl s
 
 -- it wasn't
-pub message_fails : (config : Configuration) (a c v x : Option (List ℕ)) (old new : Counts) (fault : ServeFault) → IsWriteOrCore old new fault → IfSome a (λ bytes. SendsPrefix v x (output config bytes)) → Fails config a c v x fault
-message_fails config a c v x old new served.Read of prefix = absurd of
-message_fails config a c v x old new served.Write of prefix = record { prefix = prefix; answered = λ e. cc; comes = tt }
-message_fails config a c v x old new served.Memory of prefix = record { prefix = prefix; answered = λ e. cc; comes = tt }
-message_fails config a c v x old new served.ThreadRefused of prefix = record { prefix = prefix; answered = λ e. cc; comes = tt }
-message_fails config a c v x old new served.Exhausted of prefix = record { prefix = prefix; answered = λ e. cc; comes = tt }
-message_fails config a c v x old new served.BadRoot of prefix = absurd of
-message_fails config a c v x old new (served.BadPath index) of prefix = absurd of
+pub message_fails : (config : Configuration) (a c v x : Option (List ℕ)) (old new : Counts) (fault : ServeFault) → IsWriteOrCore old new fault → IfSome a (λ bytes. SendsPrefix v x (output config bytes))
+    → IfSome a (λ bytes. (last : List ℕ) × Answered config bytes last c v x) → (fault ≡ served.Exhausted → IfSome a (λ bytes. ExhaustsStamps 0 config (length (frames bytes).bodies))) → Fails config a c v x fault
+message_fails config a c v x old new served.Read of prefix loses stamps = absurd of
+message_fails config a c v x old new served.Write of prefix loses stamps = record { prefix = prefix; loses = loses; answered = λ e. cc; stamps = stamps; comes = tt }
+message_fails config a c v x old new served.Memory of prefix loses stamps = record { prefix = prefix; loses = loses; answered = λ e. cc; stamps = stamps; comes = tt }
+message_fails config a c v x old new served.ThreadRefused of prefix loses stamps = record { prefix = prefix; loses = loses; answered = λ e. cc; stamps = stamps; comes = tt }
+message_fails config a c v x old new served.Exhausted of prefix loses stamps = record { prefix = prefix; loses = loses; answered = λ e. cc; stamps = stamps; comes = tt }
+message_fails config a c v x old new served.BadRoot of prefix loses stamps = absurd of
+message_fails config a c v x old new (served.BadPath index) of prefix loses stamps = absurd of
 
 message_cause : (a b old new : Counts) (fault : ServeFault) → IsWriteOrCore old new fault → IsCaused a b old new fault
 message_cause a b old new served.Read of = absurd of
@@ -313,8 +422,10 @@ module _ (config : Configuration) (a b c v w : Option (List ℕ)) (core : CoreSt
   fault_comes BodyTooLong shown = bad_frame BodyTooLong (omega arith, omega arith) shown
   fault_comes HeaderTooLong shown = bad_frame HeaderTooLong (omega arith, omega arith) shown
   fault_comes Truncated shown = bad_frame Truncated (omega arith, omega arith) shown
-  fault_comes Read shown = record { prefix = stops config a b v w core so_far; answered = λ e. answered_so_far config a b c v w core so_far shown; comes = tt }
-  fault_comes Memory shown = record { prefix = stops config a b v w core so_far; answered = λ e. cc; comes = tt }
+  fault_comes Read shown =
+      let answered = answered_so_far config a b c v w core so_far shown in
+      record { prefix = stops config a b v w core so_far; loses = with_none a c v w config answered; answered = λ e. answered; stamps = λ e. cc; comes = tt }
+  fault_comes Memory shown = record { prefix = stops config a b v w core so_far; loses = loses_frame config a b c v w core so_far shown; answered = λ e. cc; stamps = λ e. cc; comes = tt }
 
 -- the session doesn't go on
 pub ends_by-not : (fault : FrameFault) → end_by fault ≡ Ok None → ⊥
@@ -405,26 +516,39 @@ core_caused a b k l served.Exhausted of = tt
 core_caused a b k l served.BadRoot of = tt
 core_caused a b k l (served.BadPath index) of = tt
 
-core_fails : (config : Configuration) (a left v w : Option (List ℕ)) (fault : ServeFault) → IsOfCore fault → IfSome a (λ bytes. SendsPrefix v w (output config bytes)) → Fails config a left v w fault
-core_fails config a left v w served.Read of prefix = absurd of
-core_fails config a left v w served.Write of prefix = absurd of
-core_fails config a left v w served.Memory of prefix = record { prefix = prefix; answered = λ e. cc; comes = tt }
-core_fails config a left v w served.ThreadRefused of prefix = record { prefix = prefix; answered = λ e. cc; comes = tt }
-core_fails config a left v w served.Exhausted of prefix = record { prefix = prefix; answered = λ e. cc; comes = tt }
-core_fails config a left v w served.BadRoot of prefix = absurd of
-core_fails config a left v w (served.BadPath index) of prefix = absurd of
+core_fails : (config : Configuration) (a left v w : Option (List ℕ)) (fault : ServeFault) → IsOfCore fault → IfSome a (λ bytes. SendsPrefix v w (output config bytes))
+    → IfSome a (λ bytes. (last : List ℕ) × Answered config bytes last left v w) → (fault ≡ served.Exhausted → IfSome a (λ bytes. ExhaustsStamps 0 config (length (frames bytes).bodies))) → Fails config a left v w fault
+core_fails config a left v w fault of prefix loses stamps =
+    message_fails config a left v w no_counts no_counts fault (of_core_or_write no_counts no_counts fault of) prefix loses stamps
 
 nothing_so_far : (config : Configuration) (a v : Option (List ℕ)) → IfSome a (λ bytes. SendsPrefix v v (output config bytes))
 nothing_so_far config None v = tt
 nothing_so_far config (Some bytes) v = nothing_sent v (output config bytes)
 
 -- before its first message
-pub fails_at_start : (config : Configuration) (a left v : Option (List ℕ)) (fault : ServeFault) → IsOfCore fault → Fails config a left v v fault
-fails_at_start config a left v fault of = core_fails config a left v v fault of (nothing_so_far config a v)
+exhausts_from : (config : Configuration) (a : Option (List ℕ)) → StampsRunOut 0 (length (workspace (files_of config))) → IfSome a (λ bytes. ExhaustsStamps 0 config (length (frames bytes).bodies))
+exhausts_from config None out = tt
+exhausts_from config (Some bytes) out = files_alone config (length (frames bytes).bodies) out
+
+pub fails_at_start : (config : Configuration) (a v : Option (List ℕ)) (fault : ServeFault) → IsOfCore fault → (fault ≡ served.Exhausted → StampsRunOut 0 (length (workspace (files_of config)))) → Fails config a a v v fault
+fails_at_start config a v fault of stamps = core_fails config a a v v fault of (nothing_so_far config a v) (unread config a v) (λ e. exhausts_from config a (stamps e))
 
 -- between two messages
-pub fails_between : (config : Configuration) (a b v w : Option (List ℕ)) (core : CoreState) (fault : ServeFault) → Serving config a b core v w → IsOfCore fault → Fails config a b v w fault
-fails_between config a b v w core fault so_far of = core_fails config a b v w fault of (stops config a b v w core so_far)
+pub fails_between : (config : Configuration) (a b v w : Option (List ℕ)) (core : CoreState) (fault : ServeFault) → Serving config a b core v w → IsOfWorkers fault → Fails config a b v w fault
+fails_between config a b v w core fault so_far of =
+    core_fails config a b v w fault (of_workers fault of) (stops config a b v w core so_far) (unread-since config a b v w core so_far) (λ e. absurd (not_of_workers fault of e))
+
+-- a message found no stamp
+pub exhausts_message : (config : Configuration) (a b c v w : Option (List ℕ)) (core : CoreState) (body : List ℕ) → Serving config a b core v w → IfSome b (λ rest. TakesFrame rest c body)
+    → ((bodies : List (List ℕ)) → Knows config core bodies → ExhaustsStamps 0 config (length (bodies ++ body ∷ []))) → IfSome a (λ bytes. ExhaustsStamps 0 config (length (frames bytes).bodies))
+exhausts_message config None b c v w core body s t out = tt
+exhausts_message config (Some bytes) None c v w core body s t out = absurd s
+exhausts_message config (Some bytes) (Some rest) c v w core body s t out =
+    let bodies = s.bodies in
+    let later = (frames t.rest).bodies in
+    let all : (frames bytes).bodies ≡ (bodies ++ body ∷ []) ++ later = came s ∙ ap (λ f. bodies ++ f.bodies) t.others ∙ sym (append_assoc bodies (body ∷ []) later) in
+    let here = out bodies s.knows in
+    omega (arith, here, ap length all, length-append (bodies ++ body ∷ []) later)
 
 -- ---- work between two messages
 
@@ -486,9 +610,17 @@ module _ (config : Configuration) (a left v w : Option (List ℕ)) (last : Optio
   served-code (Ok end) s = s.code
   served-code (Err fault) s = tt
 
-  pub served-answered : (result : Result Ended ServeFault) → Served config a left v w last result → IfErr result (λ fault. fault ≡ served.Read → IfSome a (λ bytes. Answered config bytes left v w))
+  pub served-loses : (result : Result Ended ServeFault) → Served config a left v w last result → OnErr result (IfSome a (λ bytes. (lost : List ℕ) × Answered config bytes lost left v w))
+  served-loses (Ok end) s = tt
+  served-loses (Err fault) s = s.loses
+
+  pub served-answered : (result : Result Ended ServeFault) → Served config a left v w last result → IfErr result (λ fault. fault ≡ served.Read → IfSome a (λ bytes. Answered config bytes [] left v w))
   served-answered (Ok end) s = tt
   served-answered (Err fault) s = s.answered
+
+  pub served-exhausted : (result : Result Ended ServeFault) → Served config a left v w last result → result ≡ Err served.Exhausted → IfSome a (λ bytes. ExhaustsStamps 0 config (length (frames bytes).bodies))
+  served-exhausted (Ok end) s e = cc
+  served-exhausted (Err fault) s e = let same : fault ≡ served.Exhausted = cc in s.stamps same
 
   pub served-fault : (result : Result Ended ServeFault) → Served config a left v w last result → IfErr result ComesWhileServing
   served-fault (Ok end) s = tt

@@ -1,5 +1,5 @@
 -- A core of the session, which takes messages and work in any order, in terms of what has happened to it.
-use Rattle.std.specs.Prelude.{◌≡◌, ◌⊎◌, ℕ, suc, ◌<◌, List, [], ◌∷◌, ◌++◌, ⊤, Bool, true, false, if◌then◌else◌, Option, Some, None, length, take, drop, map, slice_index_or}
+use Rattle.std.specs.Prelude.{◌≡◌, ◌⊎◌, ℕ, suc, ◌+◌, ◌<◌, List, [], ◌∷◌, ◌++◌, ⊤, Bool, true, false, if◌then◌else◌, Option, Some, None, length, take, drop, map, slice_index_or}
 use Rattle.piece_collector.specs.Board.{IsComplete}
 use Rattle.piece_collector.specs.Board as board
 use Rattle.piece_collector.specs.Events as work
@@ -7,8 +7,8 @@ use Rattle.piece_collector.specs.Views.{BoardView}
 use Rattle.lsp_rpc.specs.Message.{MessageData, message_of}
 use Rattle.lsp_config.specs.Configuration.{Configuration, files_of}
 use Rattle.lsp_workspace.specs.Files.{workspace}
-use Rattle.lsp_workspace.specs.Texts.{first_events}
-use Rattle.lsp_session.specs.Session.{State, Pending, Turn, turn, waits, session}
+use Rattle.lsp_workspace.specs.Texts.{StampsRunOut, first_events}
+use Rattle.lsp_session.specs.Session.{State, Pending, Turn, turn, waits, needs_analysis, session}
 use Rattle.lsp_session.specs.Working.{board_events_of}
 use Rattle.lsp_session.specs.declared.step.Step.{Step}
 use Rattle.lsp_session.specs.declared.step.Step.TheVariants.{Begin, Finish}
@@ -139,6 +139,17 @@ pub record IsAfter (opening : ℕ) (config : Configuration) (core : CoreState) (
   pub queue : core.queue ≡ map message_of (waiting h)
   pub pending : core.pending ≡ pending_after config h
   pub board : board.IsAfter opening core.board (board_events config h)
+
+-- after some steps that may come, a message has begun that is answered from an analysis
+pub record ComesToAnAnalysis (opening : ℕ) (config : Configuration) (h : List Event) : Type 0 where
+  pub steps : List Step
+  pub legal : IsLegal opening config (map Advance steps ++ h)
+  pub begun : has_begun (map Advance steps ++ h) ≡ true
+  pub needs : needs_analysis (beginning config (map Advance steps ++ h)).pending ≡ true
+
+-- the files on disk and so many messages with one text each are more than there are stamps behind the opening one
+abbrev pub ExhaustsStamps : ℕ → Configuration → ℕ → Type 0
+ExhaustsStamps opening config count = StampsRunOut opening (length (workspace (files_of config)) + count)
 
 -- the replies to the processed messages are the first ones, then these
 abbrev pub Replied : Configuration → List Event → List (List ℕ) → List (List ℕ) → Type 0

@@ -1,5 +1,5 @@
 -- What the private steps of a session over a stream promise each other.
-use Rattle.std.specs.Prelude.{◌≡◌, ℕ, ◌+◌, ◌≤◌, List, ◌++◌, length, ⊤, false, Option, Some, None, option_map, Result, Ok, Err, IfSome, IfErr, OnOk}
+use Rattle.std.specs.Prelude.{◌≡◌, ℕ, ◌+◌, ◌≤◌, List, [], ◌++◌, length, ⊤, false, Option, Some, None, option_map, Result, Ok, Err, IfSome, IfErr, OnOk}
 use Rattle.std.specs.Io.KnownBytes.{Appends}
 use Rattle.lsp_frame.specs.Counts.{NoneFell, NoError, HasFailed}
 use Rattle.lsp_frame.specs.Fault.{code_of}
@@ -13,7 +13,7 @@ use Rattle.lsp_config.specs.Fault.{ComesWhileServing, NoErrorUnless}
 use Rattle.lsp_config.specs.Sending.{SendsPrefix}
 use Rattle.lsp_config.specs.declared.fault.ServeFault.{ServeFault}
 use Rattle.lsp_config.specs.declared.fault.ServeFault.TheVariants as fault
-use Rattle.lsp_session.specs.Core.{CoreState}
+use Rattle.lsp_session.specs.Core.{CoreState, ExhaustsStamps}
 use Rattle.lsp_session.specs.Session.{start, session}
 use Rattle.lsp_session.specs.Steps.{Knows}
 use Rattle.lsp_session.specs.Stream.{frames_of, output, ended, exit_of, is_exited, taken_from, behind_frames, behind_exit, IsExit, HasFrameCode, LeavesReader, Answered}
@@ -84,7 +84,9 @@ pub record Finishes (config : Configuration) (a left v w : Option (List ℕ)) (a
 -- it stopped by a fault
 pub record Fails (config : Configuration) (a left v w : Option (List ℕ)) (reason : ServeFault) : Type 0 where
   pub prefix : IfSome a (λ bytes. SendsPrefix v w (output config bytes))
-  pub answered : reason ≡ fault.Read → IfSome a (λ bytes. Answered config bytes left v w)
+  pub loses : IfSome a (λ bytes. (last : List ℕ) × Answered config bytes last left v w)
+  pub answered : reason ≡ fault.Read → IfSome a (λ bytes. Answered config bytes [] left v w)
+  pub stamps : reason ≡ fault.Exhausted → IfSome a (λ bytes. ExhaustsStamps 0 config (length (frames bytes).bodies))
   pub comes : ComesWhileServing reason
 
 -- it ended well, or by a fault

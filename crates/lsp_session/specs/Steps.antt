@@ -1,5 +1,5 @@
 -- What a core does in steps: the steps of messages, rounds of work, and the messages of a stream.
-use Rattle.std.specs.Prelude.{◌≡◌, ◌⊎◌, ℕ, zero, suc, ◌+◌, ◌<◌, ◌++◌, List, [], ◌∷◌, Bool, true, if◌then◌else◌, Option, None, IsSome, IfSome, is_some, option_map, option_and_then, length, map}
+use Rattle.std.specs.Prelude.{◌≡◌, ◌⊎◌, ℕ, zero, suc, ◌+◌, ◌<◌, ◌++◌, List, [], ◌∷◌, Bool, true, if◌then◌else◌, Option, None, Some, IsSome, IfSome, is_some, option_map, option_and_then, length, map}
 use Rattle.std.specs.Option.{option_to_list}
 use Rattle.serde_json.specs.Written.{compact_text}
 use Rattle.piece_collector.specs.Board.{IsFull, IsFirstWanted}
@@ -7,7 +7,7 @@ use Rattle.piece_collector.specs.History.{first_wanted, history, stands_at}
 use Rattle.lsp_rpc.specs.Message.{message_of}
 use Rattle.lsp_config.specs.Configuration.{Configuration}
 use Rattle.lsp_session.specs.Core.{Event, Give, Offer, messages, processed, CoreState, IsAfter, board_events}
-use Rattle.lsp_session.specs.Session.{replies_to, waits, needs_analysis, session}
+use Rattle.lsp_session.specs.Session.{Pending, replies_to, waits, needs_analysis, session}
 use Rattle.lsp_session.specs.declared.step.Step.{Step}
 use Rattle.lsp_session.specs.declared.step.Step.TheVariants.{Begin, Finish}
 
@@ -18,6 +18,10 @@ IsReady core = IfSome core.pending (λ p. waits p ≡ true → IsFull core.board
 -- the files are analysed, if what is left to be answered needs it
 abbrev pub IsPrepared : CoreState → Bool → Type 0
 IsPrepared core is_analysed = IfSome core.pending (λ p. needs_analysis p ≡ true → is_analysed ≡ true)
+
+-- what is left to be answered needs an analysis
+abbrev pub NeedsAnalysis : CoreState → Type 0
+NeedsAnalysis core = (p : Pending) × (core.pending ≡ Some p) × (needs_analysis p ≡ true)
 
 -- a step can be taken
 abbrev pub CanStep : CoreState → Step → Type 0

@@ -1,6 +1,7 @@
 -- The session over a stream of frames: what the server writes, and how it ends.
-use Rattle.std.specs.Prelude.{◌≡◌, ℕ, zero, suc, ◌≤◌, List, [], ◌∷◌, ◌++◌, ⊤, Bool, true, if◌then◌else◌, Option, Some, None, is_some}
+use Rattle.std.specs.Prelude.{◌≡◌, ℕ, zero, suc, ◌≤◌, List, [], ◌∷◌, ◌++◌, length, take, ⊤, Bool, true, if◌then◌else◌, Option, Some, None, is_some}
 use Rattle.std.specs.List.{flat_map}
+use Rattle.std.specs.Option.{option_to_list}
 use Rattle.std.specs.Io.KnownBytes.{Appends}
 use Rattle.lsp_frame.specs.Fault.{code_of}
 use Rattle.lsp_frame.specs.Stream.{StreamEnd, InputEnd, BadFrame, FirstFrame, Whole, NoFrame, first_frame, frames}
@@ -81,10 +82,18 @@ LeavesReader last (how.Exit after_shutdown) = last ≡ None
 LeavesReader last how.InputEnd = last ≡ Some AtEnd
 LeavesReader last (how.BadFrame code) = (fault : FrameFault) × (last ≡ Some (Failed fault)) × (code ≡ code_of fault)
 
--- some of the bytes were taken and the others are left, and what the session says to those that were taken went out
-pub record Answered (config : Configuration) (bytes : List ℕ) (left old new : Option (List ℕ)) : Type 0 where
-  pub taken : List ℕ
+-- behind the front these bytes complete one frame at most
+abbrev pub CompleteOneAtMost : List ℕ → List ℕ → Type 0
+CompleteOneAtMost front last = (body : Option (List ℕ)) × ((frames (front ++ last)).bodies ≡ (frames front).bodies ++ option_to_list body)
+
+-- The bytes are a front, these last ones, which complete one frame at most, and a rest, which is left. Of what the session says to the front
+-- and the last ones so many bytes went out, and no fewer than it says to the front.
+pub record Answered (config : Configuration) (bytes last : List ℕ) (left old new : Option (List ℕ)) : Type 0 where
+  pub front : List ℕ
   pub rest : List ℕ
-  pub joined : bytes ≡ taken ++ rest
+  pub joined : bytes ≡ front ++ last ++ rest
   pub is_left : left ≡ Some rest
-  pub wrote : Appends old new (output config taken)
+  pub one_at_most : CompleteOneAtMost front last
+  pub sent : ℕ
+  pub enough : length (output config front) ≤ sent
+  pub wrote : Appends old new (take sent (output config (front ++ last)))

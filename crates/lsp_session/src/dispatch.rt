@@ -1,12 +1,12 @@
 // Jobs go out to the workers of a pool, and what became of them comes back.
-ghost use Rattle.std.specs.Prelude.{◌≡◌, ◌+◌, ◌<◌, ℕ, List, [], ◌∷◌, ◌++◌, true, false, None, Ok, IfOk, IfErr, OnOk};
+ghost use Rattle.std.specs.Prelude.{◌≡◌, ◌+◌, ◌<◌, ℕ, List, [], ◌∷◌, ◌++◌, true, false, length, None, Ok, Err, IfOk, IfErr, OnOk};
 ghost use Rattle.piece_collector.specs.Board.{IsFirstWanted};
 ghost use Rattle.lsp_config.specs.Configuration.{Configuration};
-ghost use Rattle.lsp_config.specs.Fault.{IsOfCore};
-ghost use Rattle.lsp_session.specs.Core.{Event, Give, IsAfter, Advances, board_events};
+ghost use Rattle.lsp_config.specs.Fault.{IsOfCore, IsOfWorkers};
+ghost use Rattle.lsp_session.specs.Core.{Event, Give, messages, IsAfter, ExhaustsStamps, Advances, board_events};
 ghost use Rattle.lsp_session.specs.Run.{event_of, has_failed, incoming_of_done, verdicts_of};
 ghost use Rattle.lsp_session.specs.Steps.{Knows, Awaits, WorksOn, HandsOut, Progresses, replies_after};
-ghost use Rattle.lsp_session.specs.View.{core_state};
+ghost use Rattle.lsp_session.specs.View.{core_state, last_fault};
 ghost use Rattle.worker_pool.specs.SentJobs.{HasRoom};
 
 use crate::reply::Reply;
@@ -28,6 +28,8 @@ fn hand_out_next<R: Wait>(rt: &R, core: &mut Core, pool: &mut Pool) -> Result<bo
     ensures state { OnOk result ((core_state core.new).state ≡ (core_state core.old).state) }
     ensures out { IfOk result (λ more. more ≡ true → pool.new.out ≡ pool.old.out + 1) }
     ensures fault { IfErr result IsOfCore }
+    ensures workers { last_fault core.old ≡ None → IfErr result IsOfWorkers }
+    ensures open { OnOk result (last_fault core.new ≡ None) }
 {
     let job = match core.next_job() {
         Ok(Some(job)) => job,
@@ -46,6 +48,8 @@ pub fn hand_out<R: Wait>(rt: &R, core: &mut Core, pool: &mut Pool) -> Result<(),
     ensures hands { OnOk result ((opening : ℕ) (config : Configuration) (h : List Event) → IsAfter opening config (core_state core.old) h → HandsOut opening config (core_state core.new) h (¬ HasRoom pool.new.sent)) }
     ensures state { OnOk result ((core_state core.new).state ≡ (core_state core.old).state) }
     ensures fault { IfErr result IsOfCore }
+    ensures workers { last_fault core.old ≡ None → IfErr result IsOfWorkers }
+    ensures open { last_fault core.old ≡ None → OnOk result (last_fault core.new ≡ None) }
 {
     jobs_and_pieces();
     'jobs: while pool.has_room() {
@@ -69,6 +73,8 @@ fn has_failed(done: &Done) -> bool
 fn bring(core: &mut Core, done: Done) -> Result<(), ServeFault>
     ensures brings { OnOk result ((opening : ℕ) (config : Configuration) (h : List Event) → IsAfter opening config (core_state core.old) h → IsAfter opening config (core_state core.new) (event_of done ∷ h)) }
     ensures fault { IfErr result IsOfCore }
+    ensures workers { last_fault core.old ≡ None → IfErr result IsOfWorkers }
+    ensures open { OnOk result (last_fault core.new ≡ None) }
 
     // A failure that counts is never passed over.
     ensures failed { OnOk result (has_failed done ≡ true → (opening : ℕ) (config : Configuration) (h : List Event) → IsAfter opening config (core_state core.old) h → ¬ (verdicts_of opening config h (incoming_of_done done) ≡ Verdict.Taken ∷ [])) }
@@ -90,6 +96,8 @@ fn bring(core: &mut Core, done: Done) -> Result<(), ServeFault>
 fn take_result<R: Wait>(rt: &R, core: &mut Core, pool: &mut Pool) -> Result<(), ServeFault>
     ensures works { OnOk result ((opening : ℕ) (config : Configuration) (h : List Event) → IsAfter opening config (core_state core.old) h → WorksOn opening config (core_state core.new) h) }
     ensures fault { IfErr result IsOfCore }
+    ensures workers { last_fault core.old ≡ None → IfErr result IsOfWorkers }
+    ensures open { OnOk result (last_fault core.new ≡ None) }
 {
     match pool.receive(rt) {
         Some(done) => bring(core, done),
@@ -104,6 +112,8 @@ fn advance<R: Threads + Wait, G: Gate>(
 ) -> Result<Vec<Reply>, ServeFault>
     ensures advances { IfOk result (λ replies. (opening : ℕ) (config : Configuration) (h : List Event) → IsAfter opening config (core_state core.old) h → Advances opening config (core_state core.new) h replies.items) }
     ensures fault { IfErr result IsOfCore }
+    ensures stamps { last_fault core.old ≡ None → result ≡ Err ServeFault.Exhausted → (opening : ℕ) (config : Configuration) (h : List Event) → IsAfter opening config (core_state core.old) h → ExhaustsStamps opening config (length (messages h)) }
+    ensures open { OnOk result (last_fault core.new ≡ None) }
 {
     match core.advance_in_shares(threading.rt, threading.workers, threading.gate) {
         Ok(replies) => Ok(replies),
@@ -119,6 +129,8 @@ fn work_on<R: Threads + Wait, G: Gate>(
 ) -> Result<Vec<Reply>, ServeFault>
     ensures progress { IfOk result (λ replies. (config : Configuration) (bodies : List (List ℕ)) (body : List ℕ) → Awaits config (core_state core.old) bodies body → Progresses config (core_state core.new) bodies body replies.items) }
     ensures fault { IfErr result IsOfCore }
+    ensures stamps { last_fault core.old ≡ None → result ≡ Err ServeFault.Exhausted → (config : Configuration) (bodies : List (List ℕ)) (body : List ℕ) → Awaits config (core_state core.old) bodies body → ExhaustsStamps 0 config (length (bodies ++ body ∷ [])) }
+    ensures open { OnOk result (last_fault core.new ≡ None) }
 {
     hand_out(threading.rt, core, pool)?;
     take_result(threading.rt, core, pool)?;
@@ -134,6 +146,8 @@ fn await_replies<R: Threads + Wait, G: Gate>(
     ensures answers { IfOk result (λ replies. (config : Configuration) (bodies : List (List ℕ)) (body : List ℕ) → Awaits config (core_state core.old) bodies body
         → Knows config (core_state core.new) (bodies ++ body ∷ []) × (replies.items ≡ replies_after config bodies body)) }
     ensures fault { IfErr result IsOfCore }
+    ensures stamps { last_fault core.old ≡ None → result ≡ Err ServeFault.Exhausted → (config : Configuration) (bodies : List (List ℕ)) (body : List ℕ) → Awaits config (core_state core.old) bodies body → ExhaustsStamps 0 config (length (bodies ++ body ∷ [])) }
+    ensures open { OnOk result (last_fault core.new ≡ None) }
 {
     for _result in threading.rt.forever() {
         match work_on(threading, core, pool) {
@@ -156,6 +170,8 @@ fn begin<R: Threads + Wait, G: Gate>(
 ) -> Result<Vec<Reply>, ServeFault>
     ensures progress { IfOk result (λ replies. (config : Configuration) (bodies : List (List ℕ)) → Knows config (core_state core.old) bodies → Progresses config (core_state core.new) bodies body.now replies.items) }
     ensures fault { IfErr result IsOfCore }
+    ensures stamps { last_fault core.old ≡ None → result ≡ Err ServeFault.Exhausted → (config : Configuration) (bodies : List (List ℕ)) → Knows config (core_state core.old) bodies → ExhaustsStamps 0 config (length (bodies ++ body.now ∷ [])) }
+    ensures open { OnOk result (last_fault core.new ≡ None) }
 {
     match core.message(body) {
         Ok(()) => advance(threading, core),
@@ -173,6 +189,8 @@ pub fn answer<R: Threads + Wait, G: Gate>(
     ensures answers { IfOk result (λ replies. (config : Configuration) (bodies : List (List ℕ)) → Knows config (core_state core.old) bodies
         → Knows config (core_state core.new) (bodies ++ body.now ∷ []) × (replies.items ≡ replies_after config bodies body.now)) }
     ensures fault { IfErr result IsOfCore }
+    ensures stamps { last_fault core.old ≡ None → result ≡ Err ServeFault.Exhausted → (config : Configuration) (bodies : List (List ℕ)) → Knows config (core_state core.old) bodies → ExhaustsStamps 0 config (length (bodies ++ body.now ∷ [])) }
+    ensures open { OnOk result (last_fault core.new ≡ None) }
 {
     let replies = begin(threading, core, body)?;
     if !core.waits() {

@@ -1,5 +1,5 @@
 // Documents of a session: their paths, and what the editor does to them.
-ghost use Rattle.std.specs.Prelude.{◌≡◌, ◌++◌, ◌∷◌, [], ℕ, List, Err, IfOk, OnOk, option_map, string_bytes};
+ghost use Rattle.std.specs.Prelude.{◌≡◌, ◌++◌, ◌∷◌, [], ℕ, List, Err, IfOk, OnOk, OnErr, option_map, string_bytes};
 ghost use Rattle.piece_collector.specs.Board.{IsAfter};
 ghost use Rattle.piece_collector.specs.Events.{Event};
 ghost use Rattle.serde_json.specs.View.{view};
@@ -88,6 +88,7 @@ impl Session {
         ensures board { OnOk result ((opening : ℕ) (events : List Event) → IsAfter opening workspace.old.board events → IsAfter opening workspace.new.board
             (working.events_for_path (λ path. event_at path workspace.new.files ∷ []) (spec.opened_path (state_of self.now workspace.old) (view params)) ++ events)) }
         ensures exhausted { result ≡ Err BoardFault.Exhausted → IsExhausted workspace.new.board }
+        ensures err { OnErr result (workspace.new.board ≡ workspace.old.board) }
     {
         let Some(opened) = DidOpenParams::from_value(params) else {
             return Ok(Pending::Nothing);
@@ -114,6 +115,7 @@ impl Session {
         ensures board { OnOk result ((opening : ℕ) (events : List Event) → IsAfter opening workspace.old.board events → IsAfter opening workspace.new.board
             (working.events_for_path (λ path. events_at path workspace.old.files workspace.new.files) (spec.changed_path (state_of self.now workspace.old) (view params)) ++ events)) }
         ensures exhausted { result ≡ Err BoardFault.Exhausted → IsExhausted workspace.new.board }
+        ensures err { OnErr result (workspace.new.board ≡ workspace.old.board) }
     {
         let Some(changed) = DidChangeParams::from_value(self.alloc, params)? else {
             return Ok(Pending::Nothing);
@@ -161,6 +163,7 @@ impl Session {
         ensures board { OnOk result ((opening : ℕ) (events : List Event) → IsAfter opening workspace.old.board events → IsAfter opening workspace.new.board
             (working.events_for_path (λ path. events_at path workspace.old.files workspace.new.files) (spec.path_in (state_of self.now workspace.old) (view params.now)) ++ events)) }
         ensures exhausted { result ≡ Err BoardFault.Exhausted → IsExhausted workspace.new.board }
+        ensures err { OnErr result (workspace.new.board ≡ workspace.old.board) }
     {
         let Some(path) = self.path_in(workspace, params)? else {
             return Ok(Pending::Nothing);

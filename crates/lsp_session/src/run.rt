@@ -1,9 +1,9 @@
 // A core over a list of events.
-ghost use Rattle.std.specs.Prelude.{◌≡◌, ℕ, List, [], ◌++◌, filter, length, map, None, IfOk, IfErr, OnOk};
+ghost use Rattle.std.specs.Prelude.{◌≡◌, ◌+◌, ℕ, List, [], ◌∷◌, ◌++◌, filter, length, map, None, Err, IfOk, IfErr, OnOk};
 ghost use Rattle.std.specs.Option.{option_to_list};
 ghost use Rattle.lsp_config.specs.Configuration.{Configuration};
 ghost use Rattle.lsp_config.specs.Fault.{ComesWithoutThreads};
-ghost use Rattle.lsp_session.specs.Core.{Event, IsAfter};
+ghost use Rattle.lsp_session.specs.Core.{Event, messages, IsAfter, ExhaustsStamps};
 ghost use Rattle.lsp_session.specs.Run.{incoming_of, is_message, verdicts_of, HasCome, HasFollowed, HasRun};
 ghost use Rattle.lsp_session.specs.View.{core_state, last_fault};
 
@@ -42,7 +42,7 @@ fn take(core: &mut Core, event: CoreEvent) -> Result<Option<Verdict>, CoreFault>
     ensures comes { OnOk result ((opening : ℕ) (config : Configuration) (h : List Event) → IsAfter opening config (core_state core.old) h → HasCome opening config (core_state core.new) (incoming_of event) h) }
     ensures verdict { IfOk result (λ verdict. (opening : ℕ) (config : Configuration) (h : List Event) → IsAfter opening config (core_state core.old) h → option_to_list verdict ≡ verdicts_of opening config h (incoming_of event)) }
     ensures open { last_fault core.old ≡ None → OnOk result (last_fault core.new ≡ None) }
-    ensures threads { last_fault core.old ≡ None → IfErr result ComesWithoutThreads }
+    ensures memory { last_fault core.old ≡ None → IfErr result (λ fault. fault ≡ CoreFault.Memory) }
 {
     match event {
         CoreEvent::Message(body) => {
@@ -89,6 +89,8 @@ fn handle(
         → HasFollowed opening config (core_state core.new) (incoming_of event) h replies.old.items replies.new.items verdicts.old.items verdicts.new.items) }
     ensures open { last_fault core.old ≡ None → OnOk result (last_fault core.new ≡ None) }
     ensures threads { last_fault core.old ≡ None → IfErr result ComesWithoutThreads }
+    ensures stamps { last_fault core.old ≡ None → result ≡ Err CoreFault.Exhausted → (opening : ℕ) (config : Configuration) (h : List Event) → IsAfter opening config (core_state core.old) h
+        → ExhaustsStamps opening config (length (messages h) + length (filter is_message (incoming_of event ∷ []))) }
 {
     let verdict = take(core, event)?;
     push_verdict(verdicts, verdict)?;
@@ -110,10 +112,12 @@ fn count_messages(events: &[CoreEvent]) -> usize
     events.iter().filter(|event| is_message(event)).count()
 }
 
-/// Runs a new core on the events, in order. `Memory` where memory is refused, `Exhausted` where a text finds no stamp.
+/// Runs a new core on the events, in order. `Memory` where memory is refused, `Exhausted` where a text finds no stamp: then the files on
+/// disk and the messages are more than there are stamps.
 pub fn run_core(alloc: Global, config: Config, events: Vec<CoreEvent>) -> Result<CoreRun, CoreFault>
     ensures run { IfOk result (λ run. HasRun config (map incoming_of events.items) run.replies.items run.verdicts.items run.processed) }
     ensures threads { IfErr result ComesWithoutThreads }
+    ensures exhausted { result ≡ Err CoreFault.Exhausted → ExhaustsStamps 0 config (length (filter is_message (map incoming_of events.items))) }
 {
     let mut core = Core::new(alloc, config)?;
     let mut replies = Vec::new(alloc);

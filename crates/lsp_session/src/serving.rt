@@ -1,15 +1,17 @@
 // A session over streams of frames.
-ghost use Rattle.std.specs.Prelude.{◌≡◌, ◌+◌, ◌≤◌, [], Some, IfOk, IfErr, IfSome, OnOk};
+ghost use Rattle.std.specs.Prelude.{◌≡◌, ◌+◌, ◌≤◌, ℕ, List, [], length, None, Some, Err, IfOk, IfErr, IfSome, OnOk, OnErr};
 ghost use Rattle.std.specs.Io.KnownBytes.{Appends};
 ghost use Rattle.lsp_frame.specs.Counts.{NoError, HasFailed};
 ghost use Rattle.lsp_frame.specs.FrameReader.{source_of, last_answer, IsOpen};
+ghost use Rattle.lsp_frame.specs.Stream.{frames};
 ghost use Rattle.lsp_config.specs.Configuration.{Configuration};
-ghost use Rattle.lsp_config.specs.Fault.{ComesWhileServing, IsOfCore, NoErrorUnless};
+ghost use Rattle.lsp_config.specs.Fault.{ComesWhileServing, IsOfWorkers, NoErrorUnless};
 ghost use Rattle.lsp_config.specs.Sending.{SendsPrefix};
+ghost use Rattle.lsp_session.specs.Core.{ExhaustsStamps};
 ghost use Rattle.lsp_session.specs.Serving.{Calls, IsCaused, Served};
 ghost use Rattle.lsp_session.specs.Steps.{Knows};
 ghost use Rattle.lsp_session.specs.Stream.{output, ended, behind_exit, IsExit, HasFrameCode, LeavesReader, Answered};
-ghost use Rattle.lsp_session.specs.View.{core_state};
+ghost use Rattle.lsp_session.specs.View.{core_state, last_fault};
 
 use crate::ended::Ended;
 use crate::session_core::Core;
@@ -38,7 +40,7 @@ fn start_pool<R: Threads + Wait + Clone + Send + Drop + 'static, G: Gate + 'stat
     workers: usize,
     gate: &Arc<G>,
 ) -> Result<Pool, ServeFault>
-    ensures { IfErr result IsOfCore }
+    ensures { IfErr result IsOfWorkers }
 {
     match Pool::start(rt, FileWork::new(alloc), workers, gate) {
         Ok(pool) => Ok(pool),
@@ -55,7 +57,7 @@ fn serve_messages<R: Threads + Wait, S: ByteSource, K: ByteSink, G: Gate>(
     pool: &mut Pool,
 ) -> Result<Ended, ServeFault>
     requires { IsOpen reader.old }
-    ensures served { (config : Configuration) → Knows config (core_state core.old) [] → Served config (S.left (source_of reader.old)) (S.left (source_of reader.new)) (K.written writer.old) (K.written writer.new) (last_answer reader.new) result }
+    ensures served { (config : Configuration) → Knows config (core_state core.old) [] → last_fault core.old ≡ None → Served config (S.left (source_of reader.old)) (S.left (source_of reader.new)) (K.written writer.old) (K.written writer.new) (last_answer reader.new) result }
     ensures reads { Calls ServeFault.Read (S.counts (source_of reader.old)) (S.counts (source_of reader.new)) result }
     ensures writes { Calls ServeFault.Write (K.counts writer.old) (K.counts writer.new) result }
     ensures cause { IfErr result (IsCaused (S.counts (source_of reader.old)) (S.counts (source_of reader.new)) (K.counts writer.old) (K.counts writer.new)) }
@@ -123,7 +125,8 @@ fn run<
 /// can't be read. The faults: `Read` where the source failed, `Write` where the sink did, `Memory` where memory was refused, also
 /// to a worker whose text still counts, or where a job couldn't be sent, `ThreadRefused` where a thread was refused or no worker is left,
 /// and `Exhausted` where a text found no stamp. Whatever it ends with, what was written is a prefix of what the session says on the whole
-/// input, and all of it where no fault came. By then every worker has ended (it joins them; no clause says so).
+/// input, and all of it where no fault came. A fault loses the replies to one message at most, and `Read` none. By then every worker has
+/// ended (it joins them; no clause says so).
 ///
 /// `reader` must have answered no fault and no end. It may wait for a worker, and nothing is promised of when that is done.
 pub fn serve<
@@ -155,8 +158,10 @@ pub fn serve<
     // Else the reader answers from then on what the session ended with: the end, or the fault of the bad frame.
     ensures leaves { IfOk result (LeavesReader (last_answer reader.new)) }
 
-    // Where the source failed, all that the session says to the bytes that were taken went out, and no more.
-    ensures answered { IfErr result (λ fault. fault ≡ ServeFault.Read → IfSome (S.left (source_of reader.old)) (λ bytes. Answered config bytes (S.left (source_of reader.new)) (K.written writer.old) (K.written writer.new))) }
+    // At a fault all that the session says to the bytes that were taken went out, but for the last of them, which complete one
+    // message at most. Where the source failed there are no such last ones: all went out, and no more.
+    ensures loses { OnErr result (IfSome (S.left (source_of reader.old)) (λ bytes. (last : List ℕ) × Answered config bytes last (S.left (source_of reader.new)) (K.written writer.old) (K.written writer.new))) }
+    ensures answered { IfErr result (λ fault. fault ≡ ServeFault.Read → IfSome (S.left (source_of reader.old)) (λ bytes. Answered config bytes [] (S.left (source_of reader.new)) (K.written writer.old) (K.written writer.new))) }
 
     // The number of a bad frame is one of 101 to 106.
     ensures code { IfOk result HasFrameCode }
@@ -164,6 +169,9 @@ pub fn serve<
     // A device's fault is answered only where the device failed in the call.
     ensures read { IfErr result (λ fault. fault ≡ ServeFault.Read → HasFailed (S.counts (source_of reader.old)) (S.counts (source_of reader.new))) }
     ensures write { IfErr result (λ fault. fault ≡ ServeFault.Write → HasFailed (K.counts writer.old) (K.counts writer.new)) }
+
+    // No stamp is left only where the files on disk and the messages are more than there are stamps.
+    ensures exhausted { result ≡ Err ServeFault.Exhausted → IfSome (S.left (source_of reader.old)) (λ bytes. ExhaustsStamps 0 config (length (frames bytes).bodies)) }
 
     // What is wrong with a configuration was said when it was made.
     ensures fault { IfErr result ComesWhileServing }

@@ -1,5 +1,5 @@
 // The session: what a message changes, and what is left to be answered to it.
-ghost use Rattle.std.specs.Prelude.{◌≡◌, ◌++◌, ◌∷◌, [], ℕ, List, Err, IfOk, OnOk, IsTrue, true, map, string_bytes};
+ghost use Rattle.std.specs.Prelude.{◌≡◌, ◌++◌, ◌∷◌, [], ℕ, List, Err, IfOk, OnOk, OnErr, IsTrue, true, map, string_bytes};
 ghost use Rattle.piece_collector.specs.Board.{IsAfter};
 ghost use Rattle.piece_collector.specs.Events.{Event};
 ghost use Rattle.serde_json.specs.View.{view};
@@ -154,6 +154,7 @@ impl Session {
         ensures board { OnOk result ((opening : ℕ) (events : List Event) → IsAfter opening workspace.old.board events
             → IsAfter opening workspace.new.board (working.events_by_method (state_of self.old workspace.old) method (view params) workspace.new.files ++ events)) }
         ensures exhausted { result ≡ Err BoardFault.Exhausted → IsExhausted workspace.new.board }
+        ensures err { OnErr result (workspace.new.board ≡ workspace.old.board) }
     {
         match method {
             Some(Method::Exit) => {
@@ -183,6 +184,7 @@ impl Session {
         ensures board { OnOk result ((opening : ℕ) (events : List Event) → IsAfter opening workspace.old.board events
             → IsAfter opening workspace.new.board (working.events_in_phase (phase_of self.old) (state_of self.old workspace.old) method (view params) workspace.new.files ++ events)) }
         ensures exhausted { result ≡ Err BoardFault.Exhausted → IsExhausted workspace.new.board }
+        ensures err { OnErr result (workspace.new.board ≡ workspace.old.board) }
     {
         match (self.phase, method) {
             (Phase::Running, _) => {
@@ -216,6 +218,7 @@ impl Session {
         ensures board { OnOk result ((opening : ℕ) (events : List Event) → IsAfter opening workspace.old.board events
             → IsAfter opening workspace.new.board (working.events_of (state_of self.old workspace.old) (message_view message) workspace.new.files ++ events)) }
         ensures exhausted { result ≡ Err BoardFault.Exhausted → IsExhausted workspace.new.board }
+        ensures err { OnErr result (workspace.new.board ≡ workspace.old.board) }
     {
         match message {
             Message::ParseError => Ok(Pending::Refusal {
@@ -246,6 +249,7 @@ impl Session {
         ensures pending { IfOk result (λ p. pending_view p ≡ (spec.turn (state_of self.old workspace.old) (message_view message)).pending) }
         ensures board { OnOk result ((opening : ℕ) (events : List Event) → IsAfter opening workspace.old.board events → IsAfter opening workspace.new.board (working.board_events_of (state_of self.old workspace.old) (message_view message) ++ events)) }
         ensures exhausted { result ≡ Err BoardFault.Exhausted → IsExhausted workspace.new.board }
+        ensures err { OnErr result (workspace.new.board ≡ workspace.old.board) }
     {
         match self.phase {
             Phase::Exited { .. } => Ok(Pending::Nothing),

@@ -1,12 +1,14 @@
 // The core: messages and work in, replies and jobs out, and nothing of streams.
-ghost use Rattle.std.specs.Prelude.{◌≡◌, ◌↔◌, ◌<◌, ◌++◌, ℕ, List, [], ◌∷◌, length, option_map, Some, None, Err, IfOk, IfErr, IfSome, OnOk, IsTrue, true, false};
+ghost use Rattle.std.specs.Prelude.{◌≡◌, ◌↔◌, ◌<◌, ◌++◌, ℕ, List, [], ◌∷◌, length, option_map, Some, None, Err, IfOk, IfErr, IfSome, OnOk, OnErr, IsTrue, true, false};
 ghost use Rattle.piece_collector.specs.Board.{IsFirstWanted, IsFull, current_text};
 ghost use Rattle.piece_collector.specs.History.{stands_at};
-ghost use Rattle.lsp_config.specs.Configuration.{Configuration};
+ghost use Rattle.lsp_config.specs.Configuration.{Configuration, files_of};
 ghost use Rattle.lsp_config.specs.Fault.{ComesWithoutThreads};
-ghost use Rattle.lsp_session.specs.Core.{Event, Arrive, Advance, Give, messages, processed, board_events, IsAfter, MayStep, IsSettled, Replied, Advances};
+ghost use Rattle.lsp_workspace.specs.Files.{workspace};
+ghost use Rattle.lsp_workspace.specs.Texts.{StampsRunOut};
+ghost use Rattle.lsp_session.specs.Core.{Event, Arrive, Advance, Give, messages, processed, board_events, IsAfter, MayStep, IsSettled, ComesToAnAnalysis, ExhaustsStamps, Replied, Advances};
 ghost use Rattle.lsp_session.specs.Run.{event_of, incoming_of_done, verdicts_of};
-ghost use Rattle.lsp_session.specs.Steps.{CanStep, IsPrepared, IsReady, steps_left, unprocessed};
+ghost use Rattle.lsp_session.specs.Steps.{CanStep, IsPrepared, IsReady, NeedsAnalysis, steps_left, unprocessed};
 ghost use Rattle.lsp_session.specs.Stream.{exit_of};
 ghost use Rattle.lsp_session.specs.View.{core_state};
 
@@ -45,21 +47,23 @@ impl Core {
     ghost use Rattle.lsp_session.specs.View.{last_fault, IsExhausted};
 
     /// The core of a session before its first message. The texts of the files on disk get the stamps from 1 on, in the order of
-    /// their paths. `Memory` where memory is refused.
+    /// their paths. `Memory` where memory is refused, and `Exhausted` where there are fewer stamps than texts.
     pub fn new(alloc: Global, config: Config) -> Result<Core, CoreFault>
         ensures is_after { IfOk result (λ core. IsAfter 0 config (core_state core) []) }
         ensures open { IfOk result (λ core. last_fault core ≡ None) }
         ensures threads { IfErr result ComesWithoutThreads }
+        ensures exhausted { result ≡ Err CoreFault.Exhausted → StampsRunOut 0 (length (workspace (files_of config))) }
     {
         Core::counting_from(alloc, config, 0)
     }
 
-    /// The core of a session before its first message, with stamps from the one after `stamp` on. `Memory` where memory is refused, and `Exhausted` where a file on disk
-    /// finds no stamp.
+    /// The core of a session before its first message, with stamps from the one after `stamp` on. `Memory` where memory is refused, and
+    /// `Exhausted` where a file on disk finds no stamp.
     pub fn counting_from(alloc: Global, config: Config, stamp: u64) -> Result<Core, CoreFault>
         ensures is_after { IfOk result (λ core. IsAfter stamp config (core_state core) []) }
         ensures open { IfOk result (λ core. last_fault core ≡ None) }
         ensures threads { IfErr result ComesWithoutThreads }
+        ensures exhausted { result ≡ Err CoreFault.Exhausted → StampsRunOut stamp (length (workspace (files_of config))) }
     {
         let (roots, disk_files) = config.into_parts()?;
         let workspace = Workspace::from_disk(alloc, disk_files, stamp)?;
@@ -183,6 +187,9 @@ impl Core {
         ensures fault { IfErr result (λ fault. last_fault self.new ≡ Some fault) }
         ensures threads { last_fault self.old ≡ None → IfErr result ComesWithoutThreads }
         ensures exhausted { last_fault self.old ≡ None → result ≡ Err CoreFault.Exhausted → IsExhausted (core_state self.new).board }
+
+        // No stamp is left only where the files on disk and the messages that came are more than the stamps.
+        ensures stamps { last_fault self.old ≡ None → result ≡ Err CoreFault.Exhausted → (opening : ℕ) (config : Configuration) (h : List Event) → IsAfter opening config (core_state self.old) h → ExhaustsStamps opening config (length (messages h)) }
         ensures open { OnOk result (last_fault self.new ≡ None) }
 
         // What the core stood for, it stands for with all messages processed that could be.
@@ -214,6 +221,12 @@ impl Core {
         ensures repeats { IfSome (last_fault self.old) (λ fault. (result ≡ Err fault) × (self.new ≡ self.old)) }
         ensures fault { IfErr result (λ fault. last_fault self.new ≡ Some fault) }
         ensures exhausted { last_fault self.old ≡ None → result ≡ Err CoreFault.Exhausted → IsExhausted (core_state self.new).board }
+
+        // No stamp is left only where the files on disk and the messages that came are more than the stamps.
+        ensures stamps { last_fault self.old ≡ None → result ≡ Err CoreFault.Exhausted → (opening : ℕ) (config : Configuration) (h : List Event) → IsAfter opening config (core_state self.old) h → ExhaustsStamps opening config (length (messages h)) }
+
+        // A thread is refused only where a message comes to be answered from an analysis.
+        ensures threads { last_fault self.old ≡ None → result ≡ Err CoreFault.ThreadRefused → (opening : ℕ) (config : Configuration) (h : List Event) → IsAfter opening config (core_state self.old) h → ComesToAnAnalysis opening config h }
         ensures open { OnOk result (last_fault self.new ≡ None) }
 
         // What the core stood for, it stands for with all messages processed that could be.
@@ -231,6 +244,7 @@ impl Core {
     fn take_steps(&mut self) -> Result<Vec<Reply>, BoardFault>
         ensures fault { last_fault self.new ≡ last_fault self.old }
         ensures exhausted { result ≡ Err BoardFault.Exhausted → IsExhausted (core_state self.new).board }
+        ensures stamps { result ≡ Err BoardFault.Exhausted → (opening : ℕ) (config : Configuration) (h : List Event) → IsAfter opening config (core_state self.old) h → ExhaustsStamps opening config (length (messages h)) }
         ensures advances { IfOk result (λ replies. (opening : ℕ) (config : Configuration) (h : List Event) → IsAfter opening config (core_state self.old) h → Advances opening config (core_state self.new) h replies.items) }
     {
         let mut replies = Vec::new(self.alloc);
@@ -249,6 +263,8 @@ impl Core {
     ) -> Result<Vec<Reply>, CoreFault>
         ensures fault { last_fault self.new ≡ last_fault self.old }
         ensures exhausted { result ≡ Err CoreFault.Exhausted → IsExhausted (core_state self.new).board }
+        ensures stamps { result ≡ Err CoreFault.Exhausted → (opening : ℕ) (config : Configuration) (h : List Event) → IsAfter opening config (core_state self.old) h → ExhaustsStamps opening config (length (messages h)) }
+        ensures threads { result ≡ Err CoreFault.ThreadRefused → (opening : ℕ) (config : Configuration) (h : List Event) → IsAfter opening config (core_state self.old) h → ComesToAnAnalysis opening config h }
         ensures advances { IfOk result (λ replies. (opening : ℕ) (config : Configuration) (h : List Event) → IsAfter opening config (core_state self.old) h → Advances opening config (core_state self.new) h replies.items) }
     {
         let mut replies = Vec::new(self.alloc);
@@ -278,6 +294,7 @@ impl Core {
     fn wants_analysis(&self) -> bool
         requires { IsReady (core_state self.now) }
         ensures full { IsTrue result → IsFull (core_state self.now).board }
+        ensures needs { IsTrue result → NeedsAnalysis (core_state self.now) }
         ensures prepared { result ≡ false → IsPrepared (core_state self.now) self.now.workspace.is_current }
     {
         match &self.pending {
@@ -309,6 +326,7 @@ impl Core {
         requires { IsReady (core_state self.old) }
         ensures fault { last_fault self.new ≡ last_fault self.old }
         ensures state { OnOk result (core_state self.new ≡ core_state self.old) }
+        ensures needs { OnErr result (NeedsAnalysis (core_state self.old)) }
         ensures prepared { OnOk result (IsPrepared (core_state self.new) self.new.workspace.is_current) }
     {
         if self.wants_analysis() {
@@ -322,6 +340,7 @@ impl Core {
         requires prepared { IsPrepared (core_state self.old) self.old.workspace.is_current }
         ensures fault { last_fault self.new ≡ last_fault self.old }
         ensures exhausted { result ≡ Err BoardFault.Exhausted → IsExhausted (core_state self.new).board }
+        ensures stamps { result ≡ Err BoardFault.Exhausted → (opening : ℕ) (config : Configuration) (h : List Event) → IsAfter opening config (core_state self.old) h → ExhaustsStamps opening config (length (messages h)) }
         ensures shorter { OnOk result (steps_left (core_state self.new) < steps_left (core_state self.old)) }
         ensures after { OnOk result ((opening : ℕ) (config : Configuration) (h : List Event) → IsAfter opening config (core_state self.old) h → MayStep opening config h step → IsAfter opening config (core_state self.new) (Advance step ∷ h)) }
         ensures replied { OnOk result ((opening : ℕ) (config : Configuration) (h : List Event) (first : List (List ℕ)) → IsAfter opening config (core_state self.old) h → MayStep opening config h step → Replied config h first replies.old.items → Replied config (Advance step ∷ h) first replies.new.items) }
@@ -337,6 +356,7 @@ impl Core {
         requires { CanStep (core_state self.old) Step.Begin }
         ensures fault { last_fault self.new ≡ last_fault self.old }
         ensures exhausted { result ≡ Err BoardFault.Exhausted → IsExhausted (core_state self.new).board }
+        ensures stamps { result ≡ Err BoardFault.Exhausted → (opening : ℕ) (config : Configuration) (h : List Event) → IsAfter opening config (core_state self.old) h → ExhaustsStamps opening config (length (messages h)) }
         ensures shorter { OnOk result (steps_left (core_state self.new) < steps_left (core_state self.old)) }
         ensures after { OnOk result ((opening : ℕ) (config : Configuration) (h : List Event) → IsAfter opening config (core_state self.old) h → MayStep opening config h Step.Begin → IsAfter opening config (core_state self.new) (Advance Step.Begin ∷ h)) }
     {

@@ -1,5 +1,5 @@
 // One message of a stream: it is taken, and answered before the next one.
-ghost use Rattle.std.specs.Prelude.{◌≡◌, ℕ, List, [], ◌∷◌, ◌++◌, false, Option, None, Ok, IfErr, IfSome, OnOk, OnErr};
+ghost use Rattle.std.specs.Prelude.{◌≡◌, ℕ, List, [], ◌∷◌, ◌++◌, length, false, Option, None, Ok, Err, IfErr, IfSome, OnOk, OnErr};
 ghost use Rattle.std.specs.Io.KnownBytes.{Appends};
 ghost use Rattle.lsp_frame.specs.Counts.{HasFailed};
 ghost use Rattle.lsp_frame.specs.FrameReader.{source_of, last_answer, IsOpen};
@@ -7,10 +7,11 @@ ghost use Rattle.lsp_frame.specs.Reading.{TakesFrame};
 ghost use Rattle.lsp_config.specs.Configuration.{Configuration};
 ghost use Rattle.lsp_config.specs.Fault.{IsWriteOrCore};
 ghost use Rattle.lsp_config.specs.Sending.{SendsPrefix};
+ghost use Rattle.lsp_session.specs.Core.{ExhaustsStamps};
 ghost use Rattle.lsp_session.specs.Serving.{Calls, IsCaused, Serving, Comes, exit_in, end_by};
 ghost use Rattle.lsp_session.specs.Steps.{Knows, replies_after};
 ghost use Rattle.lsp_session.specs.Stream.{frames_of, is_exited};
-ghost use Rattle.lsp_session.specs.View.{core_state};
+ghost use Rattle.lsp_session.specs.View.{core_state, last_fault};
 
 use crate::dispatch::{answer, hand_out};
 use crate::ended::Ended;
@@ -53,6 +54,8 @@ fn reply_to<R: Threads + Wait, K: ByteSink, G: Gate>(
     ensures ok { OnOk result ((config : Configuration) (bodies : List (List ℕ)) → Knows config (core_state core.old) bodies → Appends (K.written writer.old) (K.written writer.new) (frames_of (replies_after config bodies body.now))) }
     ensures err { OnErr result ((config : Configuration) (bodies : List (List ℕ)) → Knows config (core_state core.old) bodies → SendsPrefix (K.written writer.old) (K.written writer.new) (frames_of (replies_after config bodies body.now))) }
     ensures fault { IfErr result (IsWriteOrCore (K.counts writer.old) (K.counts writer.new)) }
+    ensures stamps { last_fault core.old ≡ None → result ≡ Err ServeFault.Exhausted → (config : Configuration) (bodies : List (List ℕ)) → Knows config (core_state core.old) bodies → ExhaustsStamps 0 config (length (bodies ++ body.now ∷ [])) }
+    ensures open { OnOk result (last_fault core.new ≡ None) }
     ensures calls { Calls ServeFault.Write (K.counts writer.old) (K.counts writer.new) result }
 {
     let replies = match answer(threading, core, pool, body) {
@@ -81,8 +84,9 @@ fn take_message<R: Threads + Wait, K: ByteSink, G: Gate>(
     body: &[u8],
 ) -> Result<Option<Ended>, ServeFault>
     ensures comes { (config : Configuration) (a b c v : Option (List ℕ)) → Serving config a b (core_state core.old) v (K.written writer.old) → is_exited (core_state core.old).state.phase ≡ false
-        → IfSome b (λ rest. TakesFrame rest c body.now) → Comes config a c (core_state core.new) v (K.written writer.new) None result }
+        → IfSome b (λ rest. TakesFrame rest c body.now) → last_fault core.old ≡ None → Comes config a c (core_state core.new) v (K.written writer.new) None result }
     ensures fault { IfErr result (IsWriteOrCore (K.counts writer.old) (K.counts writer.new)) }
+    ensures open { OnOk result (last_fault core.new ≡ None) }
     ensures calls { Calls ServeFault.Write (K.counts writer.old) (K.counts writer.new) result }
 {
     match reply_to(threading, writer, core, pool, body) {
@@ -112,11 +116,12 @@ fn take_next<R: Threads + Wait, S: ByteSource, K: ByteSink, G: Gate>(
 ) -> Result<Option<Ended>, ServeFault>
     requires { IsOpen reader.old }
     ensures comes { (config : Configuration) (a v : Option (List ℕ)) → Serving config a (S.left (source_of reader.old)) (core_state core.old) v (K.written writer.old) → is_exited (core_state core.old).state.phase ≡ false
-        → Comes config a (S.left (source_of reader.new)) (core_state core.new) v (K.written writer.new) (last_answer reader.new) result }
+        → last_fault core.old ≡ None → Comes config a (S.left (source_of reader.new)) (core_state core.new) v (K.written writer.new) (last_answer reader.new) result }
     ensures reads { Calls ServeFault.Read (S.counts (source_of reader.old)) (S.counts (source_of reader.new)) result }
     ensures writes { Calls ServeFault.Write (K.counts writer.old) (K.counts writer.new) result }
     ensures cause { IfErr result (IsCaused (S.counts (source_of reader.old)) (S.counts (source_of reader.new)) (K.counts writer.old) (K.counts writer.new)) }
     ensures goes_on { result ≡ Ok None → IsOpen reader.new }
+    ensures open { last_fault core.old ≡ None → OnOk result (last_fault core.new ≡ None) }
 {
     match reader.read_frame() {
         Ok(Frame::Body(body)) => take_message(threading, writer, core, pool, body.as_slice()),
@@ -135,11 +140,12 @@ pub fn take_turn<R: Threads + Wait, S: ByteSource, K: ByteSink, G: Gate>(
 ) -> Result<Option<Ended>, ServeFault>
     requires { IsOpen reader.old }
     ensures comes { (config : Configuration) (a v : Option (List ℕ)) → Serving config a (S.left (source_of reader.old)) (core_state core.old) v (K.written writer.old) → is_exited (core_state core.old).state.phase ≡ false
-        → Comes config a (S.left (source_of reader.new)) (core_state core.new) v (K.written writer.new) (last_answer reader.new) result }
+        → last_fault core.old ≡ None → Comes config a (S.left (source_of reader.new)) (core_state core.new) v (K.written writer.new) (last_answer reader.new) result }
     ensures reads { Calls ServeFault.Read (S.counts (source_of reader.old)) (S.counts (source_of reader.new)) result }
     ensures writes { Calls ServeFault.Write (K.counts writer.old) (K.counts writer.new) result }
     ensures cause { IfErr result (IsCaused (S.counts (source_of reader.old)) (S.counts (source_of reader.new)) (K.counts writer.old) (K.counts writer.new)) }
     ensures goes_on { result ≡ Ok None → IsOpen reader.new }
+    ensures open { last_fault core.old ≡ None → OnOk result (last_fault core.new ≡ None) }
 {
     match hand_out(threading.rt, core, pool) {
         Ok(()) => take_next(threading, reader, writer, core, pool),

@@ -2,7 +2,6 @@
 ghost use Rattle.std.specs.Prelude.{◌≡◌, ℕ, List, false, None, IfOk, IfErr, OnOk};
 ghost use Rattle.piece_collector.specs.Board.{IsFirstWanted};
 ghost use Rattle.lsp_config.specs.Configuration.{Configuration};
-ghost use Rattle.lsp_config.specs.Fault.{ComesWithoutThreads};
 ghost use Rattle.lsp_session.specs.Core.{Event, Offer, IsAfter, board_events};
 ghost use Rattle.lsp_session.specs.Run.{event_of};
 ghost use Rattle.lsp_session.specs.Steps.{with_round, HasWorked};
@@ -18,7 +17,7 @@ use work_index::{Done, FileWork};
 // Does a job.
 fn do_job(alloc: Global, job: Job) -> Result<Done, CoreFault>
     ensures sent { IfOk result (λ sent. event_of sent ≡ Offer job.path job.stamp job.text) }
-    ensures threads { IfErr result ComesWithoutThreads }
+    ensures memory { IfErr result (λ fault. fault ≡ CoreFault.Memory) }
 {
     match Piece::make(&FileWork::new(alloc), job) {
         Ok(piece) => Ok(Done::Made(piece)),
@@ -31,7 +30,7 @@ fn do_next(core: &mut Core) -> Result<bool, CoreFault>
     ensures round { OnOk result ((opening : ℕ) (config : Configuration) (h : List Event) → IsAfter opening config (core_state core.old) h → IsAfter opening config (core_state core.new) (with_round opening config h)) }
     ensures none { IfOk result (λ more. more ≡ false → (opening : ℕ) (config : Configuration) (h : List Event) → IsAfter opening config (core_state core.old) h → IsFirstWanted opening (board_events config h) None) }
     ensures open { last_fault core.old ≡ None → OnOk result (last_fault core.new ≡ None) }
-    ensures threads { last_fault core.old ≡ None → IfErr result ComesWithoutThreads }
+    ensures memory { last_fault core.old ≡ None → IfErr result (λ fault. fault ≡ CoreFault.Memory) }
 {
     next_jobs();
     let Some(job) = core.next_job()? else {
@@ -46,7 +45,7 @@ fn do_next(core: &mut Core) -> Result<bool, CoreFault>
 pub fn do_all(core: &mut Core) -> Result<(), CoreFault>
     ensures works { OnOk result ((opening : ℕ) (config : Configuration) (h : List Event) → IsAfter opening config (core_state core.old) h → HasWorked opening config (core_state core.new) h) }
     ensures open { last_fault core.old ≡ None → OnOk result (last_fault core.new ≡ None) }
-    ensures threads { last_fault core.old ≡ None → IfErr result ComesWithoutThreads }
+    ensures memory { last_fault core.old ≡ None → IfErr result (λ fault. fault ≡ CoreFault.Memory) }
 {
     next_jobs();
     jobs_and_pieces();

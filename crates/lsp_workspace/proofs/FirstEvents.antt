@@ -1,6 +1,6 @@
 -- A board on which the text of each file was set.
-use Rattle.std.proofs.Common.{◌≡◌, ℕ, List, [], ◌∷◌, ◌++◌, Bool, true, false, cond, Option, Some, None, option_map, fold, refl, sym, ap, subst, ◌∙◌, append_assoc, append-nil}
-use Rattle.std.specs.Prelude.{bytes_eq}
+use Rattle.std.proofs.Common.{◌≡◌, ℕ, ◌+◌, length, arith, List, [], ◌∷◌, ◌++◌, Bool, true, false, cond, Option, Some, None, Result, Ok, Err, option_map, fold, refl, sym, ap, subst, ◌∙◌, append_assoc, append-nil}
+use Rattle.std.specs.Prelude.{bytes_eq, IsErrAnd}
 use Rattle.std.specs.Cmp.Lexicographic.{bytes_decides}
 use Rattle.std.specs.List.{cons_option}
 use Rattle.std.specs.List.Sorted.{IsStrictlySortedBy}
@@ -12,11 +12,11 @@ use Rattle.std.proofs.lemmas.Map.Text.{is_eq-slice_cmp}
 use Rattle.collector_laws.specs.TextLaws.{text_after, all_texts, EventsGiveTheTexts}
 use Rattle.piece_collector.specs.Board.{IsAfter, slot_at}
 use Rattle.piece_collector.specs.Events.{Event, SetText}
-use Rattle.piece_collector.specs.History.{Standing, stands_at}
+use Rattle.piece_collector.specs.History.{Standing, sets, history, stands_at}
 use Rattle.piece_collector.specs.Views.{BoardView}
 use Rattle.work_index.specs.Workspace.{Workspace}
 use Rattle.lsp_workspace.specs.Files.{File, Files, text_of, text_at, workspace, AreInPathOrder}
-use Rattle.lsp_workspace.specs.Texts.{HoldsTexts, first_events}
+use Rattle.lsp_workspace.specs.Texts.{HoldsTexts, StampsRunOut, first_events}
 use Rattle.lsp_workspace.proofs.Held.{text_in_workspace}
 use Rattle.lsp_workspace.proofs.PathOrder.{AreBehind, Ascend, paths, ascend-workspace}
 
@@ -96,3 +96,43 @@ set_more o before after e left all h set = record {
 
 pub set_all : (o : ℕ) (board : BoardView) (left all : Files) → HasSet o board left all → left ≡ [] → IsAfter o board (first_events (workspace all))
 set_all o board left all h none = subst (λ files. IsAfter o board (first_events (workspace files))) (sym (append-nil h.front) ∙ ap (λ l. h.front ++ l) (sym none) ∙ h.parts) h.is_after
+
+-- ---- where a text was refused
+
+-- what the exit of a `?` returns
+pub refused_with : {T E : Type 0} (fault e : E) (r : Result T E) → IsErrAnd r (λ y. y ≡ fault) → r ≡ Err e → fault ≡ e
+refused_with fault e (Ok x) h is = absurd h
+refused_with fault e (Err y) h is = let same : y ≡ e = cc in sym h ∙ same
+
+-- ---- how many texts were set
+
+sets-on : (o : ℕ) (w : Workspace) (events : List Event) → sets (history o (fold set_text events w)) ≡ length w + sets (history o events)
+sets-on o [] events = omega arith
+sets-on o (e ∷ es) events =
+    let one : sets (history o (set_text events e)) ≡ sets (history o events) + 1 = refl in
+    omega (arith, sets-on o es (set_text events e), one)
+
+-- one for each file that has a text
+pub sets-first : (o : ℕ) (w : Workspace) → sets (history o (first_events w)) ≡ length w
+sets-first o w = omega (arith, sets-on o w [])
+
+-- a file that has a text
+pub one_text : (path : List ℕ) (f : File) (text : List ℕ) → Some text ≡ text_of f → length (workspace ((path, f) ∷ [])) ≡ 1
+one_text path f text is = ap (λ t. length {A = List ℕ × List ℕ} (cons_option (option_map (λ u. (path, u)) t) [])) (sym is)
+
+texts-option : (t : Option (List ℕ × List ℕ)) (ws : Workspace) → length (cons_option t ws) ≡ length (cons_option t []) + length ws
+texts-option None ws = omega arith
+texts-option (Some u) ws = omega arith
+
+texts-cons : (e : List ℕ × File) (files : Files) → length (workspace (e ∷ files)) ≡ length (workspace (e ∷ [])) + length (workspace files)
+texts-cons e files = texts-option (option_map (λ u. (e.0, u)) (text_of e.1)) (workspace files)
+
+texts-append : (front files : Files) → length (workspace (front ++ files)) ≡ length (workspace front) + length (workspace files)
+texts-append [] files = omega arith
+texts-append (e ∷ front) files = omega (arith, texts-cons e (front ++ files), texts-cons e front, texts-append front files)
+
+-- the text of the next file finds no stamp
+pub set_refused : (o : ℕ) (board : BoardView) (e : List ℕ × File) (left all : Files) → HasSet o board (e ∷ left) all → StampsRunOut board.last (length (workspace (e ∷ []))) → StampsRunOut o (length (workspace all))
+set_refused o board e left all h refused =
+    let before = h.is_after.last in
+    omega (arith, refused, before, sets-first o (workspace h.front), texts-append h.front (e ∷ left), texts-cons e left, ap (λ files. length (workspace files)) h.parts)

@@ -1,5 +1,5 @@
 -- Which texts a board has beside files, and what is done to the board where a file gets another text.
-use Rattle.std.specs.Prelude.{◌≡◌, ℕ, ℤ, List, [], ◌∷◌, Bool, if◌then◌else◌, Option, Some, None, is_some, option_and_then, fold, bytes_eq}
+use Rattle.std.specs.Prelude.{◌≡◌, ◌+◌, ◌<◌, ℕ, ℤ, List, [], ◌∷◌, Bool, if◌then◌else◌, Option, Some, None, is_some, option_and_then, fold, bytes_eq}
 use Rattle.std.specs.Map.{update}
 use Rattle.doc_text.specs.Edits.{ChangeData}
 use Rattle.doc_text.specs.declared.encoding.Encoding.{Encoding}
@@ -35,6 +35,10 @@ events_at path old new = if is_open path old then event_at path new ∷ [] else 
 -- the text of each file is set, in the order of the paths; the latest event comes first
 abbrev pub first_events : Workspace → List Event
 first_events w = fold (λ events file. SetText file.0 file.1 ∷ events) [] w
+
+-- behind this stamp there are fewer than so many: the last one is 18446744073709551615
+abbrev pub StampsRunOut : ℕ → ℕ → Type 0
+StampsRunOut stamp count = 18446744073709551615 < stamp + count
 
 -- ---- what is done to a document changes the text of its path alone
 

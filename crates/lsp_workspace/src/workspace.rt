@@ -1,5 +1,5 @@
 // The files of a workspace, the board of their texts, and the analysis of them.
-ghost use Rattle.std.specs.Prelude.{◌≡◌, ℕ, List, [], ◌∷◌, ◌++◌, false, IfOk, IfSome, OnOk, OnErr, IsTrue, IsFalse, Option, Some, Err, option_map, map, string_bytes, ◌↔◌, bytes_eq};
+ghost use Rattle.std.specs.Prelude.{◌≡◌, ℕ, length, List, [], ◌∷◌, ◌++◌, false, IfOk, IfSome, OnOk, OnErr, IsTrue, IsFalse, Option, Some, Err, option_map, map, string_bytes, ◌↔◌, bytes_eq};
 ghost use Rattle.std.specs.Map.{update};
 ghost use Rattle.doc_text.specs.Edits.{change_view};
 ghost use Rattle.piece_collector.specs.Board.{IsAfter, IsFirstWanted, IsComplete, IsFull, current_text};
@@ -8,7 +8,7 @@ ghost use Rattle.piece_collector.specs.History.{verdict_on, failure_on, stands_a
 ghost use Rattle.piece_collector.specs.Views.{known_text};
 ghost use Rattle.lsp_workspace.specs.Disk.{disk_view};
 ghost use Rattle.lsp_workspace.specs.Files.{from_disk, opened_files, changed_files, saved_files, closed_files, text_at, workspace};
-ghost use Rattle.lsp_workspace.specs.Texts.{HoldsTexts, text_event, event_at, events_at, first_events};
+ghost use Rattle.lsp_workspace.specs.Texts.{HoldsTexts, StampsRunOut, text_event, event_at, events_at, first_events};
 ghost use Rattle.lsp_workspace.specs.View.{document_view, file_view, files_view};
 
 use crate::diagnosed::DiagnosedFiles;
@@ -57,6 +57,7 @@ fn set_first(
     requires { board.old.is_lent ≡ false }
     ensures is_after { OnOk result ((opening : ℕ) (events : List Event) → IsAfter opening board.old events → IsAfter opening board.new (first_events (workspace ((path.now, file_view file.now) ∷ [])) ++ events)) }
     ensures here { board.new.is_lent ≡ false }
+    ensures exhausted { result ≡ Err BoardFault.Exhausted → StampsRunOut board.old.last (length (workspace ((path.now, file_view file.now) ∷ []))) }
 {
     let Some(text) = file.shared_text(alloc)? else {
         return Ok(());
@@ -70,6 +71,7 @@ fn board_of(alloc: Global, files: &Files, stamp: u64) -> Result<Board<FileWork>,
     ensures is_after { IfOk result (λ board. IsAfter stamp board (first_events (workspace (files_view files.now.entries)))) }
     ensures texts { IfOk result (λ board. HoldsTexts (files_view files.now.entries) board) }
     ensures here { IfOk result (λ board. board.is_lent ≡ false) }
+    ensures exhausted { result ≡ Err BoardFault.Exhausted → StampsRunOut stamp (length (workspace (files_view files.now.entries))) }
 {
     texts_of_events();
     let mut board = Board::counting_from(alloc, FileWork::new(alloc), stamp);
@@ -108,7 +110,7 @@ impl Workspace {
     /// The workspace of the files on disk. Of two files with one path the earlier counts. The texts get stamps from the one after
     /// `stamp` on, in the order of their paths.
     ///
-    /// Refused with 502 where no stamp is left, and with 501 where memory was refused.
+    /// Refused with 502 where there are fewer stamps than texts, and with 501 where memory was refused.
     pub fn from_disk(
         alloc: Global,
         disk_files: Vec<DiskFile>,
@@ -116,6 +118,7 @@ impl Workspace {
     ) -> Result<Workspace, BoardFault>
         ensures files { IfOk result (λ w. w.files ≡ from_disk (map disk_view disk_files.items)) }
         ensures board { IfOk result (λ w. IsAfter stamp w.board (first_events (workspace w.files))) }
+        ensures exhausted { result ≡ Err BoardFault.Exhausted → StampsRunOut stamp (length (workspace (from_disk (map disk_view disk_files.items)))) }
     {
         let files = files::from_disk(alloc, disk_files)?;
         let board = board_of(alloc, &files, stamp)?;

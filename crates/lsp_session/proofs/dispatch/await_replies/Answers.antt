@@ -5,13 +5,21 @@ use Rattle.lsp_session.proofs.dispatch.await_replies.Goals as goal
 
 pub returns-then-not-waits-clause-answers : goal.returns-then-not-waits-clause-answers
 returns-then-not-waits-clause-answers g c = λ config bodies body w.
-    has-answered config (core_state c.work_on.new.core) bodies body c.in-Ok.replies.items (c.in-Ok.ensures.progress config bodies body (c.loop-result.invariant config bodies body w))
+    has-answered config (core_state c.work_on.new.core) bodies body c.in-Ok.replies.items (c.in-Ok.ensures.progress config bodies body (c.loop-result.invariant.awaits config bodies body w))
     (λ h after there. true≢false (sym ((c.waits.ensures 0 config h after).1 there) ∙ c.if-not-waits.true))
 
 pub loop-result-init : goal.loop-result-init
-loop-result-init g c = λ config bodies body w. w
+loop-result-init g c = record { awaits = λ config bodies body w. w; «open» = λ free. free }
 
 pub loop-result-preserved : goal.loop-result-preserved
-loop-result-preserved g c = λ config bodies body w.
-    still-awaits config (core_state c.work_on.new.core) bodies body c.in-Ok.replies.items (c.in-Ok.ensures.progress config bodies body (c.loop-result.invariant config bodies body w))
-    (λ h after. (c.waits.ensures 0 config h after).0 c.if-not-waits.false)
+loop-result-preserved g c = record {
+  awaits = λ config bodies body w.
+      still-awaits config (core_state c.work_on.new.core) bodies body c.in-Ok.replies.items (c.in-Ok.ensures.progress config bodies body (c.loop-result.invariant.awaits config bodies body w))
+      (λ h after. (c.waits.ensures 0 config h after).0 c.if-not-waits.false);
+  «open» = λ free. c.in-Ok.ensures.open;
+}
+
+pub returns-in-Err-clause-stamps : goal.returns-in-Err-clause-stamps
+returns-in-Err-clause-stamps g c = λ free out config bodies body w.
+    let before = c.loop-result.invariant in
+    c.in-Err.ensures.stamps (before.open free) out config bodies body (before.awaits config bodies body w)

@@ -8,6 +8,7 @@ pub jobs-init : goal.jobs-init
 jobs-init g c = record {
   works = λ opening config h after. works-none opening config (core_state c.args.core.now) h after;
   state = refl;
+  «open» = λ free. free;
 }
 
 pub jobs-preserved : goal.jobs-preserved
@@ -16,6 +17,7 @@ jobs-preserved g c = record {
       let new = core_state c.hand_out_next.new.core in
       works-more opening config (core_state c.jobs.core) new h (c.jobs.invariant.works opening config h after) (λ last mid. works-job opening config new last (c.in-Ok-true.ensures.gives opening config last mid));
   state = c.in-Ok-true.ensures.state ∙ c.jobs.invariant.state;
+  «open» = λ free. c.in-Ok-true.ensures.open;
 }
 
 pub returns-in-Ok-false-clause-hands : goal.returns-in-Ok-false-clause-hands
@@ -28,3 +30,6 @@ returns-in-Ok-false-clause-state g c = c.in-Ok-false.ensures.state ∙ c.jobs.in
 
 pub returns-clause-hands : goal.returns-clause-hands
 returns-clause-hands g c = λ opening config h after. record { works = c.jobs.invariant.works opening config h after; stops = inl (λ room. false≢true (sym c.jobs-test.false ∙ c.has_room.ensures.room.1 room)) }
+
+pub returns-in-Err-clause-workers : goal.returns-in-Err-clause-workers
+returns-in-Err-clause-workers g c = λ free. c.in-Err.ensures.workers (c.jobs.invariant.open free)

@@ -1,10 +1,13 @@
-use Rattle.std.proofs.Common.{rules, ◌≡◌, ◌-◌, ◌++◌, ◌∷◌, [], length, filter, map, sym, ap, subst, ◌∙◌, arith, append_assoc, append-nil}
+use Rattle.lsp_config.specs.declared.fault.CoreFault.TheVariants as core
+use Rattle.lsp_workspace.proofs.FirstEvents.{refused_with}
+use Rattle.std.proofs.Common.{rules, ◌≡◌, ◌-◌, ◌++◌, ◌∷◌, [], length, filter, map, Err, sym, ap, subst, ◌∙◌, arith, append_assoc, append-nil}
 use Rattle.std.proofs.lemmas.List.{map-append, nil_from_length}
 use Rattle.std.specs.Vec.Iter.{into_iter_items}
 use Rattle.lsp_session.specs.Core.{processed}
 use Rattle.lsp_session.specs.Run.{incoming_of, is_message, HasRun}
 use Rattle.lsp_session.specs.View.{core_state}
-use Rattle.lsp_session.proofs.RunLemmas.{HasRunTo, run_none, run_more, run_counted, has_run}
+use Rattle.lsp_session.proofs.RunLemmas.{HasRunTo, run_none, run_more, run_counted, run_out, has_run}
+use Rattle.lsp_session.proofs.StampLemmas.{files_alone}
 use Rattle.lsp_session.proofs.run.run_core.Goals as goal
 
 pub loop-event-init : goal.loop-event-init
@@ -46,3 +49,20 @@ returns-clause-run c =
     let count : c.count_messages-arrived.result - c.unprocessed.result ≡ processed run.history = omega (arith, counted, arrived, c.unprocessed.ensures) in
     subst (λ es. HasRun c.args.config (map incoming_of es) at.replies.items at.verdicts.items (c.count_messages-arrived.result - c.unprocessed.result)) all
     (has_run c.args.config (core_state at.core) (map incoming_of at.yielded) at.replies.items at.verdicts.items (c.count_messages-arrived.result - c.unprocessed.result) run count)
+
+pub returns-in_err-handle-clause-exhausted : goal.returns-in_err-handle-clause-exhausted
+returns-in_err-handle-clause-exhausted c = λ out.
+    let at = c.loop-event in
+    let event = c.in-Some.event in
+    let later = into_iter_items c.next.new.self in
+    let is = refused_with c.in_err-handle.field-0.0 core.Exhausted c.from_residual-in_err-handle.result c.from_residual-in_err-handle.ensures.1 out in
+    let next : into_iter_items at.event-iterator ≡ event ∷ later = search rules in
+    let parts : map incoming_of at.yielded ++ incoming_of event ∷ map incoming_of later ≡ map incoming_of c.args.events.items =
+    sym (map-append incoming_of at.yielded (event ∷ later)) ∙ ap (map incoming_of) (ap (λ l. at.yielded ++ l) (sym next) ∙ at.invariant.parts) in
+    run_out c.args.config (core_state at.core) (map incoming_of at.yielded) (incoming_of event) (map incoming_of later) (map incoming_of c.args.events.items) at.replies.items at.verdicts.items at.invariant.run parts
+    (λ h before. c.in_err-handle.ensures.stamps at.invariant.open (ap Err is) 0 c.args.config h before)
+
+pub returns-in_err-core-clause-exhausted : goal.returns-in_err-core-clause-exhausted
+returns-in_err-core-clause-exhausted c = λ out.
+    let is = refused_with c.in_err-core.field-0.0 core.Exhausted c.from_residual.result c.from_residual.ensures.1 out in
+    files_alone c.args.config (length (filter is_message (map incoming_of c.args.events.items))) (c.in_err-core.ensures.exhausted (ap Err is))

@@ -1,5 +1,5 @@
 use Rattle.lsp_frame.specs.FrameReader.{source_of, last_answer}
-use Rattle.lsp_session.proofs.ServingLemmas.{served-prefix, served-whole, served-ended, served-behind, served-goes_on, served-leaves, served-code, served-answered, served-fault, cause-read, cause-write}
+use Rattle.lsp_session.proofs.ServingLemmas.{served-prefix, served-whole, served-ended, served-behind, served-goes_on, served-leaves, served-code, served-loses, served-answered, served-exhausted, served-fault, cause-read, cause-write}
 use Rattle.lsp_session.proofs.serving.serve.Goals as goal
 
 pub returns-clause-prefix : goal.returns-clause-prefix
@@ -44,11 +44,23 @@ returns-clause-code g c =
     let written = g.K.ByteSink.written in
     served-code c.args.config (left (source_of c.args.reader.now)) (left (source_of c.run.new.reader)) (written c.args.writer.now) (written c.run.new.writer) (last_answer c.run.new.reader) c.run.result c.run.ensures.served
 
+pub returns-clause-loses : goal.returns-clause-loses
+returns-clause-loses g c =
+    let left = g.S.ByteSource.left in
+    let written = g.K.ByteSink.written in
+    served-loses c.args.config (left (source_of c.args.reader.now)) (left (source_of c.run.new.reader)) (written c.args.writer.now) (written c.run.new.writer) (last_answer c.run.new.reader) c.run.result c.run.ensures.served
+
 pub returns-clause-answered : goal.returns-clause-answered
 returns-clause-answered g c =
     let left = g.S.ByteSource.left in
     let written = g.K.ByteSink.written in
     served-answered c.args.config (left (source_of c.args.reader.now)) (left (source_of c.run.new.reader)) (written c.args.writer.now) (written c.run.new.writer) (last_answer c.run.new.reader) c.run.result c.run.ensures.served
+
+pub returns-clause-exhausted : goal.returns-clause-exhausted
+returns-clause-exhausted g c =
+    let left = g.S.ByteSource.left in
+    let written = g.K.ByteSink.written in
+    served-exhausted c.args.config (left (source_of c.args.reader.now)) (left (source_of c.run.new.reader)) (written c.args.writer.now) (written c.run.new.writer) (last_answer c.run.new.reader) c.run.result c.run.ensures.served
 
 pub returns-clause-fault : goal.returns-clause-fault
 returns-clause-fault g c =

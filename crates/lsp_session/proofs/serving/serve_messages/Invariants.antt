@@ -1,11 +1,11 @@
-use Rattle.std.proofs.Common.{◌≡◌, false, []}
+use Rattle.std.proofs.Common.{◌≡◌, false, [], None}
 use Rattle.lsp_frame.specs.Counts.{NoneFell, NoError}
 use Rattle.lsp_frame.specs.FrameReader.{source_of, IsOpen}
 use Rattle.lsp_config.specs.Configuration.{Configuration}
 use Rattle.lsp_session.specs.Serving.{Serving}
 use Rattle.lsp_session.specs.Steps.{Knows}
 use Rattle.lsp_session.specs.Stream.{is_exited}
-use Rattle.lsp_session.specs.View.{core_state}
+use Rattle.lsp_session.specs.View.{core_state, last_fault}
 use Rattle.lsp_session.proofs.serving.serve_messages.Given as goal
 
 -- the stream is served so far, without an error of a device, and goes on
@@ -17,8 +17,9 @@ invariant-loop-turn g l =
     let of_sink = g.K.ByteSink.counts in
     record {
       goes_on : IsOpen l.reader;
-      so_far : (config : Configuration) → Knows config (core_state l.fn.core) []
+      so_far : (config : Configuration) → Knows config (core_state l.fn.core) [] → last_fault l.fn.core ≡ None
           → Serving config (left (source_of l.fn.reader)) (left (source_of l.reader)) (core_state l.core) (written l.fn.writer) (written l.writer) × (is_exited (core_state l.core).state.phase ≡ false);
+      core_open : last_fault l.fn.core ≡ None → last_fault l.core ≡ None;
       reads : NoneFell (of_source (source_of l.fn.reader)) (of_source (source_of l.reader));
       reads_calm : NoError (of_source (source_of l.fn.reader)) (of_source (source_of l.reader));
       writes : NoneFell (of_sink l.fn.writer) (of_sink l.writer);

@@ -6,14 +6,14 @@ use Rattle.lsp_session.specs.Stream.{is_exited}
 use Rattle.lsp_session.proofs.taking.take_turn.Goals as goal
 
 pub returns-in-Ok-clause-comes : goal.returns-in-Ok-clause-comes
-returns-in-Ok-clause-comes g c = λ config a v so_far not_exited.
+returns-in-Ok-clause-comes g c = λ config a v so_far not_exited free.
     let handed = c.in-Ok.ensures in
     c.take_next.ensures.comes config a v (serving-on config a (g.S.ByteSource.left (source_of c.args.reader.now)) v (g.K.ByteSink.written c.args.writer.now) (core_state c.args.core.now) (core_state c.hand_out.new.core) so_far handed.state (λ h after. let hands = handed.hands 0 config h after in hands.works))
-    (ap (λ s. is_exited s.phase) handed.state ∙ not_exited)
+    (ap (λ s. is_exited s.phase) handed.state ∙ not_exited) (handed.open free)
 
 pub returns-in-Err-clause-comes : goal.returns-in-Err-clause-comes
-returns-in-Err-clause-comes g c = λ config a v so_far not_exited.
-    fails_between config a (g.S.ByteSource.left (source_of c.args.reader.now)) v (g.K.ByteSink.written c.args.writer.now) (core_state c.args.core.now) c.in-Err.fault so_far c.in-Err.ensures.fault
+returns-in-Err-clause-comes g c = λ config a v so_far not_exited free.
+    fails_between config a (g.S.ByteSource.left (source_of c.args.reader.now)) v (g.K.ByteSink.written c.args.writer.now) (core_state c.args.core.now) c.in-Err.fault so_far (c.in-Err.ensures.workers free)
 
 pub returns-in-Err-clause-reads : goal.returns-in-Err-clause-reads
 returns-in-Err-clause-reads g c = no_calls _ _ _

@@ -1,14 +1,18 @@
-use Rattle.std.proofs.Common.{◌≡◌, ℕ, List, refl, ap, ap₂, subst, sym, ◌∙◌, map}
+use Rattle.std.proofs.Common.{◌≡◌, ℕ, List, Err, length, refl, ap, ap₂, subst, sym, ◌∙◌, map}
+use Rattle.lsp_workspace.proofs.FirstEvents.{refused_with}
 use Rattle.lsp_rpc.specs.ClientCapabilities.{default_client}
 use Rattle.lsp_rpc.specs.Message.{message_view}
 use Rattle.lsp_config.specs.Configuration.{files_of}
+use Rattle.lsp_config.specs.Fault.{core_fault_of}
+use Rattle.lsp_config.specs.declared.fault.CoreFault.TheVariants as core
 use Rattle.lsp_workspace.specs.Files.{Files, from_disk, workspace}
-use Rattle.lsp_workspace.specs.Texts.{first_events}
+use Rattle.lsp_workspace.specs.Texts.{StampsRunOut, first_events}
 use Rattle.piece_collector.specs.Board.{IsAfter}
 use Rattle.lsp_session.specs.Session.{State, start}
 use Rattle.lsp_session.specs.View.{state_of}
 use Rattle.lsp_session.specs.declared.phase.Phase.TheVariants.{Uninitialized}
 use Rattle.lsp_session.proofs.CoreLemmas.{session-none}
+use Rattle.lsp_session.proofs.FaultLemmas.{of_board}
 use Rattle.lsp_session.proofs.session_core.Core.counting_from.Goals as goal
 
 pub returns-clause-is_after : goal.returns-clause-is_after
@@ -24,3 +28,9 @@ returns-clause-is_after c =
       pending = refl;
       board = subst (λ fs. IsAfter c.args.stamp c.in_ok-workspace.workspace.board (first_events (workspace fs))) files c.in_ok-workspace.ensures.board;
     }
+
+pub returns-in_err-workspace-clause-exhausted : goal.returns-in_err-workspace-clause-exhausted
+returns-in_err-workspace-clause-exhausted c = λ none.
+    let fault = c.in_err-workspace.field-0.0 in
+    let is = refused_with (core_fault_of fault) core.Exhausted c.from_residual-in_err-workspace.result c.from_residual-in_err-workspace.ensures.1 none in
+    subst (λ files. StampsRunOut c.args.stamp (length (workspace (from_disk files)))) c.in_ok-roots.ensures.files (c.in_err-workspace.ensures.exhausted (ap Err (of_board fault is)))

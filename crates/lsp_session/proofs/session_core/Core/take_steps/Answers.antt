@@ -1,7 +1,10 @@
-use Rattle.std.proofs.Common.{◌∷◌, ◌++◌, ◌∙◌, map, sym, subst}
-use Rattle.lsp_session.specs.Core.{Advance, IsAfter}
+use Rattle.std.proofs.Common.{Err, ap, ◌∷◌, ◌++◌, ◌∙◌, length, map, sym, subst}
+use Rattle.piece_collector.specs.declared.fault.BoardFault.TheVariants as board
+use Rattle.lsp_workspace.proofs.FirstEvents.{refused_with}
+use Rattle.lsp_session.specs.Core.{Advance, IsAfter, ExhaustsStamps}
 use Rattle.lsp_session.specs.Steps.{CanStep}
 use Rattle.lsp_session.specs.View.{core_state}
+use Rattle.lsp_session.proofs.CoreLemmas.{messages-steps}
 use Rattle.lsp_session.proofs.session_core.Core.take_steps.Goals as goal
 
 pub steps-preserved : goal.steps-preserved
@@ -27,3 +30,11 @@ pub returns-clause-advances : goal.returns-clause-advances
 returns-clause-advances c = λ opening config h before.
     let p = c.steps.invariant.taken opening config h before in
     record { taken = p; settled = c.next_step.ensures.settled c.in_default.is opening config (map Advance p.steps ++ h) p.is_after }
+
+pub returns-in_err-take_step-clause-stamps : goal.returns-in_err-take_step-clause-stamps
+returns-in_err-take_step-clause-stamps c = λ none opening config h before.
+    let is = refused_with c.in_err-take_step.field-0.0 board.Exhausted c.from_residual-in_err-take_step.result c.from_residual-in_err-take_step.ensures.1 none in
+    let taken = c.steps.invariant.taken opening config h before in
+    let now = map Advance taken.steps ++ h in
+    let prepared : IsAfter opening config (core_state c.prepare.new.self) now = subst (λ s. IsAfter opening config s now) (sym c.in_ok-prepare.ensures.state) taken.is_after in
+    subst (λ bodies. ExhaustsStamps opening config (length bodies)) (messages-steps taken.steps h) (c.in_err-take_step.ensures.stamps (ap Err is) opening config now prepared)

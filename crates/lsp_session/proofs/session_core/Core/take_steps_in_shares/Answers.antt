@@ -1,7 +1,12 @@
-use Rattle.std.proofs.Common.{◌∷◌, ◌++◌, ◌∙◌, map, sym, subst}
-use Rattle.lsp_session.specs.Core.{Advance, IsAfter}
+use Rattle.std.proofs.Common.{Err, ap, ◌∷◌, ◌++◌, ◌∙◌, length, map, sym, subst}
+use Rattle.lsp_workspace.proofs.FirstEvents.{refused_with}
+use Rattle.lsp_config.specs.Fault.{core_fault_of}
+use Rattle.lsp_config.specs.declared.fault.CoreFault.TheVariants as core
+use Rattle.lsp_session.specs.Core.{Advance, IsAfter, ExhaustsStamps}
 use Rattle.lsp_session.specs.Steps.{CanStep}
 use Rattle.lsp_session.specs.View.{core_state}
+use Rattle.lsp_session.proofs.CoreLemmas.{messages-steps, comes_to_analysis}
+use Rattle.lsp_session.proofs.FaultLemmas.{of_board, not_of_board}
 use Rattle.lsp_session.proofs.session_core.Core.take_steps_in_shares.Goals as goal
 
 pub steps-preserved : goal.steps-preserved
@@ -27,3 +32,22 @@ pub returns-clause-advances : goal.returns-clause-advances
 returns-clause-advances g c = λ opening config h before.
     let p = c.steps.invariant.taken opening config h before in
     record { taken = p; settled = c.next_step.ensures.settled c.in_default.is opening config (map Advance p.steps ++ h) p.is_after }
+
+pub returns-in_err-take_step-clause-stamps : goal.returns-in_err-take_step-clause-stamps
+returns-in_err-take_step-clause-stamps g c = λ none opening config h before.
+    let fault = c.in_err-take_step.field-0.0 in
+    let is = refused_with (core_fault_of fault) core.Exhausted c.from_residual-in_err-take_step.result c.from_residual-in_err-take_step.ensures.1 none in
+    let taken = c.steps.invariant.taken opening config h before in
+    let now = map Advance taken.steps ++ h in
+    let prepared : IsAfter opening config (core_state c.prepare_in_shares.new.self) now = subst (λ s. IsAfter opening config s now) (sym c.in_ok-prepare_in_shares.ensures.state) taken.is_after in
+    subst (λ bodies. ExhaustsStamps opening config (length bodies)) (messages-steps taken.steps h) (c.in_err-take_step.ensures.stamps (ap Err (of_board fault is)) opening config now prepared)
+
+pub returns-in_err-take_step-clause-threads : goal.returns-in_err-take_step-clause-threads
+returns-in_err-take_step-clause-threads g c = λ out.
+    let fault = c.in_err-take_step.field-0.0 in
+    absurd (not_of_board fault (refused_with (core_fault_of fault) core.ThreadRefused c.from_residual-in_err-take_step.result c.from_residual-in_err-take_step.ensures.1 out))
+
+pub returns-in_err-prepare_in_shares-clause-threads : goal.returns-in_err-prepare_in_shares-clause-threads
+returns-in_err-prepare_in_shares-clause-threads g c = λ out opening config h before.
+    let taken = c.steps.invariant.taken opening config h before in
+    comes_to_analysis opening config _ h taken.steps taken.is_after c.in_err-prepare_in_shares.ensures.needs

@@ -1,6 +1,9 @@
-use Rattle.std.proofs.Common.{sym, subst, map}
+use Rattle.std.proofs.Common.{Err, sym, ap, subst, length, map}
+use Rattle.piece_collector.specs.declared.fault.BoardFault.TheVariants.{Exhausted}
 use Rattle.lsp_workspace.specs.Disk.{disk_view}
-use Rattle.lsp_workspace.specs.Files.{AreInPathOrder}
+use Rattle.lsp_workspace.specs.Files.{AreInPathOrder, workspace}
+use Rattle.lsp_workspace.specs.Texts.{StampsRunOut}
+use Rattle.lsp_workspace.proofs.FirstEvents.{refused_with}
 use Rattle.lsp_workspace.proofs.PathOrder.{from_disk-order}
 use Rattle.lsp_workspace.proofs.workspace.Workspace.from_disk.Goals as goal
 
@@ -11,3 +14,8 @@ invariant_of-result c = record {
   texts = c.in_ok-board.ensures.texts;
   is_of = tt;
 }
+
+pub returns-in_err-board-clause-exhausted : goal.returns-in_err-board-clause-exhausted
+returns-in_err-board-clause-exhausted c = λ none.
+    let is = refused_with c.in_err-board.field-0.0 Exhausted c.from_residual-in_err-board.result c.from_residual-in_err-board.ensures.1 none in
+    subst (λ files. StampsRunOut c.args.stamp (length (workspace files))) c.in_ok-files.ensures (c.in_err-board.ensures.exhausted (ap Err is))
