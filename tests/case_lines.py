@@ -1,12 +1,14 @@
-"""The notation of cases: lines of fields, as crates/library_cases/README.md writes them down, and the files of tests/cases/.
+"""The notation of cases: lines of fields, as crates/library_cases/README.md writes them down, the files of tests/cases/, and the programs that run cases.
 
 In such a file each line that isn't empty, a remark or a `let` is a case, and the line behind it, with `= ` at the front, is the answer that has to come.
 """
 import pathlib
 import re
+import subprocess
 import typing
 
 FOLDER = pathlib.Path(__file__).resolve().parent / "cases"
+CRATES = FOLDER.parent.parent / "crates"
 
 SYNTAX = 'syntax = "proto3";\n'
 # Characters that stand for those that a line can't hold.
@@ -76,3 +78,11 @@ def cases_of(name):
     if given is not None or not cases:
         raise AssertionError(f"{name}: a case without an answer, or no case")
     return cases
+
+
+def program_of(crate):
+    """The program of a crate of cases, which is built if it isn't there."""
+    program = CRATES / crate / "out" / crate
+    if not program.is_file():
+        subprocess.run(["rt", "run"], cwd=CRATES / crate, stdin=subprocess.DEVNULL, capture_output=True)
+    return str(program)

@@ -1,9 +1,12 @@
-/* Loaded before a program, makes calls of it fail as the environment says. REFUSE_ALLOCATION, FAIL_READ and FAIL_WRITE are the number of
-   the one call of that kind that fails, and SHORTEN_READ and SHORTEN_WRITE that of the one read or write of several bytes that moves a
-   single byte, each counted from 1. READ_ROOM bytes can be read, and WRITE_ROOM bytes be written, one at a time; each call behind them
-   fails, or answers 0 if WRITE_ENDS is set. The first READ_INTERRUPTIONS and WRITE_INTERRUPTIONS calls are interrupted. A byte goes to
-   the descriptor TOLD for the one call. */
+/* Loaded before a program, makes calls of it fail as the environment says. REFUSE_ALLOCATION, REFUSE_THREAD, FAIL_READ and FAIL_WRITE are
+   the number of the one call of that kind that fails, and SHORTEN_READ and SHORTEN_WRITE that of the one read or write of several bytes that
+   moves a single byte, each counted from 1. What the C library allocates for a thread isn't counted. READ_ROOM bytes can be read, and
+   WRITE_ROOM bytes be written, one at a time; each call behind them fails, or answers 0 if WRITE_ENDS is set. The first READ_INTERRUPTIONS
+   and WRITE_INTERRUPTIONS calls are interrupted. A `!` goes to the descriptor TOLD for the one call, and a `t` for each thread that starts. */
+#define _GNU_SOURCE
+#include <dlfcn.h>
 #include <errno.h>
+#include <pthread.h>
 #include <stdatomic.h>
 #include <stdlib.h>
 #include <sys/syscall.h>
@@ -19,9 +22,13 @@ struct device {
     long failing, shortened, has_room, ends;
 };
 
+typedef int starting(pthread_t *, const pthread_attr_t *, void *(*)(void *), void *);
+
 static struct device input, output;
-static atomic_long allocations;
-static long refused;
+static atomic_long allocations, threads;
+static long refused, refused_thread;
+static starting *start;
+static _Thread_local int starts __attribute__((tls_model("initial-exec")));
 static int told;
 
 static long number_of(const char *name) {
@@ -42,6 +49,8 @@ __attribute__((constructor)) static void begin(void) {
     output.room = number_of("WRITE_ROOM");
     output.ends = number_of("WRITE_ENDS");
     output.interruptions = number_of("WRITE_INTERRUPTIONS");
+    start = (starting *)dlsym(RTLD_NEXT, "pthread_create");
+    refused_thread = number_of("REFUSE_THREAD");
     refused = number_of("REFUSE_ALLOCATION");
 }
 
@@ -54,7 +63,7 @@ static int is_due(atomic_long *calls, long number) {
 }
 
 static int is_refused(void) {
-    if (!is_due(&allocations, refused))
+    if (starts || !is_due(&allocations, refused))
         return 0;
     errno = ENOMEM;
     return 1;
@@ -98,6 +107,17 @@ void *calloc(size_t count, size_t size) {
 
 void *realloc(void *old, size_t size) {
     return is_refused() ? NULL : __libc_realloc(old, size);
+}
+
+int pthread_create(pthread_t *thread, const pthread_attr_t *how, void *(*runs)(void *), void *given) {
+    if (is_due(&threads, refused_thread))
+        return EAGAIN;
+    starts = 1;
+    int failed = start(thread, how, runs, given);
+    starts = 0;
+    if (told && !failed)
+        syscall(SYS_write, told, "t", 1);
+    return failed;
 }
 
 ssize_t read(int from, void *to, size_t count) {

@@ -1,4 +1,4 @@
-"""Runs programs whose calls fail: an allocation, a read or a write, each by its number (refusing.c)."""
+"""Runs programs whose calls fail: an allocation, the start of a thread, a read or a write, each by its number (refusing.c)."""
 import atexit
 import concurrent.futures
 import functools
@@ -25,7 +25,7 @@ def library():
 
 
 class Run:
-    """A run of a program on these bytes with these settings of refusing.c."""
+    """A run of a program on these bytes with these settings of refusing.c: what came of it, whether the one call was refused, and how many threads started."""
 
     def __init__(self, words, input_bytes, settings):
         reader, writer = os.pipe()
@@ -34,8 +34,9 @@ class Run:
             done = subprocess.run(words, input=input_bytes, capture_output=True, env=given, pass_fds=[writer], timeout=LIMIT)
         finally:
             os.close(writer)
-            with os.fdopen(reader, "rb") as said:
-                self.is_refused = bool(said.read())
+            with os.fdopen(reader, "rb") as told:
+                said = told.read()
+        self.is_refused, self.threads = b"!" in said, said.count(b"t")
         self.settings = settings
         self.out, self.err, self.status = done.stdout, done.stderr, done.returncode
 

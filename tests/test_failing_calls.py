@@ -1,4 +1,5 @@
-"""Allocations, reads and writes of the program that fail, each in turn: what goes out is a part of the output, and the fault has the number of what failed."""
+"""Allocations, threads, reads and writes of the program that fail, each in turn: what goes out is a part of the output, and the fault has the number of what
+failed."""
 import json
 import pathlib
 import tempfile
@@ -167,8 +168,8 @@ class Devices(unittest.TestCase):
 
 class Allocations(unittest.TestCase):
     def check_each(self, args, data, status):
-        """Each allocation that is refused leads to 803 or 804 behind a part of the output, or while the options are read, to an error of theirs. If something
-        else is done without that memory, all goes out."""
+        """Each allocation that is refused leads to 803 or 804 behind a part of the output, or while the options are read, to an error of theirs. None is passed
+        over: all goes out only if what found no memory is one of the threads that help to make a table, which is then made without it."""
         [whole] = runs(stream.command(args), data, [{}])
         right = (whole.out, b"", status)
         self.assertEqual((whole.out, whole.err, whole.status), right)
@@ -176,7 +177,9 @@ class Allocations(unittest.TestCase):
         for run in refused_runs(stream.command(args), data):
             with self.subTest(run):
                 self.assertTrue(whole.out.startswith(run.out))
-                if (run.out, run.err, run.status) != right:
+                if (run.out, run.err, run.status) == right:
+                    self.assertEqual(run.threads, whole.threads - 1)
+                else:
                     self.assertIn((run.err, run.status), {fault(803), fault(804)} if run.out else {fault(803), fault(804), OPTIONS})
             seen.add((run.err, run.status))
         self.assertLessEqual({fault(803), fault(804), OPTIONS}, seen)
@@ -195,6 +198,23 @@ class Allocations(unittest.TestCase):
                 pathlib.Path(folder, path).write_text(text)
             self.check_each(("check", "--quiet", "--root", folder, "--workers", "1"), b"", 1)
             self.check_each(("check", "--quiet", "--root", folder, "--workers", "1", "--format", "sarif", f"{folder}/bad.proto"), b"", 1)
+
+
+class Threads(unittest.TestCase):
+    def check_each(self, args, data, status, asked, helping):
+        """Each of the threads that the number of workers asks for leads to 804 if it can't be started. What others would have done the program does itself."""
+        [whole] = runs(stream.command(args), data, [{}])
+        right = (whole.out, b"", status)
+        self.assertEqual((whole.out, whole.err, whole.status), right)
+        ended = []
+        for run in refused_runs(stream.command(args), data, "REFUSE_THREAD"):
+            self.assertTrue(whole.out.startswith(run.out), run)
+            self.assertIn((run.out, run.err, run.status), {right, (run.out, *fault(804))}, run)
+            ended.append((run.err, run.status))
+        self.assertEqual((ended.count(fault(804)), ended.count((b"", status))), (asked, helping))
+
+    def test_a_first_session(self):
+        self.check_each(SERVE, FIRST_INPUT, 0, 3, 2)
 
 
 if __name__ == "__main__":

@@ -1,36 +1,75 @@
 """Memory refused in a call, at each of its allocations in turn or at less and less of it: the answer is the number of that fault or the right one, and
-never another."""
-import concurrent.futures
-import os
-import pathlib
+never another. An allocation that is refused alone is never passed over."""
+import itertools
+import json
 import resource
 import subprocess
 import unittest
 
-ROOT = pathlib.Path(__file__).resolve().parent.parent
-CASES = ROOT / "crates" / "library_cases"
+from case_lines import program_of
+from refusing import refused_runs, runs
+from test_serve import ASK, EXIT, INITIALIZE, INITIALIZED, OPEN, PROTO3, REPORT, A, B, asking, notification, opening, report
 
 # The files of an analysis, and the messages of each.
 FILES, MESSAGES = 12, 500
 
+# The cases of memory_cases: of each the right answer, and the one where the call finds no memory.
+CALLS = {
+    "lex": ("l", "5", "no memory"),
+    "parse": ("p", "3", "no memory"),
+    "facts": ("f", "8", "no memory"),
+    "analyse_here": ("a", "4", "no memory"),
+    "symbols": ("s", "2", "no memory"),
+    "references": ("r", "4", "no memory"),
+    "rename": ("n", "4", "fault 706"),
+}
 
-def run_without(place):
-    """Runs the tests of lsp_frame_tests with that allocation of each refused, counted from 1."""
-    return subprocess.run(
-        ["rt", "try", "--test", "--fail-alloc", str(place)],
-        cwd=ROOT / "crates" / "lsp_frame_tests",
-        stdin=subprocess.DEVNULL,
-        capture_output=True,
-        text=True,
-    )
+# A stream of one frame, and its end, which is asked for twice, as a fault is.
+STREAM = "frames :: 0 ends 5000 :: Content-Length: 33␍|␍|" + EXIT
 
+# What is done to a board, and then asked of it: the next job, and the stamp of one more text.
+EVENTS = (
+    "set a.proto S|#|",
+    "next",
+    "remove a.proto",
+    "offer a.proto 1 S|#|",
+    "set a.proto S|",
+    "offer a.proto 1 S|#|",
+    "offer a.proto 2 S|#|",
+    "offer a.proto 3 S|",
+    "fail a.proto 2",
+    "offer a.proto 2 S|",
+    "offer a.proto 2 S|",
+    "fail a.proto 2",
+)
+BOARD = " :: ".join(["board", "0", *EVENTS, "then", "next", "set z.proto S|"])
+BOARD_DONE = "Foreign Stale Foreign Foreign Taken Taken Doubled Doubled complete true; none; 3"
+# The same where an event is refused: before anything was done, behind the first event, behind the third one, and the text that comes last.
+BOARD_REFUSED = [
+    "fault 501 complete true; none; 1",
+    'fault 501 complete false; a.proto 1 syntax = "proto3";|#|; 2',
+    "fault 501 complete true; none; 2",
+    BOARD_DONE.replace("3", "fault 501"),
+]
 
-def case_program():
-    """The program that runs cases of the libraries."""
-    program = CASES / "out" / "library_cases"
-    if not program.is_file():
-        subprocess.run(["rt", "run"], cwd=CASES, stdin=subprocess.DEVNULL, capture_output=True)
-    return program
+# A run of a core: what is brought is taken, doubled, foreign and stale, and two requests wait for it.
+CHANGE = notification("textDocument/didChange", f'{{"textDocument":{{"uri":"{A}","version":2}},"contentChanges":[{{"text":{json.dumps(PROTO3)}}}]}}')
+CORE_EVENTS = (
+    INITIALIZE,
+    OPEN,
+    opening(B, PROTO3),
+    ASK,
+    CHANGE,
+    asking("3", A),
+    "made 2 b.proto S|",
+    "made 2 b.proto S|",
+    "made 1 z.proto S|",
+    "made 1 a.proto S|#|",
+    "made 1 a.proto S|#|",
+    "made 3 a.proto S|",
+)
+CORE = " :: ".join(["run", *(f"> {event}" for event in CORE_EVENTS)])
+CORE_DONE = f"6 processed Taken Doubled Foreign Taken Stale Taken: {INITIALIZED} {REPORT} {report('3')}"
 
 
 def run_within(program, line, megabytes):
@@ -41,16 +80,8 @@ def run_within(program, line, megabytes):
 
 
 class RefusedMemory(unittest.TestCase):
-    def test_a_frame_is_read_whole_or_finds_no_memory(self):
-        # All allocations of that test are the reader's own: it asserts that the answer is the frame, or else 108 twice.
-        places = range(1, 7)
-        with concurrent.futures.ThreadPoolExecutor(os.cpu_count()) as pool:
-            for place, run in zip(places, pool.map(run_without, places)):
-                with self.subTest(allocation=place):
-                    self.assertIn("test tests::reads_what_std_reads ... ok", run.stdout, run.stdout[-2000:] + run.stderr[-2000:])
-
     def test_an_analysis_by_threads_is_whole_or_finds_no_memory(self):
-        program = case_program()
+        program = program_of("library_cases")
         paths = [f"{number:02}.proto" for number in range(FILES)]
         text = "S|" + " ".join(f"message M{number} {{ M{number} m = 1; }}" for number in range(MESSAGES))
         line = " :: ".join(["shares", "3", *(f"{path} {text}" for path in paths)])
@@ -67,6 +98,42 @@ class RefusedMemory(unittest.TestCase):
                 self.assertIn(answer, {whole, none, *others})
                 seen.add(answer)
         self.assertLessEqual({whole, none}, seen)
+
+
+class EachAllocation(unittest.TestCase):
+    maxDiff = None
+
+    def answers(self, crate, line, right):
+        """The answers of a program of cases to a line, with one allocation after the other refused: first the one without a refusal has to be right, and
+        then none is. One answer stands for several in a row."""
+        words, data = [program_of(crate)], f"{line}\n".encode()
+        [whole] = runs(words, data, [{}])
+        self.assertEqual((whole.out.decode(), whole.err, whole.status), (f"{right}\n", b"", 0))
+        told = []
+        for run in refused_runs(words, data):
+            self.assertNotEqual((run.out, run.status), (whole.out, 0), f"passed over: {run}")
+            told.append((run.out.decode().removesuffix("\n"), run.status))
+        return [answer for answer, _again in itertools.groupby(told)]
+
+    def test_calls(self):
+        for call, (case, right, refused) in CALLS.items():
+            with self.subTest(call):
+                before = [] if call == "lex" else [("no memory before the call", 0)]
+                self.assertEqual(self.answers("memory_cases", case, right), [*before, (refused, 0)])
+
+    def check_line(self, crate, line, right, refused):
+        """Where the line itself, or a piece of the answer, finds no memory the program says so, and else the call answers its own refusals, in this order."""
+        told = [answer for answer in self.answers(crate, line, right) if answer != ("", 1) and "error: out of memory" not in answer[0]]
+        self.assertEqual([answer for answer, _again in itertools.groupby(told)], [(answer, 0) for answer in refused])
+
+    def test_a_frame(self):
+        self.check_line("session_cases", STREAM, f"<{EXIT}> end end", ["108 108"])
+
+    def test_events_of_a_board(self):
+        self.check_line("library_cases", BOARD, BOARD_DONE, BOARD_REFUSED)
+
+    def test_a_run_of_a_core(self):
+        self.check_line("session_cases", CORE, CORE_DONE, [" fault 803"])
 
 
 if __name__ == "__main__":

@@ -18,8 +18,8 @@ use lsp_session::{Config, Ended, OpenGate, ServeFault, serve};
 use program_options::options;
 use program_options::words::Options;
 use proto_folder::FolderReader;
-use std::alloc::Global;
-use std::env::{self, Env};
+use std::alloc::{AllocError, Global};
+use std::env::{self, Args, Env};
 use std::io::{self, BufReader, ErrorKind};
 use std::marker::Send;
 use std::process::ExitCode;
@@ -133,10 +133,19 @@ fn explain<R: Print + Eprint>(rt: &R, error: &clap::Error) -> ExitCode {
     }
 }
 
+// The words that the program was started with, in a list. (`collect` would ask for less once memory was refused.)
+fn listed(alloc: Global, words: Args) -> Result<Vec<String>, AllocError> {
+    let mut list = Vec::with_capacity(alloc, words.len())?;
+    for word in words {
+        list.push(word)?;
+    }
+    Ok(list)
+}
+
 // The words that the program was started with, or the status with which it ends where they can't be read.
 fn read_words<R: Env + Eprint + AllocGlobal>(rt: &R) -> Result<Vec<String>, ExitCode> {
     match env::args(rt) {
-        Ok(words) => match words.collect(rt.alloc()) {
+        Ok(words) => match listed(rt.alloc(), words) {
             Ok(words) => Ok(words),
             Err(_) => Err(fail(rt, ServeFault::Memory.code())),
         },

@@ -1,0 +1,70 @@
+// The pieces of files. What stands here for any work is proved without what a file's work makes.
+ghost use Rattle.std.specs.Prelude.{◌≡◌, false};
+
+use case_notation::{first_word, plain};
+use piece_collector::{Board, Job, Lent, Piece, Work};
+use std::alloc::{AllocError, Global};
+use work_index::FileWork;
+
+// Brings the piece that is made of a job.
+fn bring<W: Work>(board: &mut Board<W>, work: &W, job: Job) -> Result<(), AllocError>
+    requires { board.old.is_lent ≡ false }
+    ensures { board.new.is_lent ≡ false }
+{
+    match Piece::make(work, job) {
+        Ok(piece) => {
+            board.offer(piece);
+            Ok(())
+        }
+        Err(_) => Err(AllocError),
+    }
+}
+
+fn set<W: Work>(alloc: Global, board: &mut Board<W>, file: &str) -> Result<(), AllocError>
+    requires { board.old.is_lent ≡ false }
+    ensures { board.new.is_lent ≡ false }
+{
+    let (path, text) = first_word(file);
+    let path = plain(alloc, path)?;
+    match board.set_text(path, plain(alloc, text)?) {
+        Ok(_) => Ok(()),
+        Err(_) => Err(AllocError),
+    }
+}
+
+// Sets the text of a file, and brings the piece that is made of it.
+fn put<W: Work>(alloc: Global, board: &mut Board<W>, work: &W, file: &str) -> Result<(), AllocError>
+    requires { board.old.is_lent ≡ false }
+    ensures { board.new.is_lent ≡ false }
+{
+    set(alloc, board, file)?;
+    match board.next_job()? {
+        Some(job) => bring(board, work, job),
+        None => Ok(()),
+    }
+}
+
+fn lent_of<W: Work>(board: &mut Board<W>) -> Result<Lent<W>, AllocError>
+    requires { board.old.is_lent ≡ false }
+{
+    if board.is_complete() {
+        board.lend_all()
+    } else {
+        Err(AllocError)
+    }
+}
+
+// The pieces of files. The board is made with one worker, the pieces by the other.
+fn made<W: Work>(alloc: Global, of_board: W, work: &W, files: &str) -> Result<Lent<W>, AllocError> {
+    let mut board = Board::new(alloc, of_board);
+    for file in files.split(" :: ") {
+        put(alloc, &mut board, work, file)?;
+    }
+    lent_of(&mut board)
+}
+
+/// The pieces of files, in the order of their paths.
+pub fn pieces_of(alloc: Global, files: &str) -> Result<Lent<FileWork>, AllocError> {
+    let work = FileWork::new(alloc);
+    made(alloc, work, &work, files)
+}
