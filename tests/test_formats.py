@@ -63,7 +63,7 @@ UNCHECKED = [
     # Files in a ring see each other.
     ({"a.proto": 'S|import public "b.proto";|', "b.proto": 'S|import public "a.proto";|import "none.proto";|'}, [], f"2 files checked, 3 errors; 2 files {WHY}: none.proto"),
     # The path stands there as it is written.
-    ({"a.proto": 'S|import "/a b/" "\\x41é.proto";|'}, [], f"1 file checked, 1 error; 1 file {WHY}: /a b/\\x41é.proto"),
+    ({"a.proto": 'S|import "/a b/é.proto";|'}, [], f"1 file checked, 1 error; 1 file {WHY}: /a b/é.proto"),
 ]
 
 # The name of a file, how a property of a workflow command writes it, and how a URI does.
