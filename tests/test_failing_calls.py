@@ -102,7 +102,6 @@ service S { rpc Do(N) returns (M); }
 SESSIONS = (
     (NAMED, "q.proto"),
     (SEEN, "a.proto", change("c.proto", PROTO3), *questions("a.proto"), change("c.proto", PROTO3), change("d.proto", PROTO3 + "#\n"), *questions("a.proto")),
-    (SEEN, "a.proto", change("d.proto", PROTO3 + "message D { }\nmessage E { }\nmessage F { }\n"), *questions("a.proto")),
     (SEEN, "c.proto", closing("b.proto"), *questions("a.proto"), opening("e.proto", PROTO3), *questions("e.proto"), opening("b.proto", PROTO3), *questions("b.proto")),
     ((("a.proto", BAD),), "a.proto"),
     ((("m.proto", PROTO3 + "package k.M;\nenum E { a = 0; }\n"), ("k.proto", WORSE)), "k.proto"),

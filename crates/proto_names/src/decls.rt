@@ -90,8 +90,6 @@ fn put(
     requires within { end ≤ length decls.old.items }
     ensures { OnOk result (decls.new.items ≡ splice decls.old.items start end others.items) }
 {
-    // (Without room for them `splice` would ask again for less once memory was refused.)
-    decls.reserve(others.len())?;
     decls.splice(start..end, others)?;
     Ok(())
 }

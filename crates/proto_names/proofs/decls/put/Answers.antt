@@ -12,4 +12,4 @@ pub returns : goal.returns
 returns c =
     let e = c.in_ok-splice.ensures.items in
     let len : into_iter_len e.0 ≡ length c.args.others.items = omega (arith, e.2.1, c.args.others.ok) in
-    e.4 ∙ ap (λ ds. splice ds c.args.start c.args.end e.1) c.in_ok-reserve.ensures.items ∙ ap (λ xs. splice c.args.decls.now.items c.args.start c.args.end xs) (drained e.0 e.1 c.args.others.items e.3 (YieldsList-from_vec c.args.others.items e.2.0 len))
+    e.4 ∙ ap (λ xs. splice c.args.decls.now.items c.args.start c.args.end xs) (drained e.0 e.1 c.args.others.items e.3 (YieldsList-from_vec c.args.others.items e.2.0 len))
