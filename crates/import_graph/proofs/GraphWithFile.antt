@@ -13,7 +13,8 @@ use Rattle.import_graph.specs.Components.{Descends}
 use Rattle.import_graph.specs.Condensed.{LeadAlike}
 use Rattle.import_graph.specs.Shared.{AreShared}
 use Rattle.import_graph.specs.Ties.{IsTied}
-use Rattle.import_graph.specs.Imports.{graph_of, imports_of, is_complete_in, IsGraph, public_targets, targets}
+use Rattle.import_graph.specs.Imports.{graph_of, imports_of, is_complete_in, public_targets, targets}
+use Rattle.import_graph.specs.Kept.{IsGraph}
 use Rattle.import_graph.specs.Arrivals.{HasArrived}
 use Rattle.file_facts.specs.declared.named_facts.NamedFacts.{NamedFacts}
 use Rattle.import_graph.proofs.ImportEdges.{graph_within}

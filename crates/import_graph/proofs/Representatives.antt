@@ -1,5 +1,5 @@
 -- Steps by way of the files that stand for others.
-use Rattle.std.proofs.Common.{◌≡◌, ◌⊎◌, inl, inr, ⊎_elim, ◌↔◌, ℕ, ◌+◌, ◌<◌, ◌≤◌, List, [], ◌∷◌, ◌++◌, Bool, length, get_or, get_or-set_other, get_or-set_same, refl, sym, ◌∙◌, arith}
+use Rattle.std.proofs.Common.{◌≡◌, ◌⊎◌, inl, inr, ⊎_elim, ◌↔◌, ℕ, ◌+◌, ◌<◌, ◌≤◌, List, [], ◌∷◌, ◌++◌, Bool, length, get_or, get_or-set_other, get_or-set_same, refl, sym, ap, subst, ◌∙◌, arith}
 use Rattle.std.proofs.Math.ListN.{set}
 use Rattle.std.specs.Prelude.{All, Contains}
 use Rattle.std.proofs.lemmas.Bool.{cases_eq, cases_lt}
@@ -7,7 +7,7 @@ use Rattle.std.proofs.lemmas.List.{get_or_default, get_or_past, get_or_push, get
 use Rattle.std.proofs.lemmas.List.Elements.{Contains-push, Contains-append_left, Contains-push_cases, All-contains, All-weaker, All-contains_itself}
 use Rattle.import_graph.specs.Walks.{AllWithin, Lists, Walk, stay, go, ReachedFrom}
 use Rattle.import_graph.specs.Ties.{IsTied}
-use Rattle.import_graph.specs.Condensed.{Leads, LeadAlike, StandsFor, representative, AddsStep, AddsSteps, AddsFile, Condenses}
+use Rattle.import_graph.specs.Condensed.{Leads, LeadAlike, StandsFor, representative, Adds, IsOne, IsStepOf, ahead, back, onward, IsToTarget, Condenses}
 use Rattle.import_graph.proofs.ImportEdges.{walk_map}
 use Rattle.import_graph.proofs.Placing.{listed_within}
 
@@ -21,15 +21,15 @@ pub walk_bind : {Step Other : ℕ → ℕ → Type 0} → ((a b : ℕ) → Step 
 walk_bind each stay = stay
 walk_bind each (go {a = a} {b = b} first rest) = walk_append (each a b first) (walk_bind each rest)
 
-pub AddsStep-stay : (rows : List (List ℕ)) (from to : ℕ) → from ≡ to → AddsStep rows rows from to
-AddsStep-stay rows from to same = record {
+pub Adds-stay : (rows : List (List ℕ)) (from to : ℕ) → from ≡ to → Adds (IsOne from to) rows rows
+Adds-stay rows from to same = record {
   kept = λ a b has. has;
-  joined = rw same stay;
+  joined = λ a b (x, y). rw (x, y, same) stay;
   only = λ a b has. inl has;
 }
 
-pub AddsStep-add : (rows : List (List ℕ)) (from to : ℕ) → from < length rows → AddsStep rows (set rows from (get_or rows from [] ++ to ∷ [])) from to
-AddsStep-add rows from to lt = record { kept = kept; joined = go {a = from} {b = to} last stay; only = only }
+pub Adds-one : (rows : List (List ℕ)) (from to : ℕ) → from < length rows → Adds (IsOne from to) rows (set rows from (get_or rows from [] ++ to ∷ []))
+Adds-one rows from to lt = record { kept = kept; joined = λ a b (x, y). rw (x, y) (go {a = from} {b = to} last stay); only = only }
   where
     row : List ℕ
     row = get_or rows from [] ++ to ∷ []
@@ -44,7 +44,7 @@ AddsStep-add rows from to lt = record { kept = kept; joined = go {a = from} {b =
       | inr other ↦ rw (get_or-set_other rows from a (get_or rows from [] ++ to ∷ []) [] other) has
     ]
 
-    only : (a b : ℕ) → Lists (set rows from (get_or rows from [] ++ to ∷ [])) a b → Lists rows a b ⊎ ((a ≡ from) × (b ≡ to))
+    only : (a b : ℕ) → Lists (set rows from (get_or rows from [] ++ to ∷ [])) a b → Lists rows a b ⊎ IsOne from to a b
     only a b has = elim (cases_eq a from) [
       | inl is ↦
           let there : Contains (get_or rows from [] ++ to ∷ []) b = rw (is, get_or-set_same rows from (get_or rows from [] ++ to ∷ []) [] lt) at has in
@@ -52,47 +52,55 @@ AddsStep-add rows from to lt = record { kept = kept; joined = go {a = from} {b =
       | inr other ↦ inl (rw (get_or-set_other rows from a (get_or rows from [] ++ to ∷ []) [] other) at has)
     ]
 
-pub AddsSteps-none : (representatives : List ℕ) (rows : List (List ℕ)) (from : ℕ) → AddsSteps representatives rows rows from []
-AddsSteps-none representatives rows from = record {
+-- some steps, and then others, which are all together
+Adds-both : {First Second All' : ℕ → ℕ → Type 0} {old mid new : List (List ℕ)} → ((a b : ℕ) → All' a b → First a b ⊎ Second a b) → ((a b : ℕ) → First a b → All' a b) → ((a b : ℕ) → Second a b → All' a b)
+    → Adds First old mid → Adds Second mid new → Adds All' old new
+Adds-both split first second before after = record {
+  kept = λ a b has. after.kept a b (before.kept a b has);
+  joined = λ a b step. ⊎_elim (λ one. walk_map after.kept (before.joined a b one)) (λ one. after.joined a b one) (split a b step);
+  only = λ a b has. ⊎_elim (λ was. ⊎_elim inl (λ one. inr (first a b one)) (before.only a b was)) (λ one. inr (second a b one)) (after.only a b has);
+}
+
+pub Adds-none : (representatives : List ℕ) (rows : List (List ℕ)) (from : ℕ) → Adds (IsToTarget representatives from []) rows rows
+Adds-none representatives rows from = record {
   kept = λ a b has. has;
-  joined = λ t has. absurd (omega (arith, has.1));
+  joined = λ a b (t, has, x, y). absurd (omega (arith, has.1));
   only = λ a b has. inl has;
 }
 
-pub AddsSteps-push : (representatives : List ℕ) (old mid new : List (List ℕ)) (from : ℕ) (done : List ℕ) (target to : ℕ) → to ≡ representative representatives target
-    → AddsSteps representatives old mid from done → AddsStep mid new from to → AddsSteps representatives old new from (done ++ target ∷ [])
-AddsSteps-push representatives old mid new from done target to is before one = record {
-  kept = λ a b has. one.kept a b (before.kept a b has);
-  joined = λ t has. ⊎_elim (λ earlier. walk_map one.kept (before.joined t earlier))
-      (λ same. let e : target ≡ t = same in rw (← e, ← is) one.joined)
-      (Contains-push_cases done target t has);
-  only = λ a b has. ⊎_elim
-      (λ was. ⊎_elim inl (λ (t, there, x, y). inr (t, Contains-append_left done (target ∷ []) t there, x, y)) (before.only a b was))
-      (λ (x, y). inr (target, Contains-push done target, x, y ∙ is))
-      (one.only a b has);
-}
+pub Adds-target : (representatives : List ℕ) (old mid new : List (List ℕ)) (from : ℕ) (done : List ℕ) (target to : ℕ) → to ≡ representative representatives target
+    → Adds (IsToTarget representatives from done) old mid → Adds (IsOne from to) mid new → Adds (IsToTarget representatives from (done ++ target ∷ [])) old new
+Adds-target representatives old mid new from done target to is = Adds-both split
+    (λ a b (t, has, x, y). (t, Contains-append_left done (target ∷ []) t has, x, y))
+    (λ a b (x, y). (target, Contains-push done target, x, y ∙ is))
+  where
+    split : (a b : ℕ) → IsToTarget representatives from (done ++ target ∷ []) a b → IsToTarget representatives from done a b ⊎ IsOne from to a b
+    split a b (t, has, x, y) = ⊎_elim (λ earlier. inl (t, earlier, x, y))
+        (λ same. let e : target ≡ t = same in inr (x, y ∙ ap (representative representatives) (sym e) ∙ sym is))
+        (Contains-push_cases done target t has)
 
-pub AddsFile-of : (representatives : List ℕ) (old first second new : List (List ℕ)) (file : ℕ) (targets : List ℕ) (to : ℕ) → to ≡ representative representatives file
-    → AddsStep old first file to → AddsStep first second to file → AddsSteps representatives second new to targets → AddsFile representatives old new file targets
-AddsFile-of representatives old first second new file targets to is ahead behind all = record {
-  kept = λ a b has. all.kept a b (behind.kept a b (ahead.kept a b has));
-  there = rw (← is) (walk_map all.kept (walk_map behind.kept ahead.joined));
-  back = rw (← is) (walk_map all.kept behind.joined);
-  joined = λ t has. rw (← is) (all.joined t has);
-  only = λ a b has. ⊎_elim
-      (λ was. ⊎_elim
-      (λ earlier. ⊎_elim inl (λ (x, y). inr (inl (x, y ∙ is))) (ahead.only a b earlier))
-      (λ (x, y). inr (inr (inl (x ∙ is, y))))
-      (behind.only a b was))
-      (λ (t, there, x, y). inr (inr (inr (t, there, x ∙ is, y))))
-      (all.only a b has);
-}
+module _ (representatives : List ℕ) (file : ℕ) (targets : List ℕ) (to : ℕ) (is : to ≡ representative representatives file) where
+  -- to the one that stands for the file, or back
+  abbrev IsNear : ℕ → ℕ → Type 0
+  IsNear a b = IsOne file to a b ⊎ IsOne to file a b
+
+  parts : {a b : ℕ} → IsStepOf representatives file targets a b → IsNear a b ⊎ IsToTarget representatives to targets a b
+  parts ahead = inl (inl (refl, sym is))
+  parts back = inl (inr (sym is, refl))
+  parts (onward {t} has) = inr (t, has, sym is, refl)
+
+  near : (a b : ℕ) → IsNear a b → IsStepOf representatives file targets a b
+  near a b (inl (x, y)) = rw (x, y ∙ is) ahead
+  near a b (inr (x, y)) = rw (x ∙ is, y) back
+
+  pub Adds-file : (old first second new : List (List ℕ)) → Adds (IsOne file to) old first → Adds (IsOne to file) first second → Adds (IsToTarget representatives to targets) second new
+      → Adds (IsStepOf representatives file targets) old new
+  Adds-file old first second new forth home all = Adds-both (λ a b step. parts step) near (λ a b (t, has, x, y). rw (x ∙ is, y) (onward {t = t} has))
+      (Adds-both {All' = IsNear} (λ a b step. step) (λ a b one. inl one) (λ a b one. inr one) forth home) all
 
 pub Condenses-none : (next : List (List ℕ)) (representatives : List ℕ) (rows : List (List ℕ)) → All (λ (row : List ℕ). row ≡ []) rows → Condenses next representatives rows 0
 Condenses-none next representatives rows empty = record {
-  there = λ f lt. absurd (omega (arith, lt));
-  back = λ f lt. absurd (omega (arith, lt));
-  joined = λ f t lt has. absurd (omega (arith, lt));
+  joined = λ f a b lt step. absurd (omega (arith, lt));
   only = λ a b has. absurd (none a b has);
 }
   where
@@ -103,25 +111,13 @@ Condenses-none next representatives rows empty = record {
     ]
 
 pub Condenses-push : (next : List (List ℕ)) (representatives : List ℕ) (old new : List (List ℕ)) (count : ℕ)
-    → Condenses next representatives old count → AddsFile representatives old new count (get_or next count []) → Condenses next representatives new (count + 1)
+    → Condenses next representatives old count → Adds (IsStepOf representatives count (get_or next count [])) old new → Condenses next representatives new (count + 1)
 Condenses-push next representatives old new count before one = record {
-  there = λ f lt. elim (cases_eq f count) [
-    | inl is ↦ rw is one.there
-    | inr other ↦ walk_map one.kept (before.there f (omega (arith, lt, other)))
+  joined = λ f a b lt step. elim (cases_eq f count) [
+    | inl is ↦ one.joined a b (subst (λ g. IsStepOf representatives g (get_or next g []) a b) is step)
+    | inr other ↦ walk_map one.kept (before.joined f a b (omega (arith, lt, other)) step)
   ];
-  back = λ f lt. elim (cases_eq f count) [
-    | inl is ↦ rw is one.back
-    | inr other ↦ walk_map one.kept (before.back f (omega (arith, lt, other)))
-  ];
-  joined = λ f t lt has. elim (cases_eq f count) [
-    | inl is ↦ let row : Contains (get_or next count []) t = rw is at has in rw is (one.joined t row)
-    | inr other ↦ walk_map one.kept (before.joined f t (omega (arith, lt, other)) has)
-  ];
-  only = λ a b has. ⊎_elim (before.only a b)
-      (λ rest. ⊎_elim (λ (x, y). inl (inr (rw x y)))
-      (λ rest'. ⊎_elim (λ (x, y). inl (inl (rw y x))) (λ (t, listed, x, y). inr (count, t, listed, x, y)) rest')
-      rest)
-      (one.only a b has);
+  only = λ a b has. ⊎_elim (before.only a b) (λ step. (count, step)) (one.only a b has);
 }
 
 -- one more file
@@ -138,23 +134,25 @@ stands-push numbers flags found r before one f = elim (cases_lt f (length found)
 -- each file and the one that stands for it lead to each other
 module _ (next : List (List ℕ)) (numbers : List ℕ) (flags : List Bool) (tied : IsTied next numbers flags) (representatives : List ℕ)
     (stands : (f : ℕ) → StandsFor numbers flags (representative representatives f) f) where
-  pub ahead : (f : ℕ) → Leads next f (representative representatives f)
-  ahead f = ⊎_elim (λ same. rw same stay) (λ (of_it, of_f, number). tied f (representative representatives f) of_f of_it (sym number)) (stands f)
+  pub leads_to : (f : ℕ) → Leads next f (representative representatives f)
+  leads_to f = ⊎_elim (λ same. rw same stay) (λ (of_it, of_f, number). tied f (representative representatives f) of_f of_it (sym number)) (stands f)
 
-  pub behind : (f : ℕ) → Leads next (representative representatives f) f
-  behind f = ⊎_elim (λ same. rw same stay) (λ (of_it, of_f, number). tied (representative representatives f) f of_it of_f number) (stands f)
+  pub leads_from : (f : ℕ) → Leads next (representative representatives f) f
+  leads_from f = ⊎_elim (λ same. rw same stay) (λ (of_it, of_f, number). tied (representative representatives f) f of_it of_f number) (stands f)
+
+  step_leads : {f a b : ℕ} → IsStepOf representatives f (get_or next f []) a b → Leads next a b
+  step_leads {f} ahead = leads_to f
+  step_leads {f} back = leads_from f
+  step_leads {f} (onward {t} has) = walk_append (leads_from f) (go {a = f} {b = t} has (leads_to t))
 
   pub LeadAlike-from : (rows : List (List ℕ)) (count : ℕ) → All (AllWithin (length next)) next → length next ≤ count → Condenses next representatives rows count → LeadAlike rows next
-  LeadAlike-from rows count within whole all a b = (walk_bind forth, walk_bind back)
+  LeadAlike-from rows count within whole all a b = (walk_bind (λ x y has. step_leads (all.only x y has).1), walk_bind steps_lead)
     where
-      forth : (x y : ℕ) → Lists rows x y → Leads next x y
-      forth x y has = ⊎_elim
-          (λ near. ⊎_elim (λ e. rw e (behind y)) (λ e. rw e (ahead x)) near)
-          (λ (f, t, step, e, e'). rw (e, e') (walk_append (behind f) (go {a = f} {b = t} step (ahead t))))
-          (all.only x y has)
-
-      back : (x y : ℕ) → Lists next x y → Leads rows x y
-      back x y step = let lt = listed_within next within x y step in walk_append (all.there x (omega (arith, lt.0, whole))) (walk_append (all.joined x y (omega (arith, lt.0, whole)) step) (all.back y (omega (arith, lt.1, whole))))
+      steps_lead : (x y : ℕ) → Lists next x y → Leads rows x y
+      steps_lead x y step =
+          let lt = listed_within next within x y step in
+          let from : x < count = omega (arith, lt.0, whole) in
+          walk_append (all.joined x _ _ from ahead) (walk_append (all.joined x _ _ from (onward {t = y} step)) (all.joined y _ _ (omega (arith, lt.1, whole)) back))
 
 -- the same steps lead alike
 pub LeadAlike-same : (rows some next : List (List ℕ)) → ((a b : ℕ) → Lists rows a b ↔ Lists some a b) → LeadAlike some next → LeadAlike rows next

@@ -14,7 +14,7 @@ use Rattle.import_graph.specs.Walks.{AllWithin, ReachedFrom}
 use Rattle.import_graph.specs.declared.shared.SharedLists.{SharedLists}
 use Rattle.import_graph.specs.declared.shared.Start.{Start}
 use Rattle.import_graph.proofs.ImportEdges.{here, here_or_next, in_map, next}
-use Rattle.import_graph.proofs.Representatives.{ahead, behind, walk_append}
+use Rattle.import_graph.proofs.Representatives.{leads_to, leads_from, walk_append}
 
 pub mapped : {X Y : Type 0} (f : X → Y) (xs : List X) (x : X) → Contains xs x → Contains (map f xs) (f x)
 mapped f [] x (k, lt, e) = absurd (omega (arith, lt))
@@ -147,7 +147,7 @@ pub leads_sorted : (steps imports : List (List ℕ)) (numbers : List ℕ) (flags
 leads_sorted steps imports numbers flags tied representatives stands reps as_long within starts sorted moved all =
     All-permutation (LeadsAlike steps imports) starts sorted moved
     (All-weaker (IsStart representatives imports) (LeadsAlike steps imports)
-    (leads_alike steps imports representatives (ahead steps numbers flags tied representatives stands) (behind steps numbers flags tied representatives stands) reps as_long within)
+    (leads_alike steps imports representatives (leads_to steps numbers flags tied representatives stands) (leads_from steps numbers flags tied representatives stands) reps as_long within)
     starts all)
 
 -- those of a run of them

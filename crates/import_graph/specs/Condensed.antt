@@ -1,5 +1,5 @@
 -- Fewer steps that lead to the same files.
-use Rattle.std.specs.Prelude.{◌≡◌, ◌⊎◌, ◌↔◌, ℕ, ◌<◌, List, Bool, true, false, slice_index_or, Contains}
+use Rattle.std.specs.Prelude.{◌≡◌, ◌⊎◌, ◌↔◌, ℕ, ◌<◌, List, [], Bool, true, false, slice_index_or, Contains}
 use Rattle.import_graph.specs.Walks.{Lists, Walk}
 
 -- steps lead from a to b
@@ -22,34 +22,27 @@ StandsFor numbers flags g f = (g ≡ f) ⊎ ((slice_index_or flags g false ≡ t
 abbrev pub representative : List ℕ → ℕ → ℕ
 representative representatives f = slice_index_or representatives f f
 
--- old steps stay, there is one more at most, and the files are linked
-pub record AddsStep (old new : List (List ℕ)) (from to : ℕ) : Type 0 where
-  pub kept : (a b : ℕ) → Lists old a b → Lists new a b
-  pub joined : Leads new from to
-  pub only : (a b : ℕ) → Lists new a b → Lists old a b ⊎ ((a ≡ from) × (b ≡ to))
+-- the step from a file to another
+abbrev pub IsOne : ℕ → ℕ → ℕ → ℕ → Type 0
+IsOne from to a b = (a ≡ from) × (b ≡ to)
 
--- the same of a file and those that stand for the targets
-pub record AddsSteps (representatives : List ℕ) (old new : List (List ℕ)) (from : ℕ) (targets : List ℕ) : Type 0 where
-  pub kept : (a b : ℕ) → Lists old a b → Lists new a b
-  pub joined : (t : ℕ) → Contains targets t → Leads new from (representative representatives t)
-  pub only : (a b : ℕ) → Lists new a b → Lists old a b ⊎ ((t : ℕ) × Contains targets t × (a ≡ from) × (b ≡ representative representatives t))
+-- a step from a file to one that stands for a target
+abbrev pub IsToTarget : List ℕ → ℕ → List ℕ → ℕ → ℕ → Type 0
+IsToTarget representatives from targets a b = (t : ℕ) × Contains targets t × (a ≡ from) × (b ≡ representative representatives t)
 
--- a file and the one that stands for it lead to each other, and that one to those that stand for the targets
-pub record AddsFile (representatives : List ℕ) (old new : List (List ℕ)) (file : ℕ) (targets : List ℕ) : Type 0 where
-  pub kept : (a b : ℕ) → Lists old a b → Lists new a b
-  pub there : Leads new file (representative representatives file)
-  pub back : Leads new (representative representatives file) file
-  pub joined : (t : ℕ) → Contains targets t → Leads new (representative representatives file) (representative representatives t)
-  pub only : (a b : ℕ) → Lists new a b → Lists old a b
-      ⊎ (((a ≡ file) × (b ≡ representative representatives file))
-      ⊎ (((a ≡ representative representatives file) × (b ≡ file))
-      ⊎ ((t : ℕ) × Contains targets t × (a ≡ representative representatives file) × (b ≡ representative representatives t))))
+-- the steps of a file: to the one that stands for it, back from there, and from there to those that stand for its targets
+pub data IsStepOf (representatives : List ℕ) (file : ℕ) (targets : List ℕ) : ℕ → ℕ → Type 0 where
+  ahead : IsStepOf representatives file targets file (representative representatives file)
+  back : IsStepOf representatives file targets (representative representatives file) file
+  onward : {t : ℕ} → Contains targets t → IsStepOf representatives file targets (representative representatives file) (representative representatives t)
 
--- the steps of so many files
+-- old steps stay, and steps lead where these would; all others are these
+pub record Adds (Step : ℕ → ℕ → Type 0) (old new : List (List ℕ)) : Type 0 where
+  pub kept : (a b : ℕ) → Lists old a b → Lists new a b
+  pub joined : (a b : ℕ) → Step a b → Leads new a b
+  pub only : (a b : ℕ) → Lists new a b → Lists old a b ⊎ Step a b
+
+-- steps lead where those of so many files would, and all are steps of a file
 pub record Condenses (next : List (List ℕ)) (representatives : List ℕ) (rows : List (List ℕ)) (count : ℕ) : Type 0 where
-  pub there : (f : ℕ) → f < count → Leads rows f (representative representatives f)
-  pub back : (f : ℕ) → f < count → Leads rows (representative representatives f) f
-  pub joined : (f t : ℕ) → f < count → Lists next f t → Leads rows (representative representatives f) (representative representatives t)
-  pub only : (a b : ℕ) → Lists rows a b
-      → ((a ≡ representative representatives b) ⊎ (b ≡ representative representatives a))
-      ⊎ ((f t : ℕ) × Lists next f t × (a ≡ representative representatives f) × (b ≡ representative representatives t))
+  pub joined : (f a b : ℕ) → f < count → IsStepOf representatives f (slice_index_or next f []) a b → Leads rows a b
+  pub only : (a b : ℕ) → Lists rows a b → (f : ℕ) × IsStepOf representatives f (slice_index_or next f []) a b

@@ -1,5 +1,5 @@
 -- What the imports of files name.
-use Rattle.std.specs.Prelude.{◌≡◌, ℕ, List, [], Bool, true, false, Option, Some, None, slice_index_or, map, filter, length, vec_len, All, not}
+use Rattle.std.specs.Prelude.{ℕ, List, [], Bool, true, false, Option, Some, None, slice_index_or, map, filter, not}
 use Rattle.std.specs.List.{filter_map, list_all}
 use Rattle.file_facts.specs.declared.fact.FileFacts.{FileFacts}
 use Rattle.file_facts.specs.declared.fact.ImportFact.{ImportFact}
@@ -9,13 +9,6 @@ use Rattle.file_facts.specs.declared.named_facts.NamedFacts.{NamedFacts}
 use Rattle.import_graph.specs.declared.imports.ImportEdge.{ImportEdge}
 use Rattle.import_graph.specs.declared.imports.FileImports.{FileImports}
 use Rattle.import_graph.specs.Paths.{file_named}
-use Rattle.import_graph.specs.Walks.{AllWithin}
-use Rattle.import_graph.specs.Components.{Descends}
-use Rattle.import_graph.specs.Condensed.{LeadAlike}
-use Rattle.import_graph.specs.Ties.{IsTied}
-use Rattle.import_graph.specs.Shared.{AreShared}
-use Rattle.import_graph.specs.declared.components.Components.{Components}
-use Rattle.import_graph.specs.declared.shared.SharedLists.{SharedLists}
 
 abbrev pub is_opaque : SyntaxFact → Bool
 is_opaque Proto3 = false
@@ -56,18 +49,3 @@ targets file = filter_map (λ l. l.target) file.edges
 -- the files that it imports publicly
 abbrev pub public_targets : FileImports → List ℕ
 public_targets file = filter_map (λ l. l.target) (filter (λ l. l.is_public) file.edges)
-
--- each file that is imported is there, the files are listed for the search, the steps lead to what public imports lead to, it is
--- known which files are complete, the components are those of the imports, and files share what they see
-pub record IsGraph (graph : List FileImports) (all : List (List ℕ)) (steps : List (List ℕ)) (flags : List Bool) (components : Components) (shared : SharedLists) : Type 0 where
-  pub within : All (λ file. AllWithin (length graph) (targets file)) graph
-  pub imports : all ≡ map targets graph
-  pub counted : length steps ≡ length graph
-  pub stay : All (AllWithin (length graph)) steps
-  pub public : LeadAlike steps (map public_targets graph)
-  pub complete : flags ≡ map (is_complete_in graph) graph
-  pub numbered : vec_len components.numbers ≡ length graph
-  pub descends : Descends (map targets graph) components.numbers.items
-  pub flagged : vec_len components.tied ≡ length graph
-  pub tied : IsTied (map targets graph) components.numbers.items components.tied.items
-  pub lists : AreShared steps all shared

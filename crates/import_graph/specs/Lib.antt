@@ -11,6 +11,7 @@ pub mod Ties
 pub mod Outlooks
 pub mod Condensed
 pub mod Shared
+pub mod Kept
 pub mod Moves
 pub mod Arrivals
 pub mod Coming

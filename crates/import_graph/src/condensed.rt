@@ -3,7 +3,7 @@
 ghost use Rattle.std.specs.Prelude.{◌≡◌, ◌↔◌, ◌<◌, ◌≤◌, ◌⊎◌, ℕ, List, length, vec_len, slice_index_or, IfOk, OnOk, All, Contains};
 ghost use Rattle.std.specs.List.Sorted.{IsStrictlyIncreasing};
 ghost use Rattle.import_graph.specs.Walks.{AllWithin, Lists};
-ghost use Rattle.import_graph.specs.Condensed.{StandsFor, LeadAlike, AddsStep, AddsSteps, AddsFile, representative};
+ghost use Rattle.import_graph.specs.Condensed.{StandsFor, LeadAlike, Adds, IsOne, IsStepOf, IsToTarget, representative};
 
 use crate::components::{Components, components_of};
 use crate::file_search::ascending;
@@ -55,7 +55,7 @@ fn add_step(rows: &mut Vec<Items<FileNo>>, from: FileNo, to: FileNo) -> Result<(
     requires within { All (AllWithin (vec_len rows.old)) rows.old.items }
     ensures length { OnOk result (vec_len rows.new ≡ vec_len rows.old) }
     ensures within { OnOk result (All (AllWithin (vec_len rows.old)) rows.new.items) }
-    ensures adds { OnOk result (AddsStep rows.old.items rows.new.items from to) }
+    ensures adds { OnOk result (Adds (IsOne from to) rows.old.items rows.new.items) }
 {
     if from != to {
         add_to(rows, from, to)?;
@@ -77,7 +77,7 @@ fn add_steps(
     requires within { All (AllWithin (vec_len rows.old)) rows.old.items }
     ensures length { OnOk result (vec_len rows.new ≡ vec_len rows.old) }
     ensures within { OnOk result (All (AllWithin (vec_len rows.old)) rows.new.items) }
-    ensures adds { OnOk result (AddsSteps representatives.now rows.old.items rows.new.items from targets.now) }
+    ensures adds { OnOk result (Adds (IsToTarget representatives.now from targets.now) rows.old.items rows.new.items) }
 {
     for &target in targets {
         add_step(rows, from, representatives[target])?;
@@ -99,7 +99,7 @@ fn add_file(
     requires within { All (AllWithin (vec_len rows.old)) rows.old.items }
     ensures length { OnOk result (vec_len rows.new ≡ vec_len rows.old) }
     ensures within { OnOk result (All (AllWithin (vec_len rows.old)) rows.new.items) }
-    ensures adds { OnOk result (AddsFile representatives.now rows.old.items rows.new.items file targets.now) }
+    ensures adds { OnOk result (Adds (IsStepOf representatives.now file targets.now) rows.old.items rows.new.items) }
 {
     let first = representatives[file];
     add_step(rows, file, first)?;

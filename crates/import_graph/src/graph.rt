@@ -41,7 +41,7 @@ pub struct Graph {
 impl Model for Graph {
     ghost use Rattle.std.specs.Prelude.{List};
     ghost use Rattle.import_graph.specs.declared.imports.FileImports.{FileImports};
-    ghost use Rattle.import_graph.specs.Imports.{IsGraph};
+    ghost use Rattle.import_graph.specs.Kept.{IsGraph};
 
     ghost Value = { List FileImports };
 
