@@ -1,11 +1,13 @@
 // The words of a text's tokens.
 
-ghost use Rattle.std.specs.Prelude.{◌≡◌, ◌≤◌, ◌<◌, ◌∷◌, [], ◌++◌, ◌==◌, length, All, IfOk, OnOk};
+ghost use Rattle.std.specs.Prelude.{◌≡◌, ◌≤◌, ◌<◌, ◌∷◌, [], ◌++◌, ◌==◌, length, unwrap_or, All, IfOk, OnOk};
 ghost use Rattle.std.specs.List.{list_any};
+ghost use Rattle.std.specs.Map.{lookup};
 ghost use Rattle.std.specs.Str.{bytes_eq};
 ghost use Rattle.proto_lex.specs.Tokens.{tokens};
 ghost use Rattle.syntax_tree.specs.Lexeme as spec;
 ghost use Rattle.syntax_tree.specs.Read as tree;
+ghost use Rattle.syntax_tree.specs.declared.lexeme.Word.TheVariants as w;
 
 use proto_lex::{Kind, Token, first_offset, next_token};
 use sqlite_items::Items;
@@ -50,9 +52,8 @@ fn keyword(name: &[u8]) -> Word
 }
 
 // A word that stands inside a statement.
-#[tactic(auto, unfolding(syntax_tree::specs::Lexeme::inner_keyword))]
 fn inner_keyword(name: &[u8]) -> Word
-    ensures { result ≡ spec.inner_keyword name.now }
+    ensures { result ≡ unwrap_or (lookup (bytes_eq name.now) spec.inner_words) w.Name }
 {
     if is(name, "weak") {
         Word::Weak

@@ -1,6 +1,6 @@
 -- The names of a text are made of its identifiers.
 use Rattle.std.proofs.Common.{◌≡◌, ℕ, Bool, true, false, List, [], ◌∷◌, ◌++◌, refl, sym, ap, subst, ◌∙◌, arith, cond, IsUtf8}
-use Rattle.std.specs.Prelude.{◌≢◌, not, ◌==◌, filter, slice_range, slice_index, All, IsTrue}
+use Rattle.std.specs.Prelude.{◌≢◌, not, ◌==◌, filter, slice_range, slice_index, All, IsTrue, Option, Some, unwrap_or}
 use Rattle.std.specs.List.{list_any}
 use Rattle.std.proofs.lemmas.Bool.{false≢true}
 use Rattle.std.proofs.lemmas.List.Elements.{All-nil, All-cons, All-head, All-tail, All-map, All-filter, All-weaker}
@@ -31,11 +31,16 @@ either : (b : Bool) (x y : Word) → is_identifier x ≡ false → is_identifier
 either true x y p q = p
 either false x y p q = q
 
+-- nor is the word of a row of a table, or of one behind it
+row : (b : Bool) (x : Word) (y : Option Word) → is_identifier x ≡ false → is_identifier (unwrap_or y w.Slash) ≡ false → is_identifier (unwrap_or (cond b (Some x) y) w.Slash) ≡ false
+row true x y p q = p
+row false x y p q = q
+
 no_symbol : (byte : ℕ) → is_identifier (symbol byte) ≡ false
 no_symbol byte =
-    either (byte == 123) _ _ refl (either (byte == 125) _ _ refl (either (byte == 40) _ _ refl (either (byte == 41) _ _ refl (either (byte == 91) _ _ refl
-    (either (byte == 93) _ _ refl (either (byte == 60) _ _ refl (either (byte == 62) _ _ refl (either (byte == 59) _ _ refl (either (byte == 44) _ _ refl
-    (either (byte == 61) _ _ refl (either (byte == 46) _ _ refl (either (byte == 58) _ _ refl (either (byte == 43) _ _ refl (either (byte == 45) _ _ refl refl))))))))))))))
+    row (byte == 123) _ _ refl (row (byte == 125) _ _ refl (row (byte == 40) _ _ refl (row (byte == 41) _ _ refl (row (byte == 91) _ _ refl
+    (row (byte == 93) _ _ refl (row (byte == 60) _ _ refl (row (byte == 62) _ _ refl (row (byte == 59) _ _ refl (row (byte == 44) _ _ refl
+    (row (byte == 61) _ _ refl (row (byte == 46) _ _ refl (row (byte == 58) _ _ refl (row (byte == 43) _ _ refl (row (byte == 45) _ _ refl refl))))))))))))))
 
 no_string : (bs : List ℕ) → is_identifier (string_word bs) ≡ false
 no_string bs = either (list_any (λ x. x == 92) bs) w.EscapedText w.PlainText refl refl

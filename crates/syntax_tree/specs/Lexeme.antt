@@ -1,6 +1,7 @@
 -- What the grammar sees of a token: its word, and where it stands.
-use Rattle.std.specs.Prelude.{ℕ, ◌≤◌, Bool, true, false, not, ◌==◌, List, filter, map, slice_index, slice_range, if◌then◌else◌, codes}
-use Rattle.std.specs.List.{list_any}
+use Rattle.std.specs.Prelude.{ℕ, ◌≤◌, Bool, true, false, not, ◌==◌, List, [], ◌∷◌, ◌++◌, filter, map, slice_index, slice_range, if◌then◌else◌, codes, unwrap_or}
+use Rattle.std.specs.List.{list_any, zip}
+use Rattle.std.specs.Map.{lookup}
 use Rattle.std.specs.Str.{bytes_eq}
 use Rattle.proto_lex.specs.declared.token.Token.{Token}
 use Rattle.proto_lex.specs.declared.token.Kind.{Kind}
@@ -61,54 +62,50 @@ is_plain _ = true
 
 -- ---- from the tokens of a text
 
--- a word that stands inside a statement
-unfoldable pub inner_keyword : List ℕ → Word
-inner_keyword name =
-    if bytes_eq name (codes "weak") then w.Weak else
-    (if bytes_eq name (codes "public") then w.Public else
-    (if bytes_eq name (codes "repeated") then w.Repeated else
-    (if bytes_eq name (codes "optional") then w.Optional else
-    (if bytes_eq name (codes "map") then w.Map else
-    (if bytes_eq name (codes "stream") then w.Stream else
-    (if bytes_eq name (codes "returns") then w.Returns else
-    (if bytes_eq name (codes "to") then w.To else
-    (if bytes_eq name (codes "max") then w.Max else
-    w.Name))))))))
+-- the words that name a statement, as they are written
+abbrev pub statement_words : List (List ℕ × Word)
+statement_words =
+    (codes "message", w.Message)
+    ∷ (codes "enum", w.Enum)
+    ∷ (codes "service", w.Service)
+    ∷ (codes "oneof", w.Oneof)
+    ∷ (codes "extend", w.Extend)
+    ∷ (codes "rpc", w.Rpc)
+    ∷ (codes "syntax", w.Syntax)
+    ∷ (codes "import", w.Import)
+    ∷ (codes "package", w.Package)
+    ∷ (codes "option", w.Option)
+    ∷ (codes "reserved", w.Reserved)
+    ∷ []
+
+-- the words that stand inside a statement
+abbrev pub inner_words : List (List ℕ × Word)
+inner_words =
+    (codes "weak", w.Weak)
+    ∷ (codes "public", w.Public)
+    ∷ (codes "repeated", w.Repeated)
+    ∷ (codes "optional", w.Optional)
+    ∷ (codes "map", w.Map)
+    ∷ (codes "stream", w.Stream)
+    ∷ (codes "returns", w.Returns)
+    ∷ (codes "to", w.To)
+    ∷ (codes "max", w.Max)
+    ∷ []
 
 -- the word that an identifier is
 unfoldable pub keyword : List ℕ → Word
-keyword name =
-    if bytes_eq name (codes "message") then w.Message else
-    (if bytes_eq name (codes "enum") then w.Enum else
-    (if bytes_eq name (codes "service") then w.Service else
-    (if bytes_eq name (codes "oneof") then w.Oneof else
-    (if bytes_eq name (codes "extend") then w.Extend else
-    (if bytes_eq name (codes "rpc") then w.Rpc else
-    (if bytes_eq name (codes "syntax") then w.Syntax else
-    (if bytes_eq name (codes "import") then w.Import else
-    (if bytes_eq name (codes "package") then w.Package else
-    (if bytes_eq name (codes "option") then w.Option else
-    (if bytes_eq name (codes "reserved") then w.Reserved else
-    inner_keyword name))))))))))
+keyword name = unwrap_or (lookup (bytes_eq name) (statement_words ++ inner_words)) w.Name
 
--- the symbol that a byte is; a lexer gives no other byte than these
+-- the symbols, each with its word
+abbrev pub symbols : List (ℕ × Word)
+symbols =
+    zip (codes "{}()[]<>;,=.:+-")
+    (w.OpenBrace ∷ w.CloseBrace ∷ w.OpenParen ∷ w.CloseParen ∷ w.OpenBracket ∷ w.CloseBracket ∷ w.Less ∷ w.Greater
+    ∷ w.Semicolon ∷ w.Comma ∷ w.Equals ∷ w.Dot ∷ w.Colon ∷ w.Plus ∷ w.Minus ∷ [])
+
+-- the symbol that a byte is; a lexer gives no other byte than these and `/`
 abbrev pub symbol : ℕ → Word
-symbol b =
-    if b == 123 then w.OpenBrace else
-    (if b == 125 then w.CloseBrace else
-    (if b == 40 then w.OpenParen else
-    (if b == 41 then w.CloseParen else
-    (if b == 91 then w.OpenBracket else
-    (if b == 93 then w.CloseBracket else
-    (if b == 60 then w.Less else
-    (if b == 62 then w.Greater else
-    (if b == 59 then w.Semicolon else
-    (if b == 44 then w.Comma else
-    (if b == 61 then w.Equals else
-    (if b == 46 then w.Dot else
-    (if b == 58 then w.Colon else
-    (if b == 43 then w.Plus else
-    (if b == 45 then w.Minus else w.Slash))))))))))))))
+symbol b = unwrap_or (lookup (λ s. b == s) symbols) w.Slash
 
 -- a string that holds a backslash is not plain
 abbrev pub string_word : List ℕ → Word
