@@ -22,8 +22,9 @@ use Rattle.file_facts.specs.declared.stated.StatedPackage.{StatedPackage}
 use Rattle.file_facts.specs.declared.stated.StatedSyntax.{StatedSyntax}
 use Rattle.file_facts.specs.Checks.{judged}
 use Rattle.file_facts.specs.Diags.{diag, diag_of, nowhere}
-use Rattle.file_facts.specs.Facts.{bad_start, declared_twice, decls, diags_of, facts_at, import_of, imported_twice, imports, not_proto3, opaque, package_diags, package_of, package_twice, packages, says_proto3, start_of, starts, stated, stated_of, syntax_late}
+use Rattle.file_facts.specs.Facts.{bad_start, declared_twice, decls, diags_of, facts_at, import_of, imported_twice, imports, not_proto3, opaque, package_diags, package_of, package_twice, packages, says_proto3, starts, stated, stated_of, syntax_late}
 use Rattle.file_facts.specs.Members.{ranges}
+use Rattle.file_facts.specs.Starts.{start_of}
 use Rattle.file_facts.specs.Text.{dotted, literal_text}
 use Rattle.file_facts.proofs.DiagOrder.{in_order-is_list}
 use Rattle.facts_laws.specs.Bodies.{reserved_names}

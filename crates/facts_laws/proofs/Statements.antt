@@ -1,68 +1,14 @@
 -- The statements of a tree at any depth.
-use Rattle.std.proofs.Common.{◌≡◌, ◌∙◌, List, [], ◌∷◌, ◌++◌, map, refl, sym, ap, subst}
+use Rattle.std.proofs.Common.{◌≡◌, List, [], ◌∷◌, ◌++◌, map, sym, ap, subst}
 use Rattle.std.specs.Prelude.{Contains}
 use Rattle.std.proofs.lemmas.List.Elements.{Contains-append_cases, Contains-append_left, Contains-append_right}
 use Rattle.syntax_tree.specs.declared.node.Node.{Node, out-Node, out-roll-Node, roll-Node, map-Node}
-use Rattle.syntax_tree.specs.declared.node.Node.TheVariants as node
 use Rattle.syntax_tree.specs.declared.node.Node.TheOpen.{Node-F}
-use Rattle.syntax_tree.specs.declared.node.Node.TheFolds.{fold-roll-Node, fold_out-Node, ind-Node}
-use Rattle.file_facts.specs.Tree.{Seen, all_of, all_statements, inside, inside_of, itself, seen, seen_step}
+use Rattle.syntax_tree.specs.declared.node.Node.TheFolds.{ind-Node}
+use Rattle.file_facts.specs.Tree.{all_statements, inside, inside_of}
+use Rattle.file_facts.proofs.Statements.{all_statements-cons}
 use Rattle.facts_laws.specs.Bodies.{HasStatement, itself as alone, within}
 use Rattle.facts_laws.proofs.Holders.{cases_in, either, first_in, later_in, none_in}
-
--- ---- a list of all of them begins with the first, and then come those inside it
-
-abbrev Same : Node → Type 0
-Same n = (seen n).0 ≡ n
-
-abbrev Known : Type 0
-Known = (f : Node) × Same f
-
-sames : (items : List Known) → map (λ s. s.0) (map seen (map (λ e. e.0) items)) ≡ map (λ e. e.0) items
-sames [] = refl
-sames (e ∷ es) = ap (λ n. n ∷ map (λ s. s.0) (map seen (map (λ e. e.0) es))) e.1 ∙ ap (λ ns. e.0 ∷ ns) (sames es)
-
-again : (y : Node-F Known) → itself (map-Node Node Seen seen (map-Node Known Node (λ e. e.0) y)) ≡ roll-Node (map-Node Known Node (λ e. e.0) y)
-again (Node-F.Message span name items) = ap (node.Message span name) (sames items) ∙ sym (node.rolls-Message span name (map (λ e. e.0) items))
-again (Node-F.EnumDef span name items) = ap (node.EnumDef span name) (sames items) ∙ sym (node.rolls-EnumDef span name (map (λ e. e.0) items))
-again (Node-F.Service span name items) = ap (node.Service span name) (sames items) ∙ sym (node.rolls-Service span name (map (λ e. e.0) items))
-again (Node-F.Oneof span name items) = ap (node.Oneof span name) (sames items) ∙ sym (node.rolls-Oneof span name (map (λ e. e.0) items))
-again (Node-F.Extend span target items) = ap (node.Extend span target) (sames items) ∙ sym (node.rolls-Extend span target (map (λ e. e.0) items))
-again (Node-F.Rpc span name request response items) = ap (node.Rpc span name request response) (sames items) ∙ sym (node.rolls-Rpc span name request response (map (λ e. e.0) items))
-again (Node-F.Field f) = sym (node.rolls-Field f)
-again (Node-F.MapField f) = sym (node.rolls-MapField f)
-again (Node-F.Value span name number) = sym (node.rolls-Value span name number)
-again (Node-F.Reserved span list) = sym (node.rolls-Reserved span list)
-again (Node-F.Import span is_public path) = sym (node.rolls-Import span is_public path)
-again (Node-F.Package span name components) = sym (node.rolls-Package span name components)
-again (Node-F.OptionDef span name value) = sym (node.rolls-OptionDef span name value)
-again (Node-F.Syntax span value) = sym (node.rolls-Syntax span value)
-again (Node-F.Empty span) = sym (node.rolls-Empty span)
-
-seen-itself : (n : Node) → (seen n).0 ≡ n
-seen-itself = ind-Node Same (λ x y is. subst (λ z. (seen (roll-Node z)).0 ≡ roll-Node z) is (ap (λ (s : Seen). s.0) (fold-roll-Node Seen seen_step (map-Node Known Node (λ e. e.0) y)) ∙ again y))
-
-inner : (y : Node-F Node) → inside_of (map-Node Node Seen seen y) ≡ map seen (inside_of y)
-inner (Node-F.Message span name items) = refl
-inner (Node-F.EnumDef span name items) = refl
-inner (Node-F.Service span name items) = refl
-inner (Node-F.Oneof span name items) = refl
-inner (Node-F.Extend span target items) = refl
-inner (Node-F.Rpc span name request response items) = refl
-inner (Node-F.Field f) = refl
-inner (Node-F.MapField f) = refl
-inner (Node-F.Value span name number) = refl
-inner (Node-F.Reserved span list) = refl
-inner (Node-F.Import span is_public path) = refl
-inner (Node-F.Package span name components) = refl
-inner (Node-F.OptionDef span name value) = refl
-inner (Node-F.Syntax span value) = refl
-inner (Node-F.Empty span) = refl
-
-all_statements-cons : (n : Node) (more : List Node) → all_statements (n ∷ more) ≡ n ∷ all_statements (inside n) ++ all_statements more
-all_statements-cons n more =
-    ap (λ m. m ∷ (seen n).1 ++ all_statements more) (seen-itself n)
-    ∙ ap (λ ns. n ∷ ns ++ all_statements more) (ap (λ (s : Seen). s.1) (fold_out-Node Seen seen_step n) ∙ ap all_of (inner (out-Node n)))
 
 -- ---- each of them stands in the tree
 

@@ -20,7 +20,8 @@ use Rattle.file_facts.specs.declared.part.Numbering.TheVariants.{Fields, Values}
 use Rattle.file_facts.specs.declared.problem.Problem.TheVariants as m
 use Rattle.file_facts.specs.Checks.{key_types}
 use Rattle.file_facts.specs.Diags.{diag, diag_of, nowhere}
-use Rattle.file_facts.specs.Facts.{decls, facts_in, start_of}
+use Rattle.file_facts.specs.Facts.{decls, facts_in}
+use Rattle.file_facts.specs.Starts.{start_of}
 use Rattle.file_facts.specs.Members.{range_span, ranges}
 use Rattle.file_facts.specs.Text.{literal_text, text_at}
 use Rattle.facts_laws.specs.Bodies.{AllowsAlias, HasBounds, HasStatement, IsBody, IsBound, IsInRange, IsNumber, Numbered, Precedes, Reserves, enum_values, from_is, number_in, reserved_names, to_is}

@@ -4,3 +4,4 @@ pub mod Ordered
 pub mod PairLemmas
 pub mod LastParts
 pub mod ApartNames
+pub mod Statements

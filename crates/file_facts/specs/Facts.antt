@@ -23,6 +23,7 @@ use Rattle.file_facts.specs.declared.stated.StatedSyntax.{StatedSyntax}
 use Rattle.file_facts.specs.declared.fact.SyntaxFact.TheVariants.{Proto3, Opaque}
 use Rattle.file_facts.specs.Text.{literal_text, dotted}
 use Rattle.file_facts.specs.Tree.{all_statements}
+use Rattle.file_facts.specs.Starts.{start_of}
 use Rattle.file_facts.specs.Decls.{decls_in}
 use Rattle.file_facts.specs.Checks.{diag_if, judged, statement_diags}
 use Rattle.file_facts.specs.Diags.{diag, nowhere, diag_of}
@@ -37,24 +38,6 @@ first_package (p ∷ more) = Some p.fact
 abbrev pub package_name : Option PackageFact → List ℕ
 package_name None = []
 package_name (Some p) = p.full_name
-
--- where a statement starts
-abbrev pub start_of : Node-F Node → ℕ
-start_of (Node-F.Message span name items) = span.start
-start_of (Node-F.EnumDef span name items) = span.start
-start_of (Node-F.Service span name items) = span.start
-start_of (Node-F.Oneof span name items) = span.start
-start_of (Node-F.Extend span target items) = span.start
-start_of (Node-F.Rpc span name request response items) = span.start
-start_of (Node-F.Field f) = f.span.start
-start_of (Node-F.MapField f) = f.span.start
-start_of (Node-F.Value span name number) = span.start
-start_of (Node-F.Reserved span list) = span.start
-start_of (Node-F.Import span is_public path) = span.start
-start_of (Node-F.Package span name components) = span.start
-start_of (Node-F.OptionDef span name value) = span.start
-start_of (Node-F.Syntax span value) = span.start
-start_of (Node-F.Empty span) = span.start
 
 abbrev pub bad_start : SyntaxProblem → Span → Option ℕ
 bad_start (problem.BadToken reason) span = None

@@ -10,6 +10,7 @@ pub mod Decls
 pub mod BytePairs
 pub mod Members
 pub mod Checks
+pub mod Starts
 pub mod Facts
 pub mod IdentifierLaws
 pub mod Nesting

@@ -1,7 +1,6 @@
 -- The statements of a tree.
 use Rattle.std.specs.Prelude.{List, [], ◌∷◌, ◌++◌, map}
-use Rattle.syntax_tree.specs.declared.node.Node.{Node, out-Node}
-use Rattle.syntax_tree.specs.declared.node.Node.TheVariants as node
+use Rattle.syntax_tree.specs.declared.node.Node.{Node, map-Node, out-Node, roll-Node}
 use Rattle.syntax_tree.specs.declared.node.Node.TheOpen.{Node-F}
 use Rattle.syntax_tree.specs.declared.node.Node.TheFolds.{fold-Node}
 
@@ -28,21 +27,7 @@ all_of (s ∷ more) = s.0 ∷ s.1 ++ all_of more
 
 -- one level put together again
 abbrev pub itself : Node-F Seen → Node
-itself (Node-F.Message span name items) = node.Message span name (map (λ s. s.0) items)
-itself (Node-F.EnumDef span name items) = node.EnumDef span name (map (λ s. s.0) items)
-itself (Node-F.Service span name items) = node.Service span name (map (λ s. s.0) items)
-itself (Node-F.Oneof span name items) = node.Oneof span name (map (λ s. s.0) items)
-itself (Node-F.Extend span target items) = node.Extend span target (map (λ s. s.0) items)
-itself (Node-F.Rpc span name request response items) = node.Rpc span name request response (map (λ s. s.0) items)
-itself (Node-F.Field f) = node.Field f
-itself (Node-F.MapField f) = node.MapField f
-itself (Node-F.Value span name number) = node.Value span name number
-itself (Node-F.Reserved span list) = node.Reserved span list
-itself (Node-F.Import span is_public path) = node.Import span is_public path
-itself (Node-F.Package span name components) = node.Package span name components
-itself (Node-F.OptionDef span name value) = node.OptionDef span name value
-itself (Node-F.Syntax span value) = node.Syntax span value
-itself (Node-F.Empty span) = node.Empty span
+itself layer = roll-Node (map-Node Seen Node (λ s. s.0) layer)
 
 abbrev pub seen_step : Node-F Seen → Seen
 seen_step layer = (itself layer, all_of (inside_of layer))

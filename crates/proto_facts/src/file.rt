@@ -6,6 +6,7 @@ ghost use Rattle.std.specs.Option.{option_to_list};
 ghost use Rattle.syntax_tree.specs.declared.node.Node.{out-Node};
 ghost use Rattle.file_facts.specs.Diags as said;
 ghost use Rattle.file_facts.specs.Facts as spec;
+ghost use Rattle.file_facts.specs.Starts as statement;
 ghost use Rattle.file_facts.specs.Checks as checks;
 
 use crate::checks::{add, diag, diag_if};
@@ -110,7 +111,7 @@ pub fn opaque(text: &str, found: &[StatedSyntax]) -> Option<Diag>
 // ---- the first statement
 
 fn start_of(node: &Node) -> usize
-    ensures { result ≡ spec.start_of (out-Node node.now) }
+    ensures { result ≡ statement.start_of (out-Node node.now) }
 {
     match node {
         Node::Message { span, .. } => span.start,
@@ -154,7 +155,7 @@ fn earlier(least: usize, start: Option<usize>) -> usize
 
 // The least of the starts of nodes.
 fn earliest_node(nodes: &[Node]) -> usize
-    ensures { (x : ℕ) → x < 2 ^ 64 → nat_lt result x ≡ list_any (λ start. nat_lt start x) (map (λ n. spec.start_of (out-Node n)) nodes.now) }
+    ensures { (x : ℕ) → x < 2 ^ 64 → nat_lt result x ≡ list_any (λ start. nat_lt start x) (map (λ n. statement.start_of (out-Node n)) nodes.now) }
 {
     let mut least = usize::MAX;
     'nodes: for node in nodes {
