@@ -44,7 +44,8 @@ use Rattle.proto_names.proofs.Alike.{any_agree}
 use Rattle.proto_resolve.proofs.Firsts.{found_has, is_another, is_own, is_visible}
 use Rattle.link_changes.specs.Asked.{asked_by, names_asked_in, names_asked, scopes_asked}
 use Rattle.link_changes.specs.Laws.{AskedLaw, AsksTheSame, seen_named}
-use Rattle.link_changes.specs.Touched.{links_after, package_name, target_after, use_after}
+use Rattle.proto_names.specs.Outlines.{package_name}
+use Rattle.link_changes.specs.Touched.{links_after, target_after, use_after}
 
 -- ---- lists and options
 

@@ -23,7 +23,8 @@ use Rattle.proto_resolve.specs.Resolved.{sites_at}
 use Rattle.proto_resolve.proofs.Firsts.{agrees, differs}
 use Rattle.link_changes.specs.Asked.{names_asked}
 use Rattle.link_changes.specs.Laws.{MovedLaw, MovesAlike, decl_moved, seen_named}
-use Rattle.link_changes.specs.Touched.{declared_as, package_name}
+use Rattle.proto_names.specs.Outlines.{package_name}
+use Rattle.link_changes.specs.Touched.{declared_as}
 use Rattle.link_changes.proofs.AskedAlone.{IsToldTheSame, KeepsPlace, near, package_at, resolved_same, said_of_import}
 use Rattle.link_changes.proofs.NamedByFile.{Kinded, named_by, of_file, seen_kept}
 

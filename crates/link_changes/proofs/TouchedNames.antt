@@ -17,7 +17,8 @@ use Rattle.link_changes.specs.declared.renumbering.Renumbering.{Renumbering}
 use Rattle.link_changes.specs.declared.touched.Touched.{Touched}
 use Rattle.link_changes.specs.Asked.{may_ask, names_asked}
 use Rattle.link_changes.specs.Laws.{DifferBy, seen_named, TouchedLaw}
-use Rattle.link_changes.specs.Touched.{decl_after, declared_as, is_touched, package_name, renumbered}
+use Rattle.proto_names.specs.Outlines.{package_name}
+use Rattle.link_changes.specs.Touched.{decl_after, declared_as, is_touched, renumbered}
 use Rattle.link_changes.proofs.AskedAlone.{asked_law}
 use Rattle.link_changes.proofs.NamedByFile.{Kinded, of_file, named_by, named_in, seen_kept}
 

@@ -10,11 +10,12 @@ use Rattle.import_graph.specs.Moves.{IsMovedOutlook, place}
 use Rattle.import_graph.specs.Outlooks.{outlook}
 use Rattle.proto_names.specs.declared.decl_ref.DeclRef.{DeclRef}
 use Rattle.proto_names.specs.Files.{all_named, decl_at, decls_at, facts_at, is_seen}
+use Rattle.proto_names.specs.Outlines.{package_name}
 use Rattle.proto_resolve.specs.Resolved.{resolved, sites_at}
 use Rattle.link_changes.specs.declared.asked.Asked.{Asked}
 use Rattle.link_changes.specs.declared.touched.Touched.{Touched}
 use Rattle.link_changes.specs.Asked.{has_all, may_ask, names_asked}
-use Rattle.link_changes.specs.Touched.{decl_after, is_touched, links_after, package_name, Tells}
+use Rattle.link_changes.specs.Touched.{decl_after, is_touched, links_after, Tells}
 
 -- the declarations of a full name that f sees, its own among them, each with its kind
 abbrev pub seen_named : List NamedFacts → ℕ → List ℕ → List ℕ → List (DeclRef × DeclKind)

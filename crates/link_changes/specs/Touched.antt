@@ -1,10 +1,11 @@
 -- What a change of a file's declarations touches.
-use Rattle.std.specs.Prelude.{◌≡◌, ℕ, ◌-◌, ◌==◌, ◌&&◌, nat_le, nat_lt, List, Bool, false, Option, map, filter, bytes_eq, option_map, if◌then◌else◌}
+use Rattle.std.specs.Prelude.{◌≡◌, ℕ, ◌-◌, ◌==◌, ◌&&◌, nat_le, nat_lt, List, Bool, false, map, filter, bytes_eq, if◌then◌else◌}
 use Rattle.std.specs.List.{enumerate_from, list_any}
 use Rattle.file_facts.specs.declared.fact.DeclKind.{DeclKind}
 use Rattle.file_facts.specs.declared.fact.FileFacts.{FileFacts}
 use Rattle.proto_resolve.specs.declared.resolve.Links.{Links}
 use Rattle.proto_names.specs.declared.decl_ref.DeclRef.{DeclRef}
+use Rattle.proto_names.specs.Outlines.{package_name}
 use Rattle.proto_resolve.specs.declared.target.Target.{Target}
 use Rattle.proto_resolve.specs.declared.target.Target.TheVariants.{Declared, Package}
 use Rattle.proto_resolve.specs.declared.uses.NameUse.{NameUse}
@@ -12,10 +13,6 @@ use Rattle.link_changes.specs.declared.keys.NameKeys.{NameKeys}
 use Rattle.link_changes.specs.declared.renumbering.Renumbering.{Renumbering}
 use Rattle.link_changes.specs.declared.touched.Touched.{Touched}
 use Rattle.link_changes.specs.Keys.{key, last_key}
-
--- the full name of a file's package
-abbrev pub package_name : FileFacts → Option (List ℕ)
-package_name facts = option_map (λ p. p.full_name) facts.«package»
 
 -- a file's declarations of a full name: their numbers and kinds
 abbrev pub declared_as : FileFacts → List ℕ → List (ℕ × DeclKind)

@@ -1,8 +1,8 @@
 // What a change of a file's declarations touches.
 ghost use Rattle.std.specs.Prelude.{◌≡◌, ◌≤◌, ◌-◌, ◌++◌, ◌↔◌, take, drop, length, map, IsTrue, IfOk, IfSome, OnOk};
-ghost use Rattle.proto_names.specs.Outlines.{declared};
+ghost use Rattle.proto_names.specs.Outlines.{declared, package_name};
 ghost use Rattle.link_changes.specs.Keys as spec;
-ghost use Rattle.link_changes.specs.Touched.{package_name, Tells};
+ghost use Rattle.link_changes.specs.Touched.{Tells};
 
 use crate::keys::{NameKeys, keys_of};
 use crate::renumbering::Renumbering;

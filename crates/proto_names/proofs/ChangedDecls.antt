@@ -174,26 +174,26 @@ module _ (files : List NamedFacts) (f : ℕ) (decls : List DeclRef) (had : HadDe
   nothing = record { path = []; facts = no_facts }
 
   file_now : NamedFacts
-  file_now = record { path = get_or (map (λ (file : NamedFacts). file.path) had.old) f []; facts = had.facts }
+  file_now = record { path = get_or (map (λ (file : NamedFacts). file.path) had.old) f []; facts = had.changed.facts }
 
-  facts_now : facts_at files f ≡ had.facts
+  facts_now : facts_at files f ≡ had.changed.facts
   unfolding file_now
-  facts_now = ap (λ fs. facts_at fs f) had.files_are
-      ∙ get_or-map (λ (file : NamedFacts). file.facts) (set had.old f file_now) f nothing no_facts (omega (arith, had.within, length-set had.old f file_now))
-      ∙ ap (λ (file : NamedFacts). file.facts) (get_or-set_same had.old f file_now nothing had.within)
+  facts_now = ap (λ fs. facts_at fs f) had.changed.files_are
+      ∙ get_or-map (λ (file : NamedFacts). file.facts) (set had.old f file_now) f nothing no_facts (omega (arith, had.changed.within, length-set had.old f file_now))
+      ∙ ap (λ (file : NamedFacts). file.facts) (get_or-set_same had.old f file_now nothing had.changed.within)
 
   all_parted : Parted f (decls_in (get_or had.old f nothing)) (decls_at files f) decls (all_decls files)
   unfolding file_now
   all_parted =
       let first : 0 + f ≡ f = omega arith in
-      let there = subst (λ m. Parted m (decls_in (get_or had.old f nothing)) (decls_in file_now) (all_decls had.old) (all_decls (with_facts had.old f had.facts))) first (parted_from 0 f had.old file_now nothing had.within) in
+      let there = subst (λ m. Parted m (decls_in (get_or had.old f nothing)) (decls_in file_now) (all_decls had.old) (all_decls (with_facts had.old f had.changed.facts))) first (parted_from 0 f had.old file_now nothing had.changed.within) in
       subst (λ ds. Parted f (decls_in (get_or had.old f nothing)) ds decls (all_decls files)) (ap (λ (facts : FileFacts). facts.decls) (sym facts_now))
       (subst (λ ds. Parted f (decls_in (get_or had.old f nothing)) (decls_in file_now) ds (all_decls files)) (sym had.were)
-      (subst (λ fs. Parted f (decls_in (get_or had.old f nothing)) (decls_in file_now) (all_decls had.old) (all_decls fs)) (sym had.files_are) there))
+      (subst (λ fs. Parted f (decls_in (get_or had.old f nothing)) (decls_in file_now) (all_decls had.old) (all_decls fs)) (sym had.changed.files_are) there))
 
   pub decls_are : (file : NamedFacts) → decls_at files f ≡ (let there = get_or files f file in decls_in there)
   unfolding file_now
-  decls_are file = ap (λ (facts : FileFacts). facts.decls) (get_or-map (λ (x : NamedFacts). x.facts) files f file no_facts (omega (arith, had.within, ap length had.files_are, length-set had.old f file_now)))
+  decls_are file = ap (λ (facts : FileFacts). facts.decls) (get_or-map (λ (x : NamedFacts). x.facts) files f file no_facts (omega (arith, had.changed.within, ap length had.changed.files_are, length-set had.old f file_now)))
 
   pub ends_behind : i ≤ j
   ends_behind = in_order f (decls_in (get_or had.old f nothing)) (decls_at files f) decls (all_decls files) all_parted i j start end

@@ -191,9 +191,9 @@ module _ (files : List NamedFacts) (at : ℕ) (file : NamedFacts) (within : at �
   -- ---- the file comes
 
   pub names_were : (come : List HashedDecl) (bs bs' : List HashedDecls) → come ≡ map (hashed (name_at more)) own → AreMoved Comes at bs bs' → AreInBuckets (by_name (name_at files)) (name_entries files) bs
-      → WereInBuckets (λ old. by_name (name_at old)) name_entries more [] come bs'
+      → WereInBuckets by_name (name_at more) (name_entries more) [] come bs'
   names_were come bs bs' come_are moves are = record {
-    old = more;
+    old_name = name_at more;
     stay = map (hashed (name_at more)) stay;
     were = rw append-nil
         (subst (λ es. AreInBuckets (by_name (name_at more)) es bs') names_moved
@@ -203,9 +203,9 @@ module _ (files : List NamedFacts) (at : ℕ) (file : NamedFacts) (within : at �
   }
 
   pub holders_were : (come : List HashedDecl) (bs bs' : List HashedDecls) → come ≡ map (hashed (lasts more)) (filter (holds more) own) → AreMoved Comes at bs bs'
-      → AreInBuckets (by_scope (name_at files)) (holder_entries files) bs → WereInBuckets (λ old. by_scope (name_at old)) holder_entries more [] come bs'
+      → AreInBuckets (by_scope (name_at files)) (holder_entries files) bs → WereInBuckets by_scope (name_at more) (holder_entries more) [] come bs'
   holders_were come bs bs' come_are moves are = record {
-    old = more;
+    old_name = name_at more;
     stay = map (hashed (lasts more)) (filter (holds more) stay);
     were = rw append-nil
         (subst (λ es. AreInBuckets (by_scope (name_at more)) es bs') holders_moved

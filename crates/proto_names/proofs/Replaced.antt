@@ -285,9 +285,9 @@ module _ (old : List NamedFacts) (f : ℕ) (facts : FileFacts) (there : f < leng
   same_holders = All-weaker SayTheSame (λ r. (lasts old r ≡ lasts new r) × (holds old r ≡ holds new r)) (λ r same. (ap (λ d. last_of d.1) same, ap (λ d. is_holder d.0) same)) stay all_say_the_same
 
   pub names_were : (gone come : List HashedDecl) (buckets : List HashedDecls) → gone ≡ map (hashed (name_at old)) (refs_between f front (was - back)) → come ≡ map (hashed (name_at new)) (refs_between f front (is - back))
-      → AreInBuckets (by_name (name_at old)) (name_entries old) buckets → WereInBuckets (λ files. by_name (name_at files)) name_entries new gone come buckets
+      → AreInBuckets (by_name (name_at old)) (name_entries old) buckets → WereInBuckets by_name (name_at new) (name_entries new) gone come buckets
   names_were gone come buckets gone_are come_are are = record {
-    old = old;
+    old_name = name_at old;
     stay = map (hashed (name_at old)) stay;
     were = buckets_moved (by_name (name_at old)) (name_entries old) (map (hashed (name_at old)) stay ++ gone) buckets
         (λ p. rw gone_are (sym (names_gathered (name_at old) (all_decls old) stay (refs_between f front (was - back)) same_old p))) are;
@@ -297,9 +297,9 @@ module _ (old : List NamedFacts) (f : ℕ) (facts : FileFacts) (there : f < leng
 
   pub holders_were : (gone come : List HashedDecl) (buckets : List HashedDecls) → gone ≡ map (hashed (lasts old)) (filter (holds old) (refs_between f front (was - back)))
       → come ≡ map (hashed (lasts new)) (filter (holds new) (refs_between f front (is - back)))
-      → AreInBuckets (by_scope (name_at old)) (holder_entries old) buckets → WereInBuckets (λ files. by_scope (name_at files)) holder_entries new gone come buckets
+      → AreInBuckets (by_scope (name_at old)) (holder_entries old) buckets → WereInBuckets by_scope (name_at new) (holder_entries new) gone come buckets
   holders_were gone come buckets gone_are come_are are = record {
-    old = old;
+    old_name = name_at old;
     stay = map (hashed (lasts old)) (filter (holds old) stay);
     were = buckets_moved (by_scope (name_at old)) (holder_entries old) (map (hashed (lasts old)) (filter (holds old) stay) ++ gone) buckets
         (λ p. rw gone_are (sym (holders_gathered (lasts old) (all_decls old) stay (refs_between f front (was - back)) same_old (holds old) p))) are;
@@ -309,18 +309,18 @@ module _ (old : List NamedFacts) (f : ℕ) (facts : FileFacts) (there : f < leng
 
 -- ---- what stays keeps its order
 
-module _ (old new : List NamedFacts) where
+module _ (old new : DeclRef → List ℕ) where
   abbrev IsNamedAlike : HashedDecl → Type 0
-  IsNamedAlike k = name_at old (decl_of k) ≡ name_at new (decl_of k)
+  IsNamedAlike k = old (decl_of k) ≡ new (decl_of k)
 
   abbrev named_apart : HashedDecl → Bool
-  named_apart k = not (bytes_eq (name_at old (decl_of k)) (name_at new (decl_of k)))
+  named_apart k = not (bytes_eq (old (decl_of k)) (new (decl_of k)))
 
   same_so : (k : HashedDecl) → named_apart k ≡ false → IsNamedAlike k
-  same_so k e = (bytes_eq-Decides (name_at old (decl_of k)) (name_at new (decl_of k))).0 (twice (bytes_eq (name_at old (decl_of k)) (name_at new (decl_of k))) ∙ ap not e)
+  same_so k e = (bytes_eq-Decides (old (decl_of k)) (new (decl_of k))).0 (twice (bytes_eq (old (decl_of k)) (new (decl_of k))) ∙ ap not e)
 
   so_same : (k : HashedDecl) → IsNamedAlike k → named_apart k ≡ false
-  so_same k e = ap not ((bytes_eq-Decides (name_at old (decl_of k)) (name_at new (decl_of k))).1 e)
+  so_same k e = ap not ((bytes_eq-Decides (old (decl_of k)) (new (decl_of k))).1 e)
 
   still_in_order : (order order' : HashedDecl → HashedDecl → Ordering) → ((a b : HashedDecl) → IsNamedAlike a → IsNamedAlike b → order a b ≡ order' a b)
       → (es : List HashedDecl) (buckets : List HashedDecls) → All IsNamedAlike es → AreInBuckets order es buckets → AreInBuckets order' es buckets
@@ -338,8 +338,8 @@ module _ (old new : List NamedFacts) where
         };
   }
 
-  pub names_stay : (es : List HashedDecl) (buckets : List HashedDecls) → All IsNamedAlike es → AreInBuckets (by_name (name_at old)) es buckets → AreInBuckets (by_name (name_at new)) es buckets
-  names_stay es buckets all are = still_in_order (by_name (name_at old)) (by_name (name_at new)) (λ a b in_a in_b. names_alike (name_at old) (name_at new) a b in_a in_b) es buckets all are
+  pub names_stay : (es : List HashedDecl) (buckets : List HashedDecls) → All IsNamedAlike es → AreInBuckets (by_name old) es buckets → AreInBuckets (by_name new) es buckets
+  names_stay es buckets all are = still_in_order (by_name old) (by_name new) (λ a b in_a in_b. names_alike old new a b in_a in_b) es buckets all are
 
-  pub holders_stay : (es : List HashedDecl) (buckets : List HashedDecls) → All IsNamedAlike es → AreInBuckets (by_scope (name_at old)) es buckets → AreInBuckets (by_scope (name_at new)) es buckets
-  holders_stay es buckets all are = still_in_order (by_scope (name_at old)) (by_scope (name_at new)) (λ a b in_a in_b. scopes_alike (name_at old) (name_at new) a b in_a in_b) es buckets all are
+  pub holders_stay : (es : List HashedDecl) (buckets : List HashedDecls) → All IsNamedAlike es → AreInBuckets (by_scope old) es buckets → AreInBuckets (by_scope new) es buckets
+  holders_stay es buckets all are = still_in_order (by_scope old) (by_scope new) (λ a b in_a in_b. scopes_alike old new a b in_a in_b) es buckets all are

@@ -9,12 +9,16 @@ use Rattle.proto_names.specs.Files.{all_decls}
 use Rattle.proto_names.specs.Outlines.{with_facts}
 use Rattle.proto_names.specs.Packages.{ArePackaged}
 
--- these are all declarations of the files before other facts were put in the place of one's
-pub record HadDecls (files : List NamedFacts) (file : ℕ) (decls : List DeclRef) : Type 0 where
-  pub old : List NamedFacts
+-- other facts were put in the place of one file's among the old files
+pub record HasChanged (files : List NamedFacts) (file : ℕ) (old : List NamedFacts) : Type 0 where
   pub facts : FileFacts
   pub within : file < length old
   pub files_are : files ≡ with_facts old file facts
+
+-- these are all declarations of the files before other facts were put in the place of one's
+pub record HadDecls (files : List NamedFacts) (file : ℕ) (decls : List DeclRef) : Type 0 where
+  pub old : List NamedFacts
+  pub changed : HasChanged files file old
   pub were : decls ≡ all_decls old
 
 -- the file of the number k came to others

@@ -1,16 +1,15 @@
--- Buckets of entries, before other facts were put in the place of a file's.
+-- Buckets of entries, before other facts were put in the place of a file's, or a file came.
 use Rattle.std.specs.Prelude.{◌≡◌, ℕ, ◌+◌, ◌-◌, ◌<◌, ◌≤◌, List, ◌++◌, All, true, false, length, map, slice_index_or}
 use Rattle.std.specs.List.{range_with_len}
 use Rattle.std.specs.Ordering.{is_lt}
 use Rattle.std.specs.declared.cmp.Ordering.{Ordering}
 use Rattle.file_facts.specs.declared.fact.Decl.{Decl}
-use Rattle.file_facts.specs.declared.named_facts.NamedFacts.{NamedFacts}
 use Rattle.proto_names.specs.declared.hashed.HashedDecl.{HashedDecl}
 use Rattle.proto_names.specs.declared.hashed.HashedDecls.{HashedDecls}
 use Rattle.proto_names.specs.declared.decl_ref.DeclRef.{DeclRef}
 use Rattle.proto_names.specs.Buckets.{AreInBuckets}
 use Rattle.proto_names.specs.Outlines.{declared}
-use Rattle.proto_names.specs.Tables.{name_at, AreRearranged}
+use Rattle.proto_names.specs.Tables.{AreRearranged}
 
 -- the declarations of a file from one number up to another
 abbrev pub refs_between : ℕ → ℕ → ℕ → List DeclRef
@@ -34,10 +33,10 @@ pub record GoesBetween (order : HashedDecl → HashedDecl → Ordering) (one : H
   pub before : (n : ℕ) (d : HashedDecl) → n + 1 ≡ place → is_lt (order one (slice_index_or entries n d)) ≡ false
   pub behind : (d : HashedDecl) → place < length entries → is_lt (order one (slice_index_or entries place d)) ≡ true
 
--- the buckets are those of other files, of which some entries stay, which these files call the same. Others are gone, and others come.
-pub record WereInBuckets (order : List NamedFacts → HashedDecl → HashedDecl → Ordering) (entries : List NamedFacts → List HashedDecl) (files : List NamedFacts) (gone come : List HashedDecl) (buckets : List HashedDecls) : Type 0 where
-  pub old : List NamedFacts
+-- the buckets have what stays and what is gone, in the order of older names; what stays is still called the same, and with what comes it is all entries
+pub record WereInBuckets (order : (DeclRef → List ℕ) → HashedDecl → HashedDecl → Ordering) (name : DeclRef → List ℕ) (entries gone come : List HashedDecl) (buckets : List HashedDecls) : Type 0 where
+  pub old_name : DeclRef → List ℕ
   pub stay : List HashedDecl
-  pub were : AreInBuckets (order old) (stay ++ gone) buckets
-  pub now : AreRearranged (entries files) (stay ++ come)
-  pub alike : All (λ k. name_at old k.decl ≡ name_at files k.decl) stay
+  pub were : AreInBuckets (order old_name) (stay ++ gone) buckets
+  pub now : AreRearranged entries (stay ++ come)
+  pub alike : All (λ k. old_name k.decl ≡ name k.decl) stay

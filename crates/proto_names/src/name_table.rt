@@ -175,8 +175,8 @@ fn with_entries(
     gone: &OwnEntries,
     come: &OwnEntries,
 ) -> Result<NameTable, AllocError>
-    requires names { WereInBuckets (λ old. by_name (name_at old)) name_entries files.items gone.now.names.items come.now.names.items names.list.items }
-    requires holders { WereInBuckets (λ old. by_scope (name_at old)) holder_entries files.items gone.now.holders.items come.now.holders.items holders.list.items }
+    requires names { WereInBuckets by_name (name_at files.items) (name_entries files.items) gone.now.names.items come.now.names.items names.list.items }
+    requires holders { WereInBuckets by_scope (name_at files.items) (holder_entries files.items) gone.now.holders.items come.now.holders.items holders.list.items }
     ensures { IfOk result (λ t. t ≡ files.items) }
 {
     if is_due(alloc, &names, gone.names.as_slice(), come.names.as_slice())?

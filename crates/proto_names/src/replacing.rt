@@ -129,7 +129,7 @@ pub fn change_names(
     come: &[HashedDecl],
     names: &mut Buckets,
 ) -> Result<(), AllocError>
-    requires { WereInBuckets (λ old. by_name (name_at old)) name_entries files.now gone.now come.now names.old.list.items }
+    requires { WereInBuckets by_name (name_at files.now) (name_entries files.now) gone.now come.now names.old.list.items }
     ensures { OnOk result (AreInBuckets (by_name (name_at files.now)) (name_entries files.now) names.new.list.items) }
 {
     names.leave_out(gone);
@@ -143,7 +143,7 @@ pub fn change_holders(
     come: &[HashedDecl],
     holders: &mut Buckets,
 ) -> Result<(), AllocError>
-    requires { WereInBuckets (λ old. by_scope (name_at old)) holder_entries files.now gone.now come.now holders.old.list.items }
+    requires { WereInBuckets by_scope (name_at files.now) (holder_entries files.now) gone.now come.now holders.old.list.items }
     ensures { OnOk result (AreInBuckets (by_scope (name_at files.now)) (holder_entries files.now) holders.new.list.items) }
 {
     holders.leave_out(gone);

@@ -1,6 +1,5 @@
 -- What a table knows of its files beside their declarations by name.
-use Rattle.std.specs.Prelude.{◌≡◌, ℕ, ◌<◌, Bool, true, List, length, option_map}
-use Rattle.file_facts.specs.declared.fact.FileFacts.{FileFacts}
+use Rattle.std.specs.Prelude.{◌≡◌, ℕ, Bool, true, List}
 use Rattle.file_facts.specs.declared.named_facts.NamedFacts.{NamedFacts}
 use Rattle.import_graph.specs.Arrivals.{NobodyImports}
 use Rattle.import_graph.specs.Imports.{graph_of}
@@ -8,9 +7,9 @@ use Rattle.import_graph.specs.Paths.{IsInPathOrder}
 use Rattle.proto_resolve.specs.declared.table_base.TableBase.{TableBase}
 use Rattle.proto_names.specs.Files.{facts_at}
 use Rattle.proto_resolve.specs.Outlines.{import_outline}
-use Rattle.proto_names.specs.Outlines.{with_facts}
+use Rattle.proto_names.specs.Outlines.{package_name}
 use Rattle.proto_names.specs.Packages.{AreNoLonger, ArePackaged}
-use Rattle.proto_names.specs.Changes.{HasCome}
+use Rattle.proto_names.specs.Changes.{HasChanged, HasCome}
 
 -- the graph and the packages are those of the files, which are in the order of their paths; no package has a longer name
 pub record IsBaseOf (files : List NamedFacts) (base : TableBase) : Type 0 where
@@ -26,12 +25,11 @@ pub record WasBaseOfOthers (files : List NamedFacts) (k : ℕ) (base : TableBase
   pub was : IsBaseOf others base
   pub nobody : (let file = came.file in NobodyImports others file.path)
 
--- the base is that of the files before other facts, which say the same of imports, were put in the place of one's; where `same_package` says so, the package of that one has the same name
+-- the base is that of the files before other facts, which say the same of imports, were put in the place of one's, with the same name
+-- of its package if `same_package`
 pub record WasBaseOf (files : List NamedFacts) (file : ℕ) (same_package : Bool) (base : TableBase) : Type 0 where
   pub old : List NamedFacts
-  pub facts : FileFacts
-  pub within : file < length old
-  pub files_are : files ≡ with_facts old file facts
+  pub changed : HasChanged files file old
   pub was : IsBaseOf old base
-  pub imports : import_outline facts ≡ import_outline (facts_at old file)
-  pub «package» : same_package ≡ true → option_map (λ p. p.full_name) (let now = facts in now.«package») ≡ option_map (λ p. p.full_name) (let before = facts_at old file in before.«package»)
+  pub imports : import_outline changed.facts ≡ import_outline (facts_at old file)
+  pub «package» : same_package ≡ true → package_name changed.facts ≡ package_name (facts_at old file)

@@ -7,7 +7,7 @@ use Rattle.proto_names.proofs.Replaced.{holders_stay}
 use Rattle.proto_names.proofs.replacing.change_holders.Goals as goal
 
 pub leave_out-requires : goal.leave_out-requires
-leave_out-requires c = let w = c.requires in (by_scope (name_at w.old), scopes_total (name_at w.old), (w.stay, w.were))
+leave_out-requires c = let w = c.requires in (by_scope w.old_name, scopes_total w.old_name, (w.stay, w.were))
 
 pub add-requires-clause-total : goal.add-requires-clause-total
 add-requires-clause-total c = scopes_total (name_at c.args.files.now)
@@ -15,11 +15,11 @@ add-requires-clause-total c = scopes_total (name_at c.args.files.now)
 pub add-requires-clause-buckets : goal.add-requires-clause-buckets
 add-requires-clause-buckets c =
     let w = c.requires in
-    (w.stay, holders_stay w.old c.args.files.now w.stay c.leave_out.new.self.list.items w.alike (c.leave_out.ensures (by_scope (name_at w.old)) w.stay (scopes_total (name_at w.old)) w.were))
+    (w.stay, holders_stay w.old_name (name_at c.args.files.now) w.stay c.leave_out.new.self.list.items w.alike (c.leave_out.ensures (by_scope w.old_name) w.stay (scopes_total w.old_name) w.were))
 
 pub returns : goal.returns
 returns c =
     let w = c.requires in
-    let left = holders_stay w.old c.args.files.now w.stay c.leave_out.new.self.list.items w.alike (c.leave_out.ensures (by_scope (name_at w.old)) w.stay (scopes_total (name_at w.old)) w.were) in
+    let left = holders_stay w.old_name (name_at c.args.files.now) w.stay c.leave_out.new.self.list.items w.alike (c.leave_out.ensures (by_scope w.old_name) w.stay (scopes_total w.old_name) w.were) in
     on_ok_weaker c.add.result
     (λ added. buckets_moved (by_scope (name_at c.args.files.now)) (w.stay ++ c.args.come.now) (holder_entries c.args.files.now) c.add.new.self.list.items w.now (added w.stay left)) c.add.ensures

@@ -8,4 +8,4 @@ replace_decls-requires c =
     let files : List NamedFacts = c.self.inside.table in
     let seen : c.args.self ≡ files = cc in
     let is : c.files.result.now ≡ with_facts files c.args.file c.args.facts = c.files.ensures ∙ c.in_ok-table.ensures.table in
-    record { old = files; facts = c.args.facts; within = rw seen at c.requires; files_are = is; were = c.self.invariant }
+    record { old = files; changed = record { facts = c.args.facts; within = rw seen at c.requires; files_are = is }; were = c.self.invariant }

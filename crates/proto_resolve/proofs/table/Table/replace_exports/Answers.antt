@@ -1,10 +1,8 @@
 use Rattle.std.proofs.Common.{◌≡◌, ◌∙◌, ◌<◌, List, length, get_or, sym, ap}
-use Rattle.std.specs.Prelude.{option_map}
 use Rattle.std.proofs.lemmas.List.{get_or-map}
-use Rattle.file_facts.specs.declared.fact.FileFacts.{FileFacts}
-use Rattle.file_facts.specs.declared.fact.PackageFact.{PackageFact}
 use Rattle.file_facts.specs.declared.named_facts.NamedFacts.{NamedFacts}
 use Rattle.proto_names.specs.Files.{facts_at, no_facts}
+use Rattle.proto_names.specs.Outlines.{package_name}
 use Rattle.proto_resolve.proofs.table.Table.replace_exports.Goals as goal
 
 pub changed-requires : goal.changed-requires
@@ -17,12 +15,10 @@ changed-requires c =
     ∙ sym (get_or-map (λ (x : NamedFacts). x.facts) files c.args.file c.index-files-file.result no_facts there) in
     record {
       old = files;
-      facts = c.args.facts;
-      within = there;
-      files_are = c.files-2.ensures ∙ c.in_ok-names.ensures;
+      changed = record { facts = c.args.facts; within = there; files_are = c.files-2.ensures ∙ c.in_ok-names.ensures };
       was = c.self.invariant;
       imports = rw seen at c.requires.imports;
-      «package» = λ e. ap (λ (facts : FileFacts). option_map (λ (p : PackageFact). p.full_name) facts.«package») (sym c.get.ensures)
+      «package» = λ e. ap package_name (sym c.get.ensures)
           ∙ c.have_one_name-same_package.ensures.0 e
-          ∙ ap (λ (facts : FileFacts). option_map (λ (p : PackageFact). p.full_name) facts.«package») facts_are;
+          ∙ ap package_name facts_are;
     }
