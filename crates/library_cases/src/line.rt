@@ -39,11 +39,34 @@ impl Line {
         self.note(put);
     }
 
+    /// Writes `true` or `false`.
+    pub fn put_bool(&mut self, value: bool) {
+        self.put(if value { "true" } else { "false" });
+    }
+
+    /// Writes a fault by its number.
+    pub fn put_fault(&mut self, code: u32) {
+        self.put("fault ");
+        self.put_number(code as u64);
+    }
+
     /// Writes a text with the characters that stand for others, and no `S|`.
     pub fn put_shown(&mut self, text: &str) {
         for character in text.chars() {
             let put = self.text.push(marked(character));
             self.note(put);
+        }
+    }
+
+    /// Writes the answer to one of several cases that are to have the same: once, and again, with the case, where it differs.
+    pub fn put_once(&mut self, case: &str, answer: &str) {
+        if self.as_str().is_empty() {
+            self.put(answer);
+        } else if self.as_str() != answer {
+            self.put("; but at ");
+            self.put(case);
+            self.put(": ");
+            self.put(answer);
         }
     }
 
