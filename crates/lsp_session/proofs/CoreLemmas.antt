@@ -27,7 +27,7 @@ use Rattle.lsp_session.specs.Core.{Event, Arrive, Advance, Give, Offer, Fail, me
 use Rattle.lsp_session.specs.Run.{event_of}
 use Rattle.lsp_session.specs.Session.{State, Pending, start, turn, path_of, path_in, replies_of, replies_to, waits, needs_analysis, next, session}
 use Rattle.lsp_session.specs.Steps.{NeedsAnalysis, unprocessed, right_work, with_round, with_rounds, IsWorked, HasWorked, Knows, Awaits, WorksOn, HandsOut, Progresses, replies_after}
-use Rattle.lsp_session.specs.Working.{events_for_path, events_by_method, events_in_phase, events_of, board_events_of}
+use Rattle.lsp_session.specs.BoardEvents.{events_for_path, events_by_method, events_in_phase, events_of, board_events_of}
 use Rattle.lsp_session.specs.declared.phase.Phase.{Phase}
 use Rattle.lsp_session.specs.declared.phase.Phase.TheVariants.{Running}
 use Rattle.lsp_session.specs.declared.step.Step.{Step}

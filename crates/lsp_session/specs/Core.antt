@@ -9,7 +9,7 @@ use Rattle.lsp_config.specs.Configuration.{Configuration, files_of}
 use Rattle.lsp_workspace.specs.Files.{workspace}
 use Rattle.lsp_workspace.specs.Texts.{StampsRunOut, first_events}
 use Rattle.lsp_session.specs.Session.{State, Pending, Turn, turn, waits, needs_analysis, session}
-use Rattle.lsp_session.specs.Working.{board_events_of}
+use Rattle.lsp_session.specs.BoardEvents.{board_events_of}
 use Rattle.lsp_session.specs.declared.step.Step.{Step}
 use Rattle.lsp_session.specs.declared.step.Step.TheVariants.{Begin, Finish}
 

@@ -8,7 +8,7 @@ ghost use Rattle.lsp_workspace.specs.Files.{root_at};
 ghost use Rattle.lsp_workspace.specs.Texts.{event_at, events_at};
 ghost use Rattle.lsp_workspace.specs.View.{files_view};
 ghost use Rattle.lsp_session.specs.Session as spec;
-ghost use Rattle.lsp_session.specs.Working as working;
+ghost use Rattle.lsp_session.specs.BoardEvents as on_board;
 
 use crate::pending::Pending;
 use crate::session::Session;
@@ -86,7 +86,7 @@ impl Session {
         ensures state { OnOk result (state_of self.now workspace.new ≡ spec.opened (state_of self.now workspace.old) (opened_of (view params))) }
         ensures pending { IfOk result (λ p. pending_view p ≡ spec.after_open (spec.opened_path (state_of self.now workspace.old) (view params))) }
         ensures board { OnOk result ((opening : ℕ) (events : List Event) → IsAfter opening workspace.old.board events → IsAfter opening workspace.new.board
-            (working.events_for_path (λ path. event_at path workspace.new.files ∷ []) (spec.opened_path (state_of self.now workspace.old) (view params)) ++ events)) }
+            (on_board.events_for_path (λ path. event_at path workspace.new.files ∷ []) (spec.opened_path (state_of self.now workspace.old) (view params)) ++ events)) }
         ensures exhausted { result ≡ Err BoardFault.Exhausted → IsExhausted workspace.new.board }
         ensures err { OnErr result (workspace.new.board ≡ workspace.old.board) }
     {
@@ -113,7 +113,7 @@ impl Session {
         ensures state { OnOk result (state_of self.now workspace.new ≡ spec.changed (state_of self.now workspace.old) (changed_of (view params))) }
         ensures pending { IfOk result (λ p. pending_view p ≡ spec.after_change workspace.old.files (spec.changed_path (state_of self.now workspace.old) (view params))) }
         ensures board { OnOk result ((opening : ℕ) (events : List Event) → IsAfter opening workspace.old.board events → IsAfter opening workspace.new.board
-            (working.events_for_path (λ path. events_at path workspace.old.files workspace.new.files) (spec.changed_path (state_of self.now workspace.old) (view params)) ++ events)) }
+            (on_board.events_for_path (λ path. events_at path workspace.old.files workspace.new.files) (spec.changed_path (state_of self.now workspace.old) (view params)) ++ events)) }
         ensures exhausted { result ≡ Err BoardFault.Exhausted → IsExhausted workspace.new.board }
         ensures err { OnErr result (workspace.new.board ≡ workspace.old.board) }
     {
@@ -161,7 +161,7 @@ impl Session {
         ensures state { OnOk result (state_of self.now workspace.new ≡ spec.closed (state_of self.now workspace.old) (view params.now)) }
         ensures pending { IfOk result (λ p. pending_view p ≡ spec.after_close workspace.old.files (spec.path_in (state_of self.now workspace.old) (view params.now))) }
         ensures board { OnOk result ((opening : ℕ) (events : List Event) → IsAfter opening workspace.old.board events → IsAfter opening workspace.new.board
-            (working.events_for_path (λ path. events_at path workspace.old.files workspace.new.files) (spec.path_in (state_of self.now workspace.old) (view params.now)) ++ events)) }
+            (on_board.events_for_path (λ path. events_at path workspace.old.files workspace.new.files) (spec.path_in (state_of self.now workspace.old) (view params.now)) ++ events)) }
         ensures exhausted { result ≡ Err BoardFault.Exhausted → IsExhausted workspace.new.board }
         ensures err { OnErr result (workspace.new.board ≡ workspace.old.board) }
     {

@@ -12,7 +12,7 @@ ghost use Rattle.lsp_answers.specs.Questions.{answer};
 ghost use Rattle.lsp_answers.specs.Reports.{publications};
 ghost use Rattle.lsp_answers.specs.Views.{question_view};
 ghost use Rattle.lsp_session.specs.Session as spec;
-ghost use Rattle.lsp_session.specs.Working as working;
+ghost use Rattle.lsp_session.specs.BoardEvents as on_board;
 
 use crate::pending::Pending;
 use crate::phase::Phase;
@@ -152,7 +152,7 @@ impl Session {
         ensures state { OnOk result (state_of self.new workspace.new ≡ spec.running_notification (state_of self.old workspace.old) method (view params)) }
         ensures pending { IfOk result (λ p. pending_view p ≡ spec.running_publishes (state_of self.old workspace.old) method (view params)) }
         ensures board { OnOk result ((opening : ℕ) (events : List Event) → IsAfter opening workspace.old.board events
-            → IsAfter opening workspace.new.board (working.events_by_method (state_of self.old workspace.old) method (view params) workspace.new.files ++ events)) }
+            → IsAfter opening workspace.new.board (on_board.events_by_method (state_of self.old workspace.old) method (view params) workspace.new.files ++ events)) }
         ensures exhausted { result ≡ Err BoardFault.Exhausted → IsExhausted workspace.new.board }
         ensures err { OnErr result (workspace.new.board ≡ workspace.old.board) }
     {
@@ -182,7 +182,7 @@ impl Session {
         ensures pending { IfOk result (λ p. pending_view p
             ≡ spec.publishes (phase_of self.old) (state_of self.old workspace.old) method (view params)) }
         ensures board { OnOk result ((opening : ℕ) (events : List Event) → IsAfter opening workspace.old.board events
-            → IsAfter opening workspace.new.board (working.events_in_phase (phase_of self.old) (state_of self.old workspace.old) method (view params) workspace.new.files ++ events)) }
+            → IsAfter opening workspace.new.board (on_board.events_in_phase (phase_of self.old) (state_of self.old workspace.old) method (view params) workspace.new.files ++ events)) }
         ensures exhausted { result ≡ Err BoardFault.Exhausted → IsExhausted workspace.new.board }
         ensures err { OnErr result (workspace.new.board ≡ workspace.old.board) }
     {
@@ -216,7 +216,7 @@ impl Session {
         ensures state { OnOk result (state_of self.new workspace.new ≡ (spec.received (state_of self.old workspace.old) (message_view message)).state) }
         ensures pending { IfOk result (λ p. pending_view p ≡ (spec.received (state_of self.old workspace.old) (message_view message)).pending) }
         ensures board { OnOk result ((opening : ℕ) (events : List Event) → IsAfter opening workspace.old.board events
-            → IsAfter opening workspace.new.board (working.events_of (state_of self.old workspace.old) (message_view message) workspace.new.files ++ events)) }
+            → IsAfter opening workspace.new.board (on_board.events_of (state_of self.old workspace.old) (message_view message) workspace.new.files ++ events)) }
         ensures exhausted { result ≡ Err BoardFault.Exhausted → IsExhausted workspace.new.board }
         ensures err { OnErr result (workspace.new.board ≡ workspace.old.board) }
     {
@@ -247,7 +247,7 @@ impl Session {
     ) -> Result<Pending, BoardFault>
         ensures state { OnOk result (state_of self.new workspace.new ≡ (spec.turn (state_of self.old workspace.old) (message_view message)).state) }
         ensures pending { IfOk result (λ p. pending_view p ≡ (spec.turn (state_of self.old workspace.old) (message_view message)).pending) }
-        ensures board { OnOk result ((opening : ℕ) (events : List Event) → IsAfter opening workspace.old.board events → IsAfter opening workspace.new.board (working.board_events_of (state_of self.old workspace.old) (message_view message) ++ events)) }
+        ensures board { OnOk result ((opening : ℕ) (events : List Event) → IsAfter opening workspace.old.board events → IsAfter opening workspace.new.board (on_board.board_events_of (state_of self.old workspace.old) (message_view message) ++ events)) }
         ensures exhausted { result ≡ Err BoardFault.Exhausted → IsExhausted workspace.new.board }
         ensures err { OnErr result (workspace.new.board ≡ workspace.old.board) }
     {
