@@ -44,8 +44,10 @@ BOARD_REFUSED = [
     BOARD_DONE.replace("3", "fault 501"),
 ]
 
-# A run of a core: what is brought is taken, doubled, foreign and stale, and two requests wait for it.
-CHANGE = notification("textDocument/didChange", f'{{"textDocument":{{"uri":"{A}","version":2}},"contentChanges":[{{"text":{json.dumps(PROTO3)}}}]}}')
+# A run of a core: what is brought is taken, doubled, foreign and stale, and two requests wait for it. After the change the file has two declarations more.
+DECLARED = "message One {}|message Two {}|"
+CHANGED = json.dumps(PROTO3 + DECLARED.replace("|", "\n"))
+CHANGE = notification("textDocument/didChange", f'{{"textDocument":{{"uri":"{A}","version":2}},"contentChanges":[{{"text":{CHANGED}}}]}}')
 CORE_EVENTS = (
     INITIALIZE,
     OPEN,
@@ -58,7 +60,7 @@ CORE_EVENTS = (
     "made 1 z.proto S|",
     "made 1 a.proto S|#|",
     "made 1 a.proto S|#|",
-    "made 3 a.proto S|",
+    f"made 3 a.proto S|{DECLARED}",
 )
 CORE = " :: ".join(["run", *(f"> {event}" for event in CORE_EVENTS)])
 CORE_DONE = f"6 processed Taken Doubled Foreign Taken Stale Taken: {INITIALIZED} {REPORT} {report('3')}"

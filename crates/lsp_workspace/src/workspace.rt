@@ -371,13 +371,12 @@ impl Workspace {
     {
         let Workspace {
             alloc,
-            files,
             mut board,
             ..
         } = self;
         let lent = board.lend_all()?;
         let diagnosis = diagnose(rt, alloc, lent, workers, gate)?;
-        Ok(DiagnosedFiles::of(files, board, diagnosis))
+        Ok(DiagnosedFiles::of(diagnosis))
     }
 
     /// The files with their analysis. Takes no memory.

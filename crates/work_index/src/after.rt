@@ -15,8 +15,9 @@ use crate::analyse::{files_of, push_found, resolution_of};
 use crate::analysis::{Analysis, Resolutions};
 use crate::file_work::FileWork;
 use crate::moved_table::table_after;
+use crate::shared_links::SharedLinks;
 use import_graph::{FileNo, Graph, moved_outlook};
-use link_changes::{move_files, moved_law};
+use link_changes::moved_law;
 use piece_collector::Piece;
 use proto_resolve::{Index, Links, Table};
 use sqlite_items::Items;
@@ -28,7 +29,7 @@ use std::mem::replace;
 struct Earlier {
     graph: Graph,
     // The links of each file; of one from which they were taken, none.
-    links: Vec<Links>,
+    links: Vec<SharedLinks>,
 }
 
 // Of each of so many files, the number that it had, if it stayed as it was.
@@ -73,18 +74,23 @@ fn number_if_moved(
 }
 
 // Takes the links of a file out of all, and gives their declarations the numbers that files have now.
-fn take_links(alloc: Global, old: FileNo, to: &[Option<FileNo>], links: &mut Vec<Links>) -> Links
+fn take_links(
+    alloc: Global,
+    old: FileNo,
+    to: &[Option<FileNo>],
+    links: &mut Vec<SharedLinks>,
+) -> Result<SharedLinks, AllocError>
     requires { old < length links.old.items }
-    ensures taken { result ≡ links_after (decl_moved to.now) (slice_index_or links.old.items old no_links) }
-    ensures left { links.new.items ≡ slice_set links.old.items old no_links }
+    ensures taken { IfOk result (λ taken. taken ≡ links_after (decl_moved to.now) (slice_index_or links.old.items old no_links)) }
+    ensures left { OnOk result (links.new.items ≡ slice_set links.old.items old no_links) }
 {
     let none = Links {
         uses: Items::new(alloc),
         diags: Items::new(alloc),
     };
-    let mut taken = replace(&mut links[old], none);
-    move_files(to, &mut taken);
-    taken
+    let mut taken = replace(&mut links[old], SharedLinks::of(alloc, none)?);
+    taken.move_files(alloc, to)?;
+    Ok(taken)
 }
 
 // The links of a file: those that it had, if it stayed as it was and sees the same files as before; else it is linked anew.
@@ -96,7 +102,7 @@ fn links_now(
     before: Option<FileNo>,
     file: FileNo,
     pieces: &[Piece<FileWork>],
-) -> Result<Links, AllocError>
+) -> Result<SharedLinks, AllocError>
     requires file { file < length pieces.now }
     requires table { table.now ≡ all_facts (workspace_of pieces.now) }
     requires before { IfSome before (λ g. place to.now g ≡ Some file) }
@@ -106,7 +112,7 @@ fn links_now(
     ensures earlier { OnOk result (IsEarlier (file + 1) to.now (workspace_of pieces.now) earlier.new) }
 {
     match number_if_moved(&earlier.graph, table, to, before, file)? {
-        Some(old) => Ok(take_links(alloc, old, to, &mut earlier.links)),
+        Some(old) => take_links(alloc, old, to, &mut earlier.links),
         None => resolution_of(alloc, table, file, &pieces[file]),
     }
 }

@@ -23,6 +23,7 @@ mod linked;
 mod moved_table;
 mod part_table;
 mod room;
+mod shared_links;
 mod shares;
 mod source_file;
 mod table_of;
