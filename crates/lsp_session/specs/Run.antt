@@ -18,11 +18,6 @@ abbrev pub event_of : Done → Event
 event_of (job.Made piece) = Offer piece.path piece.stamp piece.text
 event_of (job.Failed path stamp) = Fail (string_bytes path) stamp
 
--- whether it tells of a job that failed
-abbrev pub has_failed : Done → Bool
-has_failed (job.Made piece) = false
-has_failed (job.Failed path stamp) = true
-
 -- what a caller lists: a message, the work on a text, a failure, or that all work is done that the core has to give
 pub data Incoming : Type 0 where
   Message : List ℕ → Incoming
