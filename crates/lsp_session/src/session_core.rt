@@ -206,8 +206,8 @@ impl Core {
 
     /// Does what [`advance`](Core::advance) does, but as many threads as there are `workers` make a whole analysis: 0 counts as 1,
     /// and over 64 as 64, and there are never more than there are files. Each thread enters the gate before each of its files. If
-    /// at most 64 files left or got other texts since the last analysis, no thread is started and no gate is entered, whatever files
-    /// came. It waits until each thread has ended.
+    /// at most 64 files came, left or got other texts since the last analysis, no thread is started and no gate is entered. It waits
+    /// until each thread has ended.
     ///
     /// `Memory` if memory was refused, here or in a thread, `ThreadRefused` if a thread couldn't be started, `Exhausted` if a text
     /// finds no stamp: then the replies of this call are lost.

@@ -15,7 +15,7 @@ ghost use Rattle.lsp_workspace.specs.View.{document_view, file_view, files_view}
 use crate::diagnosed::DiagnosedFiles;
 use crate::disk::DiskFile;
 use crate::files::{self, Document, Edits, FileEntry, Files};
-use crate::known::{Known, analyse, arrived, known_after};
+use crate::known::{Known, analyse, known_after};
 use crate::snapshot::Snapshot;
 use collector_laws::texts_of_events;
 use piece_collector::{Board, BoardFault, Job, Piece, SharedText, Verdict};
@@ -23,7 +23,7 @@ use std::alloc::{AllocError, Global};
 use std::marker::Model;
 use std::sync::Wait;
 use std::thread::Threads;
-use work_index::{AnalyseFault, FileWork, Gate, analyse_in_shares, analyse_with, diagnose};
+use work_index::{AnalyseFault, FileWork, Gate, analyse_in_shares, diagnose};
 
 /// The files that an editor's session knows, the board of their texts with the work on them, and the analysis of them.
 ///
@@ -155,7 +155,7 @@ impl Workspace {
         files::make_room(self.alloc, &mut self.files, path)?;
         tell(self.alloc, &mut self.board, path, Some(copy))?;
         files::open(&mut self.files, path, uri, document);
-        self.known = known_after(self.known.take(), own, true);
+        self.known = known_after(self.known.take(), own);
         Ok(())
     }
 
@@ -176,7 +176,7 @@ impl Workspace {
         let copy = files::copied(self.alloc, &document.text)?;
         tell(self.alloc, &mut self.board, path, Some(copy))?;
         files::set_document(&mut self.files, path, document);
-        self.known = known_after(self.known.take(), own, true);
+        self.known = known_after(self.known.take(), own);
         Ok(())
     }
 
@@ -209,10 +209,9 @@ impl Workspace {
         }
         let own = String::from_str(self.alloc, path)?;
         let kept = files::shared_kept(&self.files, path)?;
-        let stays = kept.is_some();
         tell(self.alloc, &mut self.board, path, kept)?;
         files::close(&mut self.files, path);
-        self.known = known_after(self.known.take(), own, stays);
+        self.known = known_after(self.known.take(), own);
         Ok(())
     }
 
@@ -288,24 +287,14 @@ impl Workspace {
         if self.is_current() {
             return Ok(());
         }
-        if let Some(piece) = arrived(&self.known, &self.board) {
-            let Some(known) = self.known.take() else {
-                unreachable!();
-            };
-            let analysis = analyse_with(self.alloc, known.analysis, piece)?;
-            self.known = Some(Known::current(analysis));
-            return Ok(());
-        }
-        let lent = self.board.lend_all()?;
-        let analysis = analyse(self.alloc, self.known.take(), lent.pieces());
-        self.board.take_back(lent);
-        self.known = Some(Known::current(analysis?));
+        let analysis = analyse(self.alloc, self.known.take(), &mut self.board)?;
+        self.known = Some(Known::current(self.alloc, analysis));
         Ok(())
     }
 
     /// Analyses the files, unless their analysis is known: as [`refresh`](Workspace::refresh) does, but a whole analysis is made
     /// by so many threads (see [`analyse_in_shares`]), each of which enters the gate before each of its files. If at
-    /// most 64 files left or got other texts since the last analysis, no thread is started and no gate is entered, whatever files came.
+    /// most 64 files came, left or got other texts since the last analysis, no thread is started and no gate is entered.
     /// The board has to be complete.
     ///
     /// `Memory` if memory was refused, and `ThreadRefused` if a thread was. The files and the board are then as before, or the
@@ -345,7 +334,7 @@ impl Workspace {
         match analyse_in_shares(rt, self.alloc, lent, workers, gate) {
             Ok((back, analysis)) => {
                 self.board.take_back(back);
-                self.known = Some(Known::current(analysis));
+                self.known = Some(Known::current(self.alloc, analysis));
                 Ok(())
             }
             Err(fault) => {

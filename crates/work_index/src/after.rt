@@ -8,8 +8,8 @@ ghost use Rattle.link_changes.specs.Touched.{links_after};
 ghost use Rattle.piece_collector.specs.Board.{Ascends};
 ghost use Rattle.work_index.specs.Changes.{no_links};
 ghost use Rattle.work_index.specs.Pieces.{workspace_of};
-ghost use Rattle.work_index.specs.Stayed.{AreNumbersBefore, HasMoved, IsAmong, IsEarlier};
-ghost use Rattle.work_index.specs.Workspace.{all_facts, analysis, diagnostics_of, resolution_of};
+ghost use Rattle.work_index.specs.Stayed.{AreNumbersBefore, HasMoved, IsEarlier, Stay};
+ghost use Rattle.work_index.specs.Workspace.{all_facts, analysis, diagnostics_of, resolution_of, workspace_in};
 
 use crate::analyse::{files_of, push_found, resolution_of};
 use crate::analysis::{Analysis, Resolutions};
@@ -144,10 +144,9 @@ fn link_after(
     Ok(resolutions)
 }
 
-/// The analysis of the workspace of some pieces, which are in the order of their paths, no path twice, after files came, left or got
-/// other texts. Given are the analysis before, and for each file there its number now, from 0, or `None` if it left or has another
-/// text. A file that stayed as it was, and sees the same files as before, is not linked again. An `Err` comes only where memory was refused;
-/// the earlier analysis is gone then.
+// The analysis of the workspace of some pieces after files came, left or got other texts. Given are the analysis before, and for each
+// file there its number now, or `None` if it left or has another text. A file that stayed as it was, and sees the same files as before,
+// is not linked again.
 pub fn analyse_after(
     alloc: Global,
     earlier: Analysis,
@@ -155,7 +154,7 @@ pub fn analyse_after(
     pieces: &[Piece<FileWork>],
 ) -> Result<Analysis, AllocError>
     requires ascends { Ascends pieces.now }
-    requires stayed { IsAmong earlier (workspace_of pieces.now) to.now }
+    requires stayed { Stay (workspace_in earlier) (workspace_of pieces.now) to.now }
     ensures { IfOk result (λ found. found ≡ analysis (workspace_of pieces.now)) }
 {
     moved_law();

@@ -13,9 +13,10 @@ ghost use Rattle.proto_resolve.specs.Seen.{SeenLaw};
 ghost use Rattle.link_changes.specs.Laws.{TouchedLaw};
 ghost use Rattle.link_changes.specs.Touched.{decl_after, links_after};
 ghost use Rattle.work_index.specs.declared.again.FileChange.{FileChange};
-ghost use Rattle.work_index.specs.Changes.{AreKeptBut, AreLinked, AreLinkedBefore, AreTakenBut, DifferAt, Follows, IsBefore, IsSpared, StillWait, links_under, waiting_under, waits, WasKnown};
+ghost use Rattle.work_index.specs.Changes.{AreKeptBut, AreLinked, AreLinkedBefore, AreTakenBut, DifferAt, Follows, IsSpared, StillWait, links_under, waiting_under, waits, WasKnown};
+ghost use Rattle.work_index.specs.Edited.{StaysBut};
 ghost use Rattle.work_index.specs.Pieces.{workspace_of};
-ghost use Rattle.work_index.specs.Workspace.{Workspace, all_facts, analysis, diagnostics_of, resolution_of};
+ghost use Rattle.work_index.specs.Workspace.{Workspace, all_facts, analysis, diagnostics_of, resolution_of, workspace_in};
 
 use crate::analyse::diagnostics_of;
 use crate::analysis::{Analysis, Resolutions};
@@ -405,8 +406,8 @@ fn link_waiting(
     Ok(resolutions)
 }
 
-/// The analysis of these files, made of what was known before changes of the texts of some. The pieces are those of all files, if
-/// they are at hand.
+// The analysis of these files, made of what was known before changes of the texts of some. The pieces are those of all files, if
+// they are at hand.
 pub fn bring_up(
     alloc: Global,
     outdated: Outdated,
@@ -453,17 +454,17 @@ fn with_changed(
     Ok(files)
 }
 
-/// The analysis of the workspace of some pieces, which are in the order of their paths, no path twice, after changes of the texts
-/// of some files. It is given the analysis before the changes, and the files' numbers, from 0. Links again only those files, the
-/// files of which the imports say another thing than before, and of those that see a changed one the ones that may ask for a name
-/// that the change touches: all of them if it touches many names, or the package's. An `Err` comes only where memory was refused.
+// The analysis of the workspace of some pieces after changes of the texts of some files, whose numbers are given. Links again only
+// those files, the files of which the imports say another thing than before, and of those that see a changed one the ones that may
+// ask for a name that the change touches: all of them if it touches many names, or the package's.
 pub fn analyse_again(
     alloc: Global,
     earlier: Analysis,
     changed: &[FileNo],
     pieces: &[Piece<FileWork>],
 ) -> Result<Analysis, AllocError>
-    requires { IsBefore earlier (workspace_of pieces.now) changed.now }
+    requires within { All (λ f. f < length (workspace_of pieces.now)) changed.now }
+    requires others { StaysBut changed.now (workspace_in earlier) (workspace_of pieces.now) }
     ensures { IfOk result (λ found. found ≡ analysis (workspace_of pieces.now)) }
 {
     let Analysis {

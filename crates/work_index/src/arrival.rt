@@ -58,9 +58,8 @@ fn make_way(
     Ok(())
 }
 
-/// The analysis of a workspace with one more file, which is that of the piece, from the analysis without it. None of the others imports it:
-/// those stay linked as they were, but for the numbers of files, of which none changes if its path comes after theirs. An `Err` comes only
-/// where memory was refused; the earlier analysis is gone then.
+// The analysis of a workspace with one more file, which is that of the piece, from the analysis without it. None of the others imports it:
+// those stay linked as they were, but for the numbers of files, of which none changes if its path comes after theirs.
 pub fn analyse_with(
     alloc: Global,
     earlier: Analysis,

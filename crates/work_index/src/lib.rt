@@ -28,12 +28,10 @@ mod shares;
 mod source_file;
 mod table_of;
 mod unchecked;
+mod update;
 
-pub use after::analyse_after;
-pub use again::analyse_again;
 pub use analyse::analyse_here;
 pub use analysis::Analysis;
-pub use arrival::analyse_with;
 pub use diagnosis::Diagnosis;
 pub use done::Done;
 pub use edited::{EditedText, NamedText, analyse_edited, analyse_texts};
@@ -43,3 +41,4 @@ pub use gate::{Gate, OpenGate};
 pub use in_shares::{analyse_in_shares, diagnose};
 pub use part_table::{PartTable, merge_tables};
 pub use unchecked::unchecked_law;
+pub use update::analyse_board;

@@ -27,7 +27,7 @@ invariant_of-self-2 c =
     let order : AreInPathOrder new = subst AreInPathOrder (sym (c.set_document.ensures ∙ both.1)) (changed_files-order version encoding changes path old c.self.invariant.ordered) in
     let texts : TextsChangeAt path (Some text) old new = subst (λ f. TextsChangeAt path (Some text) old f) (sym c.set_document.ensures) (document-texts path document old open_there.0 open_there.1) in
     let kept : IsKept old c.self.inside.board c.take.result = subst (λ (k : Option Known). IsKept old c.self.inside.board k) (sym c.take.ensures.value) c.self.invariant in
-    keeps path (Some text) true old new c.self.inside.board c.tell.new.board c.take.result c.known_after.result kept order c.tell.ensures.here (rw c.in_ok-copy.ensures at c.in_ok-tell.ensures.texts) texts refl (rw c.in_ok-own.ensures.ok at c.known_after.ensures)
+    keeps path (Some text) old new c.self.inside.board c.tell.new.board c.take.result c.known_after.result kept order c.tell.ensures.here (rw c.in_ok-copy.ensures at c.in_ok-tell.ensures.texts) texts (rw c.in_ok-own.ensures.ok at c.known_after.ensures)
 
 pub returns-clause-board : goal.returns-clause-board
 returns-clause-board c =

@@ -42,7 +42,7 @@ invariant_of-self-2 c =
     let order : AreInPathOrder new = subst AreInPathOrder (sym opened) (opened_files-order uri document path old c.self.invariant.ordered) in
     let texts : TextsChangeAt path (Some document.text) old new = subst (λ f. TextsChangeAt path (Some document.text) old f) (sym opened) (texts_change.opened uri document path old) in
     let kept : IsKept old c.self.inside.board c.take.result = subst (λ (k : Option Known). IsKept old c.self.inside.board k) (sym c.take.ensures.value) c.self.invariant in
-    keeps path (Some document.text) true old new c.self.inside.board c.tell.new.board c.take.result c.known_after.result kept order c.tell.ensures.here (rw c.in_ok-copy.ensures at c.in_ok-tell.ensures.texts) texts refl (rw c.in_ok-own.ensures.ok at c.known_after.ensures)
+    keeps path (Some document.text) old new c.self.inside.board c.tell.new.board c.take.result c.known_after.result kept order c.tell.ensures.here (rw c.in_ok-copy.ensures at c.in_ok-tell.ensures.texts) texts (rw c.in_ok-own.ensures.ok at c.known_after.ensures)
 
 pub returns-clause-files : goal.returns-clause-files
 returns-clause-files c =

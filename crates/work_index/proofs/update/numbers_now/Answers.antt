@@ -1,11 +1,11 @@
 use Rattle.std.proofs.Common.{◌≡◌, ◌<◌, [], ◌∷◌, length, get_or, length-append, ap, arith}
 use Rattle.std.proofs.lemmas.Option.{get_or_from_slice_get}
-use Rattle.lsp_workspace.proofs.Earlier.{one_numbered}
-use Rattle.lsp_workspace.proofs.known.numbers_now.Goals as goal
+use Rattle.work_index.proofs.Updates.{one_numbered}
+use Rattle.work_index.proofs.update.numbers_now.Goals as goal
 
 pub loop-file-preserved : goal.loop-file-preserved
 loop-file-preserved c =
-    let names = c.args.analysis.now.paths in
+    let names = c.args.earlier.now.paths in
     let file = c.loop-file.file in
     let so_far = c.loop-file.invariant in
     let there : file < length names = omega (arith, c.loop-file-test.true, c.file_count-count.ensures) in

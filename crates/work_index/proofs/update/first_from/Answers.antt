@@ -3,8 +3,9 @@ use Rattle.std.specs.Cmp.Lexicographic.{slice_cmp}
 use Rattle.std.specs.Ordering.{ordering_index}
 use Rattle.std.proofs.lemmas.Bool.{false≢true}
 use Rattle.work_index.specs.Pieces.{workspace_of}
-use Rattle.lsp_workspace.proofs.Earlier.{nothing, piece_path}
-use Rattle.lsp_workspace.proofs.known.first_from.Goals as goal
+use Rattle.work_index.proofs.Changed.{nothing}
+use Rattle.work_index.proofs.Updates.{piece_path}
+use Rattle.work_index.proofs.update.first_from.Goals as goal
 
 is_less : (o : Ordering) → not (ordering_index o == 0) ≡ false → o ≡ Less
 is_less Less is = refl
