@@ -1,4 +1,4 @@
-"""The notation of cases: lines of fields, as crates/library_cases/README.md writes them down, the files of tests/cases/, and the programs that run cases.
+"""The notation of cases: lines of fields, as crates/library_cases/README.md writes them down, the files of tests/cases/, and the program of cases.
 
 In such a file each line that isn't empty, a remark or a `let` is a case, and the line behind it, with `= ` at the front, is the answer that has to come.
 """
@@ -8,7 +8,7 @@ import subprocess
 import typing
 
 FOLDER = pathlib.Path(__file__).resolve().parent / "cases"
-CRATES = FOLDER.parent.parent / "crates"
+PROGRAM = FOLDER.parent.parent / "crates/session_cases"
 
 SYNTAX = 'syntax = "proto3";\n'
 # Characters that stand for those that a line can't hold.
@@ -80,9 +80,22 @@ def cases_of(name):
     return cases
 
 
-def program_of(crate):
-    """The program of a crate of cases, which is built if it isn't there."""
-    program = CRATES / crate / "out" / crate
+def program_cases():
+    """The lines of the program of cases, with their names written out, and its answers."""
+    given, answers = ((PROGRAM / name).read_text(encoding="utf-8").split("\n") for name in ("stdin", "stdout"))
+    names, cases = {}, []
+    for line, answer in zip(given, answers, strict=True):
+        whole = expanded(line, names)
+        if line.startswith("let "):
+            word, _, names[word] = whole.removeprefix("let ").partition(" :: ")
+        elif line and not line.startswith("#"):
+            cases.append((whole, answer))
+    return cases
+
+
+def case_program():
+    """The program of cases, which is built if it isn't there."""
+    program = PROGRAM / "out" / PROGRAM.name
     if not program.is_file():
-        subprocess.run(["rt", "run"], cwd=CRATES / crate, stdin=subprocess.DEVNULL, capture_output=True)
+        subprocess.run(["rt", "run"], cwd=PROGRAM, stdin=subprocess.DEVNULL, capture_output=True)
     return str(program)

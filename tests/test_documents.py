@@ -109,7 +109,7 @@ class Documents(unittest.TestCase):
         rows = re.findall(r"^\| (`[^|]*) \|", (ROOT / "docs/ARCHITECTURE.md").read_text(encoding="utf-8"), re.MULTILINE)
         named = {name for row in rows for name in re.findall(r"`(\w+)`", row)}
         crates = {line.partition(":")[0] for line in (ROOT / "crates.txt").read_text().splitlines() if re.match(r"\w+:", line)}
-        self.assertEqual({crate for crate in crates if not re.search(r"_(cases|tests|notation)$", crate)} - named, set())
+        self.assertEqual({crate for crate in crates if not re.search(r"_(cases|tests)$", crate)} - named, set())
 
     def test_documents_are_short(self):
         words = {document: len(document.read_text(encoding="utf-8").split()) for document in documents()}

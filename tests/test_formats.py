@@ -36,6 +36,8 @@ WHY = "not checked for unknown names, since an import is missing or isn't proto3
 UNCHECKED = [
     ({"a.proto": 'S|import "b.proto";|message A { Gone g = 1; }|', "b.proto": "S|"}, [], "2 files checked, 1 error"),
     ({"a.proto": 'S|import "none.proto";|'}, [], f"1 file checked, 1 error; 1 file {WHY}: none.proto"),
+    # A terminal would obey control characters.
+    ({"a.proto": 'S|import "\x1b[2J\x7f é.proto";|'}, [], f"1 file checked, 1 error; 1 file {WHY}: \\u{{1b}}[2J\\u{{7f}} é.proto"),
     (LOST, [], f"3 files checked, 2 errors; 2 files {WHY}: gone/none.proto"),
     (LOST, ["protos/b.proto"], f"1 file checked, 0 errors; 1 file {WHY}: gone/none.proto"),
     (LOST, ["protos/c.proto"], "1 file checked, 1 error"),

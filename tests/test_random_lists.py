@@ -16,7 +16,7 @@ import tempfile
 import unittest
 
 import stream
-from case_lines import SYNTAX, plain, program_of
+from case_lines import SYNTAX, case_program, plain
 from test_encodings import at, changing, choosing, notification, opening, request
 
 SEED, LISTS, ENOUGH = 7, 1000, 100
@@ -180,7 +180,7 @@ class RandomLists(unittest.TestCase):
     def core_answers(self, lists):
         """What session_cases says to the lists: how many messages were processed, the verdicts, and the replies, each behind a space."""
         lines = "".join(f"{some.line()}\n" for some in lists)
-        done = subprocess.run([program_of("session_cases")], input=lines.encode(), capture_output=True, timeout=10 * stream.LIMIT)
+        done = subprocess.run([case_program()], input=lines.encode(), capture_output=True, timeout=10 * stream.LIMIT)
         self.assertEqual((done.stderr, done.returncode), (b"", 0))
         for answer in done.stdout.decode().splitlines():
             front, _, replies = answer.partition(":")

@@ -6,23 +6,15 @@ import resource
 import subprocess
 import unittest
 
-from case_lines import program_of
+from case_lines import case_program, program_cases
 from refusing import refused_runs, runs
 from test_serve import ASK, EXIT, INITIALIZE, INITIALIZED, OPEN, PROTO3, REPORT, A, B, asking, notification, opening, report
 
 # The files of an analysis, and the messages of each.
 FILES, MESSAGES = 12, 500
 
-# The cases of memory_cases: of each the right answer, and the one where the call finds no memory.
-CALLS = {
-    "lex": ("l", "5", "no memory"),
-    "parse": ("p", "3", "no memory"),
-    "facts": ("f", "8", "no memory"),
-    "analyse_here": ("a", "4", "no memory"),
-    "symbols": ("s", "2", "no memory"),
-    "references": ("r", "4", "no memory"),
-    "rename": ("n", "4", "fault 706"),
-}
+# Calls of the program of cases, each with its own answers where it finds no memory. An error that is nothing but a refusal is answered as one of the line.
+CALLS = {"tokens": [], "parse": [], "facts": [], "analyse": [], "symbols": [], "references": [], "rename": ["fault 706"]}
 
 # A stream of one frame, and its end, which is asked for twice, as a fault is.
 STREAM = "frames :: 0 ends 5000 :: Content-Length: 33␍|␍|" + EXIT
@@ -52,8 +44,10 @@ BOARD_REFUSED = [
     BOARD_DONE.replace("3", "fault 501"),
 ]
 
-# A run of a core: what is brought is taken, doubled, foreign and stale, and two requests wait for it.
-CHANGE = notification("textDocument/didChange", f'{{"textDocument":{{"uri":"{A}","version":2}},"contentChanges":[{{"text":{json.dumps(PROTO3)}}}]}}')
+# A run of a core: what is brought is taken, doubled, foreign and stale, and two requests wait for it. After the change the file has two declarations more.
+DECLARED = "message One {}|message Two {}|"
+CHANGED = json.dumps(PROTO3 + DECLARED.replace("|", "\n"))
+CHANGE = notification("textDocument/didChange", f'{{"textDocument":{{"uri":"{A}","version":2}},"contentChanges":[{{"text":{CHANGED}}}]}}')
 CORE_EVENTS = (
     INITIALIZE,
     OPEN,
@@ -66,7 +60,7 @@ CORE_EVENTS = (
     "made 1 z.proto S|",
     "made 1 a.proto S|#|",
     "made 1 a.proto S|#|",
-    "made 3 a.proto S|",
+    f"made 3 a.proto S|{DECLARED}",
 )
 CORE = " :: ".join(["run", *(f"> {event}" for event in CORE_EVENTS)])
 CORE_DONE = f"6 processed Taken Doubled Foreign Taken Stale Taken: {INITIALIZED} {REPORT} {report('3')}"
@@ -81,7 +75,7 @@ def run_within(program, line, megabytes):
 
 class RefusedMemory(unittest.TestCase):
     def test_an_analysis_by_threads_is_whole_or_finds_no_memory(self):
-        program = program_of("library_cases")
+        program = case_program()
         paths = [f"{number:02}.proto" for number in range(FILES)]
         text = "S|" + " ".join(f"message M{number} {{ M{number} m = 1; }}" for number in range(MESSAGES))
         line = " :: ".join(["shares", "3", *(f"{path} {text}" for path in paths)])
@@ -103,10 +97,10 @@ class RefusedMemory(unittest.TestCase):
 class EachAllocation(unittest.TestCase):
     maxDiff = None
 
-    def answers(self, crate, line, right):
-        """The answers of a program of cases to a line, with one allocation after the other refused: first the one without a refusal has to be right, and
+    def answers(self, line, right):
+        """The answers of the program of cases to a line, with one allocation after the other refused: first the one without a refusal has to be right, and
         then none is. One answer stands for several in a row."""
-        words, data = [program_of(crate)], f"{line}\n".encode()
+        words, data = [case_program()], f"{line}\n".encode()
         [whole] = runs(words, data, [{}])
         self.assertEqual((whole.out.decode(), whole.err, whole.status), (f"{right}\n", b"", 0))
         told = []
@@ -115,25 +109,25 @@ class EachAllocation(unittest.TestCase):
             told.append((run.out.decode().removesuffix("\n"), run.status))
         return [answer for answer, _again in itertools.groupby(told)]
 
-    def test_calls(self):
-        for call, (case, right, refused) in CALLS.items():
-            with self.subTest(call):
-                before = [] if call == "lex" else [("no memory before the call", 0)]
-                self.assertEqual(self.answers("memory_cases", case, right), [*before, (refused, 0)])
-
-    def check_line(self, crate, line, right, refused):
+    def check_line(self, line, right, refused):
         """Where the line itself, or a piece of the answer, finds no memory the program says so, and else the call answers its own refusals, in this order."""
-        told = [answer for answer in self.answers(crate, line, right) if answer != ("", 1) and "error: out of memory" not in answer[0]]
+        told = [answer for answer in self.answers(line, right) if answer != ("", 1) and "error: out of memory" not in answer[0]]
         self.assertEqual([answer for answer, _again in itertools.groupby(told)], [(answer, 0) for answer in refused])
 
+    def test_the_first_case_of_each_call(self):
+        first = {line.partition(" :: ")[0]: (line, right) for line, right in reversed(program_cases())}
+        for call, refused in CALLS.items():
+            with self.subTest(call):
+                self.check_line(*first[call], refused)
+
     def test_a_frame(self):
-        self.check_line("session_cases", STREAM, f"<{EXIT}> end end", ["108 108"])
+        self.check_line(STREAM, f"<{EXIT}> end end", ["108 108"])
 
     def test_events_of_a_board(self):
-        self.check_line("library_cases", BOARD, BOARD_DONE, BOARD_REFUSED)
+        self.check_line(BOARD, BOARD_DONE, BOARD_REFUSED)
 
     def test_a_run_of_a_core(self):
-        self.check_line("session_cases", CORE, CORE_DONE, [" fault 803"])
+        self.check_line(CORE, CORE_DONE, [" fault 803"])
 
 
 if __name__ == "__main__":

@@ -35,6 +35,15 @@ class Order(unittest.TestCase):
     def test_the_chain_takes_what_idles(self):
         self.assertEqual(self.started(TASKS, 4), ([("low", 4), ("beside", 1), ("middle", 4), ("top", 4)], 300 * kit.GAIN))
 
+    def test_the_chain_takes_it_from_others(self):
+        beside = [task(f"beside{n}", [], 200) for n in range(3)]
+        self.assertEqual(self.started([*beside, *TASKS], 4)[0][0], ("low", 4))
+        self.assertEqual(self.started([*beside, *TASKS], 3)[0][0], ("low", 1))
+
+    def test_what_runs_counts_by_what_is_left_of_it(self):
+        tasks = [task("short", [], 50), task("long", [], 100), task("other", ["short"], 90)]
+        self.assertEqual(self.started(tasks, 4)[0], [("short", 4), ("long", 1), ("other", 4)])
+
     def test_the_time_that_is_left(self):
         schedule = kit.Schedule(TASKS, None, 2)
         self.assertAlmostEqual(schedule.foreseen(), 100 + 200 * kit.GAIN)

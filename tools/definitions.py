@@ -29,7 +29,7 @@ ORDER = {
     "doc_text": "Lines Positions Edits Laws".split(),
     "piece_collector": "Events History Views Board Runs Fault Laws".split(),
     "work_index": "Workspace Unchecked Pieces Changes Fault".split(),
-    "lsp_workspace": "Files Roots Texts Disk View".split(),
+    "lsp_workspace": "Files Roots Texts Recorded Disk View".split(),
     "lsp_answers": "Context Questions Answers Reports Diagnostics Ranges Views".split(),
     "lsp_check": "Lines Listing Sarif".split(),
     "lsp_session": "Session Stream Core Run View".split(),

@@ -168,8 +168,9 @@ Running = collections.namedtuple("Running", "processors memory ends")
 class Schedule:
     """Tasks side by side: each once those that it waits for went well, first the one with the longest chain of others behind it.
 
-    A check has one job. One with the longest chain of all that are left or running has as many as a check gains from if it starts where the processors
-    that these keep busy would idle. All others run at a lower priority, since the whole ends no sooner than that chain does.
+    A check has one job. One with the longest chain of all that are left or running, less what those have done, has as many as a check gains from, if it
+    starts where the processors that these keep busy would idle, or where there are so many processors that the others still have some. All others run at a
+    lower priority, since the whole ends no sooner than that chain does.
     """
 
     def __init__(self, tasks, ended, lanes):
@@ -194,6 +195,11 @@ class Schedule:
             self.left = [it for it in self.left if it not in lost]
             self.given.update({it.name: None for it in lost})
 
+    def chain(self, name, now):
+        """About how many seconds a task and the longest chain behind it still take at one job."""
+        done = self.known[name] - max(0.0, self.running[name].ends - now) if name in self.running else 0.0
+        return self.behind[name] - max(0.0, done)
+
     def starting(self, now):
         """The tasks that start now, each with its jobs and whether it has the longest chain. They count as running from then on."""
         ready = [it for it in self.left if all(self.given.get(below) is True for below in self.waits_for(it))]
@@ -203,8 +209,8 @@ class Schedule:
             room = self.memory - sum(it.memory for it in self.running.values())
             if idle <= 0 or self.running and task.memory > room:
                 continue
-            is_first = self.behind[task.name] >= max(self.behind[it] for it in [*self.running, *(other.name for other in self.left)])
-            is_wide = is_first and idle - (len(ready) - at - 1) >= BUSY
+            is_first = self.behind[task.name] >= max(self.chain(it, now) for it in [*self.running, *(other.name for other in self.left)])
+            is_wide = is_first and (self.lanes >= 2 * BUSY or idle - (len(ready) - at - 1) >= BUSY)
             self.left.remove(task)
             self.running[task.name] = Running(BUSY if is_wide else 1, task.memory, now + task.seconds * (GAIN if is_wide else 1))
             found.append((task, min(MOST_JOBS, self.lanes) if is_wide else 1, is_first))

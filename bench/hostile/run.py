@@ -7,7 +7,7 @@ one may take no more time and memory than its line below says. The status is 1 w
 has a line with what it may take instead, and what it took is shown. Documents that are opened one after the other in no order of their paths have a limit for
 4,000, and none for their growth: each one gives the files behind its place other numbers.
 
-A time is the best of 3 for what takes less than a second, and memory is what was resident at most. The program is crates/protols/out/protols, or
+A time is the best of 3 for what takes less than 3 seconds, and memory is what was resident at most. The program is crates/protols/out/protols, or
 the one that PROTOLS names.
 
 usage: run.py [WORD..]   only the lines that have one of the words"""
@@ -29,6 +29,8 @@ import stream
 # The most that twice the size may take, as a multiple of the time and of the memory; what takes less than so many seconds, or MB, isn't judged.
 GROWTH, LEAST, LEAST_MEGABYTES = 2.4, 0.05, 50
 MEBIBYTES = 1_048_576
+# What takes less than so many seconds is run three times.
+BEST_BELOW = 3
 REPEATED = [";", "}", "{", "#", "a", "A=1;", "message A{}", "message A{A a=1;}"]
 stream.LIMIT = 600
 
@@ -232,9 +234,9 @@ def measured(words, source=os.devnull):
 
 
 def best(words, source=os.devnull):
-    """The least time of 3 runs, or of one if that takes a second or more, and the MB of the first."""
+    """The least time of 3 runs, or of one if that takes 3 seconds or more, and the MB of the first."""
     seconds, megabytes = measured(words, source)
-    if seconds < 1:
+    if seconds < BEST_BELOW:
         seconds = min(seconds, *(measured(words, source)[0] for _ in range(2)))
     return seconds, megabytes
 

@@ -1,8 +1,10 @@
 // Boards of texts and pieces: events in, verdicts out.
 ghost use Rattle.std.specs.Prelude.{◌≡◌, false};
 
-use case_notation::{Line, field, first_word, number, plain};
-use piece_collector::{Board, BoardEvent, BoardFault, Job, Lent, Piece, Verdict, Work, run_events};
+use crate::line::Line;
+use crate::marks::plain;
+use crate::words::{field, first_word, number};
+use piece_collector::{Board, BoardEvent, Job, Lent, Piece, Verdict, Work, run_events};
 use std::alloc::{AllocError, Global};
 
 /// Work whose product is the text's length.
@@ -54,22 +56,14 @@ fn write_piece(line: &mut Line, piece: &Piece<Length>) {
     line.put_number(*piece.out() as u64);
 }
 
-fn write_verdict(line: &mut Line, verdict: Verdict) {
-    line.put(match verdict {
+/// The word for a verdict.
+pub fn verdict_word(verdict: Verdict) -> &'static str {
+    match verdict {
         Verdict::Taken => "Taken",
         Verdict::Stale => "Stale",
         Verdict::Foreign => "Foreign",
         Verdict::Doubled => "Doubled",
-    });
-}
-
-fn write_bool(line: &mut Line, value: bool) {
-    line.put(if value { "true" } else { "false" });
-}
-
-fn write_fault(line: &mut Line, fault: BoardFault) {
-    line.put("fault ");
-    line.put_number(fault.code() as u64);
+    }
 }
 
 fn event(alloc: Global, field: &str) -> Result<BoardEvent<Length>, AllocError> {
@@ -123,7 +117,7 @@ pub fn run(alloc: Global, line: &mut Line, given: &str) -> Result<(), AllocError
 
 fn write_verdicts(line: &mut Line, verdicts: &[Verdict]) {
     for verdict in verdicts {
-        write_verdict(line, *verdict);
+        line.put(verdict_word(*verdict));
         line.put(" ");
     }
 }
@@ -135,12 +129,12 @@ fn write_run(line: &mut Line, board: &mut Board<Length>, events: Vec<BoardEvent<
     match run_events(board, events) {
         Ok(verdicts) => write_verdicts(line, verdicts.as_slice()),
         Err(fault) => {
-            write_fault(line, fault);
+            line.put_fault(fault.code());
             line.put(" ");
         }
     }
     line.put("complete ");
-    write_bool(line, board.is_complete());
+    line.put_bool(board.is_complete());
 }
 
 // A call on a board, and its answer.
@@ -156,13 +150,13 @@ fn step(
     let (word, rest) = first_word(call);
     match word {
         "set" => set(alloc, line, board, rest)?,
-        "remove" => write_bool(line, board.remove(rest)),
+        "remove" => line.put_bool(board.remove(rest)),
         "next" => next(line, board)?,
         "work" => work(line, board)?,
-        "offer" => write_verdict(line, board.offer(piece(job(alloc, rest)?)?)),
+        "offer" => line.put(verdict_word(board.offer(piece(job(alloc, rest)?)?))),
         "fail" => {
             let (path, stamp) = first_word(rest);
-            write_verdict(line, board.fail(path, number(stamp)));
+            line.put(verdict_word(board.fail(path, number(stamp))));
         }
         "piece" => find(line, board, rest),
         _ => lend(line, board)?,
@@ -183,7 +177,7 @@ fn set(
     let path = plain(alloc, path)?;
     match board.set_text(path, plain(alloc, text)?) {
         Ok(stamp) => line.put_number(stamp),
-        Err(fault) => write_fault(line, fault),
+        Err(fault) => line.put_fault(fault.code()),
     }
     Ok(())
 }
@@ -205,7 +199,7 @@ fn work(line: &mut Line, board: &mut Board<Length>) -> Result<(), AllocError>
     ensures { board.new.is_lent ≡ false }
 {
     match board.next_job()? {
-        Some(job) => write_verdict(line, board.offer(piece(job)?)),
+        Some(job) => line.put(verdict_word(board.offer(piece(job)?))),
         None => line.put("none"),
     }
     Ok(())
@@ -240,11 +234,11 @@ fn lend(line: &mut Line, board: &mut Board<Length>) -> Result<(), AllocError>
     let lent = board.lend_all()?;
     write_pieces(line, lent.pieces());
     line.put("lent ");
-    write_bool(line, board.is_lent());
+    line.put_bool(board.is_lent());
     board.take_back(Lent::of(lent.into_pieces()));
     line.put(", then ");
-    write_bool(line, board.is_lent());
+    line.put_bool(board.is_lent());
     line.put(", complete ");
-    write_bool(line, board.is_complete());
+    line.put_bool(board.is_complete());
     Ok(())
 }

@@ -1,5 +1,7 @@
 // Positions, offsets and edits of a text. The fields are the encoding, the text, and then what is asked.
-use case_notation::{Line, field, first_word, number, plain};
+use crate::line::Line;
+use crate::marks::plain;
+use crate::words::{field, first_word, number};
 use doc_text::{Change, Encoding, Position, Range, Text};
 use std::alloc::{AllocError, Global};
 

@@ -1,7 +1,8 @@
 // The pieces of files, and what is written of any piece. What stands here for any work is proved without what a file's work makes.
 ghost use Rattle.std.specs.Prelude.{◌≡◌, false};
 
-use case_notation::{first_word, plain};
+use crate::marks::plain;
+use crate::words::first_word;
 use piece_collector::{Board, Job, Lent, Piece, Work};
 use std::alloc::{AllocError, Global};
 use work_index::FileWork;

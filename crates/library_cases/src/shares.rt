@@ -1,7 +1,8 @@
 // Analyses that several threads make.
+use crate::line::Line;
 use crate::pieces::{pieces_of, text_of};
 use crate::visited::Visited;
-use case_notation::{Line, field, number};
+use crate::words::{field, number};
 use file_facts::Diag;
 use piece_collector::{Lent, Piece};
 use std::alloc::{AllocError, Global};
@@ -88,8 +89,8 @@ fn write_analysis<R: Threads + Wait>(
             write_found(line, &found, lent.pieces());
         }
         Err(fault) => {
-            line.put("error: fault ");
-            line.put_number(fault.code() as u64);
+            line.put("error: ");
+            line.put_fault(fault.code());
         }
     }
     Ok(())
@@ -106,18 +107,6 @@ fn write_shares<R: Threads + Wait>(
     write_analysis(rt, alloc, line, lent, number(workers) as usize, false)
 }
 
-// Writes an answer behind the first one, unless it is the same.
-fn note(line: &mut Line, workers: &str, answer: &str) {
-    if line.as_str().is_empty() {
-        line.put(answer);
-    } else if line.as_str() != answer {
-        line.put("; but by ");
-        line.put(workers);
-        line.put(" threads: ");
-        line.put(answer);
-    }
-}
-
 /// Numbers of threads, and files: what comes of an analysis by so many threads. One answer stands for all numbers; one that differs
 /// is shown too.
 pub fn answer<R: Threads + Wait>(
@@ -129,7 +118,7 @@ pub fn answer<R: Threads + Wait>(
     for workers in field(given, 1).split(' ') {
         let mut own = Line::new(alloc);
         write_shares(rt, alloc, &mut own, given, workers)?;
-        note(line, workers, own.as_str());
+        line.put_once(workers, own.as_str());
     }
     Ok(())
 }

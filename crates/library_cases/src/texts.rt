@@ -1,16 +1,13 @@
 // Tokens of texts.
-use case_notation::{Line, plain};
+use crate::line::Line;
+use crate::marks::plain;
 use proto_lex::{Kind, Reason, Token, lex};
 use std::alloc::{AllocError, Global};
 use std::mem::size_of;
 
 /// Whether a token takes at most 24 bytes.
 pub fn write_size(line: &mut Line) {
-    line.put(if size_of::<Token>() <= 24 {
-        "true"
-    } else {
-        "false"
-    });
+    line.put_bool(size_of::<Token>() <= 24);
 }
 
 /// A kind and the offsets of each token of a text.

@@ -1,5 +1,7 @@
 // Roots, paths and URIs.
-use case_notation::{Line, field, plain};
+use crate::line::Line;
+use crate::marks::plain;
+use crate::words::field;
 use std::alloc::{AllocError, Global};
 use workspace_uri::{Roots, UriPlace, escape_path, is_workspace_path};
 
@@ -22,11 +24,7 @@ fn write_escaped(alloc: Global, line: &mut Line, path: &str) -> Result<(), Alloc
 // Whether a file of a workspace has the path.
 fn write_is_path(alloc: Global, line: &mut Line, path: &str) -> Result<(), AllocError> {
     let path = plain(alloc, path)?;
-    line.put(if is_workspace_path(path.as_str()) {
-        "true"
-    } else {
-        "false"
-    });
+    line.put_bool(is_workspace_path(path.as_str()));
     Ok(())
 }
 

@@ -1,6 +1,6 @@
 // Gates that count how often each file passes them.
+use crate::line::Line;
 use crate::pieces::text_of;
-use case_notation::Line;
 use piece_collector::Piece;
 use std::alloc::{AllocError, Global};
 use std::sync::atomic::{AtomicU64, Ordering};

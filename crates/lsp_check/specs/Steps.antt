@@ -1,13 +1,8 @@
 -- What the private steps of a check promise each other.
-use Rattle.std.specs.Prelude.{◌≡◌, ◌&&◌, ℕ, Bool, true, false, List, [], ◌∷◌, ◌++◌, Option, Result, Ok, string_bytes, slice_index_or, drop, flat_map, map}
+use Rattle.std.specs.Prelude.{◌≡◌, ◌&&◌, ℕ, Bool, true, false, List, [], ◌∷◌, ◌++◌, Option, Result, Ok, slice_index_or, drop, flat_map, map}
 use Rattle.std.specs.List.{enumerate_from}
 use Rattle.std.specs.declared.alloc.AllocError.{AllocError}
 use Rattle.std.specs.Io.KnownBytes.{Appends}
-use Rattle.piece_collector.specs.Events.{Event, Offer, Fail}
-use Rattle.piece_collector.specs.History.{failure_on, stands_at}
-use Rattle.piece_collector.specs.declared.verdict.Verdict.TheVariants.{Taken}
-use Rattle.work_index.specs.declared.done.Done.{Done}
-use Rattle.work_index.specs.declared.done.Done.TheVariants as job
 use Rattle.work_index.specs.Workspace.{analysis}
 use Rattle.lsp_check.specs.Lines.{is_array, cut, document}
 use Rattle.lsp_check.specs.Listing.{file_lines, lines_with}
@@ -27,16 +22,6 @@ are_none (b ∷ rest) = false
 -- whether the first of all lines is still to come, after these lines
 abbrev pub still_first : Bool → List ℕ → Bool
 still_first first lines = first && are_none lines
-
--- what became of a job, as what is done to the board
-abbrev pub event_of : Done → Event
-event_of (job.Made piece) = Offer piece.path piece.stamp piece.text
-event_of (job.Failed path stamp) = Fail (string_bytes path) stamp
-
--- the job failed, and its text is the one that counts
-abbrev pub IsCountedFailure : ℕ → List Event → Done → Type 0
-IsCountedFailure opening events (job.Made piece) = ⊥
-IsCountedFailure opening events (job.Failed path stamp) = failure_on stamp (stands_at opening events (string_bytes path)) ≡ Taken
 
 -- ---- the lines of the files, one file after the other
 

@@ -12,7 +12,7 @@ use Rattle.std.proofs.lemmas.List.Folds.{list_all_at}
 use Rattle.std.proofs.lemmas.List.Sums.{suffix_len_is}
 use Rattle.std.proofs.lemmas.Str.Parse.{digit_from_value}
 use Rattle.lsp_frame.specs.Grammar.{HasNoLineEnd, IsLine, header_of}
-use Rattle.lsp_frame.specs.Header.{◌>>=◌, line_end, is_colon, is_space, without_first_spaces, without_last_spaces, length_at, line_length, field_length, header_lines, last_length, allowed_length, body_length, max_body}
+use Rattle.lsp_frame.specs.Header.{◌>>=◌, line_end, is_colon, is_space, without_first_spaces, without_last_spaces, length_at, content_length, field_length, header_lines, last_length, allowed_length, body_length, max_body}
 use Rattle.lsp_frame.specs.Stream.{behind_header}
 use Rattle.lsp_frame.specs.StreamLaws.{IsFrame}
 use Rattle.lsp_frame.specs.Writing.{frame_of}
@@ -70,8 +70,8 @@ colon_is ds = rw (lt-ltb 14 (length (line_of ds)) (omega arith)) refl
 field : (ds : List ℕ) → AllDigits 10 ds → 0 < length ds → length ds ≤ 10 → field_length (codes "Content-Length") ds ≡ Ok (Some (digits_value 10 ds))
 field ds h some short = rw (lt-ltb 0 (length ds) some, le-leb (length ds) 10 short, all_digits ds h) refl
 
-line_length-is : (ds : List ℕ) → AllDigits 10 ds → 0 < length ds → length ds ≤ 10 → line_length (line_of ds) ≡ Ok (Some (digits_value 10 ds))
-line_length-is ds h some short =
+content_length-is : (ds : List ℕ) → AllDigits 10 ds → 0 < length ds → length ds ≤ 10 → content_length (line_of ds) ≡ Ok (Some (digits_value 10 ds))
+content_length-is ds h some short =
     ap (length_at (line_of ds)) (colon_is ds) ∙ ap (field_length (codes "Content-Length")) (value_is ds h) ∙ field ds h some short
 
 HasNoLineEnd-none : (line : List ℕ) → list_all (λ c. not (eqb c 13)) line ≡ true → HasNoLineEnd line
@@ -98,7 +98,7 @@ header-is ds = ap (λ l. codes "Content-Length: " ++ l) (ap (λ l. l ++ line_end
 body_length-is : (ds : List ℕ) (n : ℕ) → AllDigits 10 ds → 0 < length ds → length ds ≤ 10 → digits_value 10 ds ≡ n → n ≤ max_body → body_length (header ds) ≡ Ok n
 body_length-is ds n h some short is le =
     let lines : header_lines (header ds) ≡ line_of ds ∷ [] = header_lines-header_of (line_of ds ∷ []) (is_line ds h, tt) in
-    let last : last_length (line_of ds ∷ []) ≡ Ok (Some n) = rw (line_length-is ds h some short, is) refl in
+    let last : last_length (line_of ds ∷ []) ≡ Ok (Some n) = rw (content_length-is ds h some short, is) refl in
     ap (λ ls. last_length ls >>= allowed_length) lines ∙ ap (λ r. r >>= allowed_length) last ∙ allowed n le
 
 whole_frame : (ds body : List ℕ) → AllDigits 10 ds → 0 < length ds → length ds ≤ 10 → digits_value 10 ds ≡ length body → length body ≤ max_body → IsFrame (header ds ++ body) body

@@ -69,13 +69,14 @@ length_at line None = Err BadHeader
 length_at line (Some colon) =
     if colon == 0 then Err BadHeader else field_length (take colon line) (without_last_spaces (without_first_spaces (drop (colon + 1) line)))
 
-abbrev pub line_length : List ℕ → Result (Option ℕ) FrameFault
-line_length line = length_at line (position is_colon line)
+-- the `Content-Length` of a line, if it is one
+abbrev pub content_length : List ℕ → Result (Option ℕ) FrameFault
+content_length line = length_at line (position is_colon line)
 
 -- the last length that the lines give, or their first fault
 abbrev pub last_length : List (List ℕ) → Result (Option ℕ) FrameFault
 last_length [] = Ok None
-last_length (line ∷ lines) = line_length line >>= λ here. last_length lines >>= λ later. Ok (option_or later here)
+last_length (line ∷ lines) = content_length line >>= λ here. last_length lines >>= λ later. Ok (option_or later here)
 
 -- the longest body: 64 MiB
 abbrev pub max_body : ℕ

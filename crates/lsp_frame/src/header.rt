@@ -3,7 +3,7 @@ ghost use Rattle.std.specs.Prelude.{◌≡◌, ◌↔◌, IsTrue, codes, if◌th
 ghost use Rattle.std.specs.Str.{str_eq_ignore_ascii_case};
 ghost use Rattle.std.specs.Str.Parse.{digits_value};
 ghost use Rattle.std.specs.List.{position};
-ghost use Rattle.lsp_frame.specs.Header.{without_first_spaces, without_last_spaces, is_length, field_length, line_length, header_lines, last_length, body_length, is_colon};
+ghost use Rattle.lsp_frame.specs.Header.{without_first_spaces, without_last_spaces, is_length, field_length, content_length, header_lines, last_length, body_length, is_colon};
 ghost use Rattle.lsp_frame.specs.Steps.{EndsLine, up_to_empty};
 
 use crate::fault::FrameFault;
@@ -76,9 +76,9 @@ fn field_length(name: &[u8], value: &[u8]) -> Result<Option<u64>, FrameFault>
     }
 }
 
-// The length that a header line gives, if it is a `Content-Length`.
-fn line_length(line: &[u8]) -> Result<Option<u64>, FrameFault>
-    ensures { result ≡ line_length line.now }
+// The `Content-Length` of a header line, if it is one.
+fn content_length(line: &[u8]) -> Result<Option<u64>, FrameFault>
+    ensures { result ≡ content_length line.now }
 {
     match colon_of(line) {
         None | Some(0) => Err(FrameFault::BadHeader),
@@ -130,7 +130,7 @@ fn last_length(header: &[u8]) -> Result<Option<u64>, FrameFault>
         if line.is_empty() {
             return Ok(found);
         }
-        found = line_length(line)?.or(found);
+        found = content_length(line)?.or(found);
         rest = others;
     }
 }

@@ -8,8 +8,8 @@ use Rattle.syntax_tree.specs.declared.node.Node.{Node}
 use Rattle.syntax_tree.specs.declared.node.Span.{Span}
 use Rattle.syntax_tree.specs.Names.{names_in, type_components_in, package_components_in}
 use Rattle.syntax_tree.specs.Read.{read, value_tree}
-use Rattle.syntax_laws.specs.Apart.{NamesAreApart}
-use Rattle.facts_laws.proofs.Nesting.{all_left, all_right}
+use Rattle.proto_laws.specs.Apart.{NamesAreApart}
+use Rattle.proto_laws.proofs.Nesting.{all_left, all_right}
 use Rattle.lsp_queries.proofs.Pairs.{both_in, pairs-across, pairs-left, pairs-permuted, pairs-right, pairs-with}
 
 -- it has a byte or more

@@ -13,8 +13,8 @@ use Rattle.syntax_tree.specs.Read.{value_tree}
 use Rattle.file_facts.specs.declared.fact.Decl.{Decl}
 use Rattle.file_facts.specs.declared.fact.PackageFact.{PackageFact}
 use Rattle.file_facts.specs.Facts.{facts_of}
-use Rattle.facts_laws.proofs.Holders.{inside}
-use Rattle.facts_laws.proofs.Lists.{list_any-has, list_any-is}
+use Rattle.proto_laws.proofs.Holders.{inside}
+use Rattle.proto_laws.proofs.Lists.{list_any-has, list_any-is}
 use Rattle.import_graph.specs.Closures.{view_of}
 use Rattle.import_graph.specs.Imports.{graph_of}
 use Rattle.proto_names.specs.Files.{facts_at}
@@ -22,7 +22,7 @@ use Rattle.proto_resolve.specs.declared.target.Target.{Target}
 use Rattle.proto_resolve.specs.declared.target.Target.TheVariants as target
 use Rattle.proto_resolve.specs.declared.uses.NameUse.{NameUse}
 use Rattle.work_index.specs.Workspace.{Workspace, all_facts, analysis}
-use Rattle.analysis_laws.specs.OrderLaws.{UsesAscend}
+use Rattle.proto_laws.specs.OrderLaws.{UsesAscend}
 use Rattle.lsp_queries.specs.Files.{components_in, decls_in, uses_in}
 use Rattle.lsp_queries.specs.Offsets.{holds, symbol_at, symbol_of}
 use Rattle.lsp_queries.specs.declared.offsets.Symbol.{Symbol}

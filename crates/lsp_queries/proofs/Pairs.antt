@@ -9,8 +9,8 @@ use Rattle.std.proofs.lemmas.List.Edits.{swapped_from_swap}
 use Rattle.std.proofs.lemmas.List.Elements.{All-nil, All-cons, All-append, All-contains, All-head, All-map, All-tail}
 use Rattle.std.proofs.lemmas.List.Kept.{AllPairs-cons}
 use Rattle.std.proofs.lemmas.List.Sorted.{IsPermutation-keeps, IsPermutation-swap, length_permutation}
-use Rattle.facts_laws.proofs.Holders.{cases_in, either, first_in, later_in, none_in}
-use Rattle.facts_laws.proofs.Nesting.{all_left, all_right}
+use Rattle.proto_laws.proofs.Holders.{cases_in, either, first_in, later_in, none_in}
+use Rattle.proto_laws.proofs.Nesting.{all_left, all_right}
 
 -- what holds of all of a mapped list
 pub from_map : {X Y : Type 0} (P : Y → Type 0) (f : X → Y) (xs : List X) → All P (map f xs) → All (λ x. P (f x)) xs

@@ -16,7 +16,7 @@ use Rattle.syntax_tree.specs.Identifiers.{IsIdentifierAt, NamesAreIdentifiers}
 use Rattle.syntax_tree.specs.Read.{empty_tree, read, value_tree}
 use Rattle.file_facts.specs.declared.fact.Decl.{Decl}
 use Rattle.file_facts.specs.Facts.{facts_of}
-use Rattle.facts_laws.proofs.IdentifierLaws.{of_value}
+use Rattle.proto_laws.proofs.IdentifierLaws.{of_value}
 use Rattle.import_graph.specs.Closures.{view_of}
 use Rattle.import_graph.specs.Imports.{graph_of}
 use Rattle.proto_names.specs.declared.decl_ref.DeclRef.{DeclRef}
@@ -25,7 +25,7 @@ use Rattle.proto_names.specs.Files.{facts_at}
 use Rattle.proto_resolve.specs.Sites.{names_of_file}
 use Rattle.proto_resolve.specs.Uses.{uses}
 use Rattle.work_index.specs.Workspace.{Workspace, all_facts, analysis, resolution_of}
-use Rattle.analysis_laws.specs.OrderLaws.{UsesAscend}
+use Rattle.proto_laws.specs.OrderLaws.{UsesAscend}
 use Rattle.lsp_queries.specs.Answers.{is_of, own_place, sites_in, sites_of, uses_of, with_own, with_own_in}
 use Rattle.lsp_queries.specs.Files.{decl_of, decls_in, place, place_of, uses_in}
 use Rattle.lsp_queries.specs.declared.place.Place.{Place}

@@ -12,8 +12,8 @@ use Rattle.file_facts.specs.declared.fact.Decl.{Decl}
 use Rattle.file_facts.specs.declared.fact.FileFacts.{FileFacts}
 use Rattle.file_facts.specs.declared.fact.PackageFact.{PackageFact}
 use Rattle.file_facts.specs.Facts.{facts_of}
-use Rattle.facts_laws.proofs.Holders.{inside}
-use Rattle.facts_laws.proofs.Holders.{first_in, later_in, none_in, cases_in}
+use Rattle.proto_laws.proofs.Holders.{inside}
+use Rattle.proto_laws.proofs.Holders.{first_in, later_in, none_in, cases_in}
 use Rattle.proto_resolve.specs.declared.resolve.Links.{Links}
 use Rattle.proto_resolve.specs.declared.uses.NameUse.{NameUse}
 use Rattle.work_index.specs.Workspace.{Workspace, analysis, resolution_of}

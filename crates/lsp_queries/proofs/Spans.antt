@@ -22,7 +22,7 @@ use Rattle.file_facts.specs.declared.fact.FileFacts.{FileFacts}
 use Rattle.file_facts.specs.declared.stated.StatedSyntax.{StatedSyntax}
 use Rattle.file_facts.specs.Facts.{facts_at, facts_of, opaque, stated, package_name, first_package, packages}
 use Rattle.file_facts.specs.Text.{joined as scoped}
-use Rattle.facts_laws.proofs.Nesting.{all_left, all_right}
+use Rattle.proto_laws.proofs.Nesting.{all_left, all_right}
 use Rattle.file_facts.specs.declared.named_facts.NamedFacts.{NamedFacts}
 use Rattle.import_graph.specs.Imports.{is_opaque}
 use Rattle.proto_resolve.specs.declared.site.Component.{Component}
@@ -34,7 +34,7 @@ use Rattle.proto_resolve.specs.declared.uses.NameUse.{NameUse}
 use Rattle.proto_resolve.specs.Names.{found, joined_all, scope_of, texts_of}
 use Rattle.proto_resolve.specs.Sites.{Named, component, in_turn, inner, is_scalar, names_in, names_of, names_of_file, names_step, package_scopes, site, type_names}
 use Rattle.proto_resolve.specs.Uses.{uses, uses_at, uses_in, uses_of}
-use Rattle.facts_laws.proofs.IdentifierLaws.{facts-have}
+use Rattle.proto_laws.proofs.IdentifierLaws.{facts-have}
 use Rattle.lsp_queries.proofs.Pairs.{from_map, pairs-from_map, pairs-nil}
 
 -- ---- declarations

@@ -15,7 +15,8 @@ fn respelled(alloc: Global, text: &str, places: &[Place], name: &str) -> Result<
     requires { CanBeCut text.now 0 places.now }
     ensures { IfOk result (λ edited. string_bytes edited ≡ spec.respelled name.now text.now places.now) }
 {
-    let mut edited = String::new(alloc);
+    let names = places.len().saturating_mul(name.len());
+    let mut edited = String::with_capacity(alloc, text.len().saturating_add(names))?;
     let mut offset = 0;
     for place in places {
         edited.push_str(&text[offset..place.start])?;

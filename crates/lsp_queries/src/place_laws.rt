@@ -3,8 +3,7 @@ ghost use Rattle.lsp_queries.specs.Cutting.{PlacesAreCutOut};
 ghost use Rattle.lsp_queries.specs.PlaceLaws.{PlacesAreApart, PlacesAscend, PlacesLieInTheTexts};
 ghost use Rattle.lsp_queries.specs.Standing.{OneListOfPlaces, OneNameHolds, PlacesAreAll, SymbolsStandThere};
 
-use analysis_laws::uses_in_order;
-use syntax_laws::{identifiers_law, names_apart, size_law};
+use proto_laws::{identifiers_law, names_apart, size_law, uses_in_order};
 
 /// A law: the places of a declaration, those of its uses and its own if that is asked for, come by file, then offset, and none of
 /// them is there twice.

@@ -1,5 +1,5 @@
 -- A core against the session of the messages that it was given.
-use Rattle.std.proofs.Common.{◌≡◌, ℕ, zero, suc, ◌+◌, ◌-◌, ◌<◌, ◌≤◌, List, [], ◌∷◌, ◌++◌, Bool, true, false, map, length, fold, take, drop, get_or, refl, sym, ap, ap₂, subst, ◌∙◌, arith, append_assoc, append-nil, length-drop, length-append, Option, Some, None, Result, Ok, Err, ⊎_elim, inl, inr}
+use Rattle.std.proofs.Common.{◌≡◌, ℕ, zero, suc, ◌+◌, ◌-◌, ◌<◌, ◌≤◌, List, [], ◌∷◌, ◌++◌, Bool, true, false, map, length, fold, take, drop, get_or, refl, sym, ap, ap₂, subst, ◌∙◌, arith, append_assoc, append-nil, length-drop, length-append, replicate, Option, Some, None, Result, Ok, Err, ⊎_elim, inl, inr}
 use Rattle.std.proofs.lemmas.List.{append_cancel_left, take_all, take-append-le, drop-append-le, length-map, map-append}
 use Rattle.std.proofs.lemmas.List.Sums.{fold-append}
 use Rattle.std.specs.Option.{option_to_list}
@@ -13,6 +13,7 @@ use Rattle.piece_collector.specs.Views.{TextAt}
 use Rattle.piece_collector.specs.Board as board
 use Rattle.piece_collector.specs.Events as work
 use Rattle.serde_json.specs.Data.{Data}
+use Rattle.lsp_rpc.specs.ClientCapabilities.{client_view}
 use Rattle.lsp_rpc.specs.Message.{MessageData, notification, message_of}
 use Rattle.lsp_rpc.specs.Params.{opened_of, changed_of}
 use Rattle.lsp_rpc.specs.declared.method.Method.{Method}
@@ -21,15 +22,19 @@ use Rattle.work_index.specs.declared.done.Done.{Done}
 use Rattle.work_index.specs.declared.done.Done.TheVariants as job
 use Rattle.lsp_workspace.specs.Files.{Files, text_at, workspace}
 use Rattle.work_index.specs.Workspace.{Workspace}
+use Rattle.lsp_workspace.specs.View.{WorkspaceData}
 use Rattle.lsp_workspace.specs.Texts.{text_event, event_at, is_open, events_at}
 use Rattle.lsp_config.specs.Configuration.{Configuration, files_of}
+use Rattle.work_dispatch.specs.Dispatch as dispatch
 use Rattle.lsp_session.specs.Core.{Event, Arrive, Advance, Give, Offer, Fail, messages, processed, has_begun, begun, done, waiting, next_body, state_after, beginning, pending_after, board_events, MayBegin, MayFinish, IsLegal, IsSettled, CoreState, IsAfter, ComesToAnAnalysis, Replied, Steps, Advances}
 use Rattle.lsp_session.specs.Run.{event_of}
 use Rattle.lsp_session.specs.Session.{State, Pending, start, turn, path_of, path_in, replies_of, replies_to, waits, needs_analysis, next, session}
 use Rattle.lsp_session.specs.Steps.{NeedsAnalysis, unprocessed, right_work, with_round, with_rounds, IsWorked, HasWorked, Knows, Awaits, WorksOn, HandsOut, Progresses, replies_after}
-use Rattle.lsp_session.specs.Working.{events_for_path, events_by_method, events_in_phase, events_of, board_events_of}
+use Rattle.lsp_session.specs.View.{roots_of, state_of}
+use Rattle.lsp_session.specs.BoardEvents.{events_for_path, events_by_method, events_in_phase, events_of, board_events_of}
 use Rattle.lsp_session.specs.declared.phase.Phase.{Phase}
 use Rattle.lsp_session.specs.declared.phase.Phase.TheVariants.{Running}
+use Rattle.lsp_session.specs.declared.session.Session.{Session}
 use Rattle.lsp_session.specs.declared.step.Step.{Step}
 use Rattle.lsp_session.specs.declared.step.Step.TheVariants.{Begin, Finish}
 
@@ -452,30 +457,61 @@ knows-state config core bodies k =
 
 -- ---- work that comes behind a history
 
-pub works-none : (o : ℕ) (config : Configuration) (core : CoreState) (h : List Event) → IsAfter o config core h → WorksOn o config core h
-works-none o config core h after = record { after = h; is_after = after; came = refl; count = refl }
+same-gives : {X : Type 0} (f : List Event → X) → ((h : List Event) → f (Give ∷ h) ≡ f h) → (n : ℕ) (h : List Event) → f (replicate n Give ++ h) ≡ f h
+same-gives f same zero h = refl
+same-gives f same (suc n) h = same (replicate n Give ++ h) ∙ same-gives f same n h
 
-pub works-more : (o : ℕ) (config : Configuration) (mid new : CoreState) (h : List Event) → WorksOn o config mid h → ((g : List Event) → IsAfter o config mid g → WorksOn o config new g) → WorksOn o config new h
-works-more o config mid new h w more =
-    let later = more w.after w.is_after in
-    record { after = later.after; is_after = later.is_after; came = later.came ∙ w.came; count = later.count ∙ w.count }
+-- a state of a session is that of its files
+pub same-state : (s : Session) (old new : WorkspaceData) → new.files ≡ old.files → state_of s new ≡ state_of s old
+same-state s old new same =
+    let fresh : Files → State = λ files. record { roots = roots_of s; client = client_view s.client; phase = s.phase; files = files } in
+    ap fresh same
 
-pub works-job : (o : ℕ) (config : Configuration) (core : CoreState) (h : List Event) → IsAfter o config core (Give ∷ h) → WorksOn o config core h
-works-job o config core h after = record { after = Give ∷ h; is_after = after; came = refl; count = refl }
+-- only the board has changed
+module _ (o : ℕ) (config : Configuration) (old new : CoreState) (h : List Event) (state : new.state ≡ old.state) (queue : new.queue ≡ old.queue) (pending : new.pending ≡ old.pending) (after : IsAfter o config old h) where
+  legal-gives : (n : ℕ) → IsLegal o config (replicate n Give ++ h)
+  legal-gives zero = after.legal
+  legal-gives (suc n) = legal-gives n
 
--- where a job was asked for and none was left
-pub hands-none : NoJobChangesNothing → (o : ℕ) (config : Configuration) (mid new : CoreState) (h : List Event) (no_room : Type 0) → WorksOn o config mid h
-    → ((g : List Event) → IsAfter o config mid g → IsAfter o config new (Give ∷ g)) → ((g : List Event) → IsAfter o config mid g → IsFirstWanted o (board_events config g) None) → HandsOut o config new h no_room
-hands-none same o config mid new h no_room w gives none =
-    let wanted = none w.after w.is_after in
-    record {
-      works = record { after = Give ∷ w.after; is_after = gives w.after w.is_after; came = w.came; count = w.count };
-      stops = inr (λ q. ap wants (same o (board_events config w.after) wanted q) ∙ wanted q);
-    }
+  board-gives : (n : ℕ) → replicate n work.NextJob ++ board_events config h ≡ board_events config (replicate n Give ++ h)
+  board-gives zero = refl
+  board-gives (suc n) = ap (λ es. work.NextJob ∷ es) (board-gives n)
 
-pub works-result : (o : ℕ) (config : Configuration) (core : CoreState) (h : List Event) (sent : Done) → IsAfter o config core (event_of sent ∷ h) → WorksOn o config core h
-works-result o config core h (job.Made piece) after = record { after = Offer piece.path piece.stamp piece.text ∷ h; is_after = after; came = refl; count = refl }
-works-result o config core h (job.Failed path stamp) after = record { after = Fail (string_bytes path) stamp ∷ h; is_after = after; came = refl; count = refl }
+  pub hands-out : (no_room : Type 0) → dispatch.HandsOut old.board new.board no_room → HandsOut o config new h no_room
+  hands-out no_room hands =
+      let n = hands.jobs in
+      record {
+        works = record {
+          after = replicate n Give ++ h;
+          is_after = record {
+            legal = legal-gives n;
+            state = state ∙ after.state ∙ sym (same-gives (state_after config) (λ g. refl) n h);
+            queue = queue ∙ after.queue ∙ sym (same-gives (λ g. map message_of (waiting g)) (λ g. refl) n h);
+            pending = pending ∙ after.pending ∙ sym (same-gives (pending_after config) (λ g. refl) n h);
+            board = subst (λ es. board.IsAfter o new.board es) (board-gives n) (hands.records o (board_events config h) after.board);
+          };
+          came = same-gives messages (λ g. refl) n h;
+          count = same-gives processed (λ g. refl) n h;
+        };
+        stops = ⊎_elim (λ full. inl full) (λ none. inr (subst (λ es. IsFirstWanted o es None) (board-gives n) (none o (board_events config h) after.board))) hands.stops;
+      }
+
+  brought : (done : Done) → board.IsAfter o new.board (dispatch.event_of done ∷ board_events config h) → WorksOn o config new h
+  brought (job.Made piece) now = record {
+    after = Offer piece.path piece.stamp piece.text ∷ h;
+    is_after = record { legal = after.legal; state = state ∙ after.state; queue = queue ∙ after.queue; pending = pending ∙ after.pending; board = now };
+    came = refl;
+    count = refl;
+  }
+  brought (job.Failed path stamp) now = record {
+    after = Fail (string_bytes path) stamp ∷ h;
+    is_after = record { legal = after.legal; state = state ∙ after.state; queue = queue ∙ after.queue; pending = pending ∙ after.pending; board = now };
+    came = refl;
+    count = refl;
+  }
+
+  pub brings-result : dispatch.BringsResult old.board new.board → WorksOn o config new h
+  brings-result brings = brought brings.done (brings.records o (board_events config h) after.board)
 
 pub knows-on : (config : Configuration) (old new : CoreState) (bodies : List (List ℕ)) → Knows config old bodies → ((h : List Event) → IsAfter 0 config old h → WorksOn 0 config new h) → Knows config new bodies
 knows-on config old new bodies k works =

@@ -4,7 +4,7 @@ use Rattle.piece_collector.specs.declared.verdict.Verdict.{Verdict}
 use Rattle.std.proofs.lemmas.List.{take-append-le}
 use Rattle.lsp_config.specs.Configuration.{Configuration}
 use Rattle.lsp_session.specs.Core.{Event, Advance, messages, processed, done, CoreState, IsAfter, ExhaustsStamps, Advances}
-use Rattle.lsp_session.specs.Run.{Incoming, Message, Made, Failed, Work, incoming_of, is_message, verdicts_of, Comes, Follows, Runs, HasRun, HasCome, HasFollowed}
+use Rattle.lsp_session.specs.Run.{Incoming, Message, Made, Failed, Work, incoming_of, is_message, verdicts_of, Extends, Follows, Runs, HasRun, HasCome, HasFollowed}
 use Rattle.lsp_session.specs.Session.{session}
 use Rattle.lsp_session.specs.Steps.{unprocessed}
 use Rattle.lsp_session.specs.declared.run.CoreEvent.{CoreEvent}
@@ -13,7 +13,7 @@ use Rattle.lsp_session.proofs.CoreLemmas.{session-none, processed-known, unproce
 -- ---- one event, and then an advance
 
 -- what comes processes nothing
-done-comes : (o : ℕ) (config : Configuration) (e : Incoming) (h after : List Event) → Comes o config e h after → processed h ≤ length (messages h) → done after ≡ done h
+done-comes : (o : ℕ) (config : Configuration) (e : Incoming) (h after : List Event) → Extends o config e h after → processed h ≤ length (messages h) → done after ≡ done h
 done-comes o config (Message body) h after comes known = ap done comes ∙ take-append-le (processed h) (messages h) (body ∷ []) known
 done-comes o config (Made path stamp text) h after comes known = ap done comes
 done-comes o config (Failed path stamp) h after comes known = ap done comes
@@ -74,7 +74,7 @@ run_more config old new es e replies more verdicts judged r f =
 plus_none : (n : ℕ) → n ≡ n + 0
 plus_none n = omega arith
 
-messages-come : (o : ℕ) (config : Configuration) (e : Incoming) (h after : List Event) → Comes o config e h after → length (messages after) ≡ length (messages h) + length (filter is_message (e ∷ []))
+messages-come : (o : ℕ) (config : Configuration) (e : Incoming) (h after : List Event) → Extends o config e h after → length (messages after) ≡ length (messages h) + length (filter is_message (e ∷ []))
 messages-come o config (Message body) h after comes = ap (λ g. length (messages g)) comes ∙ length-append (messages h) (body ∷ [])
 messages-come o config (Made path stamp text) h after comes = ap (λ g. length (messages g)) comes ∙ plus_none (length (messages h))
 messages-come o config (Failed path stamp) h after comes = ap (λ g. length (messages g)) comes ∙ plus_none (length (messages h))

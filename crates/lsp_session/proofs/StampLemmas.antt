@@ -15,7 +15,7 @@ use Rattle.lsp_config.specs.Configuration.{Configuration, files_of}
 use Rattle.lsp_session.specs.Core.{Event, Arrive, Advance, Give, Offer, Fail, messages, begun, processed, done, next_body, waiting, board_events, IsLegal, CoreState, IsAfter, ExhaustsStamps}
 use Rattle.lsp_session.specs.Session.{State, turn, path_in, opened_path, changed_path, session}
 use Rattle.lsp_session.specs.View.{IsExhausted}
-use Rattle.lsp_session.specs.Working.{events_for_path, events_by_method, events_in_phase, events_of, board_events_of}
+use Rattle.lsp_session.specs.BoardEvents.{events_for_path, events_by_method, events_in_phase, events_of, board_events_of}
 use Rattle.lsp_session.specs.declared.phase.Phase.{Phase}
 use Rattle.lsp_session.specs.declared.phase.Phase.TheVariants.{Uninitialized, Running, Shut, Exited}
 use Rattle.lsp_session.specs.declared.step.Step.TheVariants.{Begin, Finish}

@@ -9,7 +9,7 @@ use Rattle.lsp_config.specs.Configuration.{Configuration, files_of}
 use Rattle.lsp_workspace.specs.Files.{workspace}
 use Rattle.lsp_workspace.specs.Texts.{StampsRunOut, first_events}
 use Rattle.lsp_session.specs.Session.{State, Pending, Turn, turn, waits, needs_analysis, session}
-use Rattle.lsp_session.specs.Working.{board_events_of}
+use Rattle.lsp_session.specs.BoardEvents.{board_events_of}
 use Rattle.lsp_session.specs.declared.step.Step.{Step}
 use Rattle.lsp_session.specs.declared.step.Step.TheVariants.{Begin, Finish}
 
@@ -139,6 +139,14 @@ pub record IsAfter (opening : ℕ) (config : Configuration) (core : CoreState) (
   pub queue : core.queue ≡ map message_of (waiting h)
   pub pending : core.pending ≡ pending_after config h
   pub board : board.IsAfter opening core.board (board_events config h)
+
+-- this is so of every history that the core is as after
+abbrev pub WhateverCame : CoreState → (ℕ → Configuration → List Event → Type 0) → Type 0
+WhateverCame core says = (opening : ℕ) (config : Configuration) (h : List Event) → IsAfter opening config core h → says opening config h
+
+-- whatever history the old core is as after, the new one is as after that and then these events, the latest first
+abbrev pub Records : CoreState → CoreState → List Event → Type 0
+Records old new later = WhateverCame old (λ opening config h. IsAfter opening config new (later ++ h))
 
 -- after some steps that may come, a message has begun that is answered from an analysis
 pub record ComesToAnAnalysis (opening : ℕ) (config : Configuration) (h : List Event) : Type 0 where

@@ -1,5 +1,5 @@
 pub mod Session
-pub mod Working
+pub mod BoardEvents
 pub mod Stream
 pub mod Core
 pub mod Run

@@ -18,11 +18,6 @@ abbrev pub event_of : Done → Event
 event_of (job.Made piece) = Offer piece.path piece.stamp piece.text
 event_of (job.Failed path stamp) = Fail (string_bytes path) stamp
 
--- whether it tells of a job that failed
-abbrev pub has_failed : Done → Bool
-has_failed (job.Made piece) = false
-has_failed (job.Failed path stamp) = true
-
 -- what a caller lists: a message, the work on a text, a failure, or that all work is done that the core has to give
 pub data Incoming : Type 0 where
   Message : List ℕ → Incoming
@@ -40,11 +35,11 @@ incoming_of (listed.Offer sent) = incoming_of_done sent
 incoming_of listed.Work = Work
 
 -- the history behind it
-abbrev pub Comes : ℕ → Configuration → Incoming → List Event → List Event → Type 0
-Comes opening config (Message body) h after = after ≡ Arrive body ∷ h
-Comes opening config (Made path stamp text) h after = after ≡ Offer path stamp text ∷ h
-Comes opening config (Failed path stamp) h after = after ≡ Fail path stamp ∷ h
-Comes opening config Work h after = IsWorked opening config h after
+abbrev pub Extends : ℕ → Configuration → Incoming → List Event → List Event → Type 0
+Extends opening config (Message body) h after = after ≡ Arrive body ∷ h
+Extends opening config (Made path stamp text) h after = after ≡ Offer path stamp text ∷ h
+Extends opening config (Failed path stamp) h after = after ≡ Fail path stamp ∷ h
+Extends opening config Work h after = IsWorked opening config h after
 
 -- the verdict that it gets
 abbrev pub verdicts_of : ℕ → Configuration → List Event → Incoming → List Verdict
@@ -56,7 +51,7 @@ verdicts_of opening config h Work = []
 -- it came, and then as many steps were taken as could be
 pub record Follows (opening : ℕ) (config : Configuration) (e : Incoming) (h next : List Event) : Type 0 where
   pub after : List Event
-  pub comes : Comes opening config e h after
+  pub comes : Extends opening config e h after
   pub steps : List Step
   pub is : next ≡ map Advance steps ++ after
   pub legal : IsLegal opening config next
@@ -85,7 +80,7 @@ is_message Work = false
 -- the core is as after one more event
 pub record HasCome (opening : ℕ) (config : Configuration) (core : CoreState) (e : Incoming) (h : List Event) : Type 0 where
   pub after : List Event
-  pub comes : Comes opening config e h after
+  pub comes : Extends opening config e h after
   pub is_after : IsAfter opening config core after
 
 -- the core is as after one more event and an advance, and replies and verdicts were added to those that there were

@@ -1,14 +1,13 @@
 // Documents of a session: their paths, and what the editor does to them.
-ghost use Rattle.std.specs.Prelude.{◌≡◌, ◌++◌, ◌∷◌, [], ℕ, List, Err, IfOk, OnOk, OnErr, option_map, string_bytes};
-ghost use Rattle.piece_collector.specs.Board.{IsAfter};
-ghost use Rattle.piece_collector.specs.Events.{Event};
+ghost use Rattle.std.specs.Prelude.{◌≡◌, ◌∷◌, [], Err, IfOk, OnOk, OnErr, option_map, string_bytes};
 ghost use Rattle.serde_json.specs.View.{view};
 ghost use Rattle.lsp_rpc.specs.Params.{opened_of, changed_of};
 ghost use Rattle.lsp_workspace.specs.Files.{root_at};
+ghost use Rattle.lsp_workspace.specs.Recorded.{Records};
 ghost use Rattle.lsp_workspace.specs.Texts.{event_at, events_at};
 ghost use Rattle.lsp_workspace.specs.View.{files_view};
 ghost use Rattle.lsp_session.specs.Session as spec;
-ghost use Rattle.lsp_session.specs.Working as working;
+ghost use Rattle.lsp_session.specs.BoardEvents as on_board;
 
 use crate::pending::Pending;
 use crate::session::Session;
@@ -85,8 +84,7 @@ impl Session {
     ) -> Result<Pending, BoardFault>
         ensures state { OnOk result (state_of self.now workspace.new ≡ spec.opened (state_of self.now workspace.old) (opened_of (view params))) }
         ensures pending { IfOk result (λ p. pending_view p ≡ spec.after_open (spec.opened_path (state_of self.now workspace.old) (view params))) }
-        ensures board { OnOk result ((opening : ℕ) (events : List Event) → IsAfter opening workspace.old.board events → IsAfter opening workspace.new.board
-            (working.events_for_path (λ path. event_at path workspace.new.files ∷ []) (spec.opened_path (state_of self.now workspace.old) (view params)) ++ events)) }
+        ensures board { OnOk result (Records workspace.old.board workspace.new.board (on_board.events_for_path (λ path. event_at path workspace.new.files ∷ []) (spec.opened_path (state_of self.now workspace.old) (view params)))) }
         ensures exhausted { result ≡ Err BoardFault.Exhausted → IsExhausted workspace.new.board }
         ensures err { OnErr result (workspace.new.board ≡ workspace.old.board) }
     {
@@ -112,8 +110,7 @@ impl Session {
     ) -> Result<Pending, BoardFault>
         ensures state { OnOk result (state_of self.now workspace.new ≡ spec.changed (state_of self.now workspace.old) (changed_of (view params))) }
         ensures pending { IfOk result (λ p. pending_view p ≡ spec.after_change workspace.old.files (spec.changed_path (state_of self.now workspace.old) (view params))) }
-        ensures board { OnOk result ((opening : ℕ) (events : List Event) → IsAfter opening workspace.old.board events → IsAfter opening workspace.new.board
-            (working.events_for_path (λ path. events_at path workspace.old.files workspace.new.files) (spec.changed_path (state_of self.now workspace.old) (view params)) ++ events)) }
+        ensures board { OnOk result (Records workspace.old.board workspace.new.board (on_board.events_for_path (λ path. events_at path workspace.old.files workspace.new.files) (spec.changed_path (state_of self.now workspace.old) (view params)))) }
         ensures exhausted { result ≡ Err BoardFault.Exhausted → IsExhausted workspace.new.board }
         ensures err { OnErr result (workspace.new.board ≡ workspace.old.board) }
     {
@@ -160,8 +157,7 @@ impl Session {
     ) -> Result<Pending, BoardFault>
         ensures state { OnOk result (state_of self.now workspace.new ≡ spec.closed (state_of self.now workspace.old) (view params.now)) }
         ensures pending { IfOk result (λ p. pending_view p ≡ spec.after_close workspace.old.files (spec.path_in (state_of self.now workspace.old) (view params.now))) }
-        ensures board { OnOk result ((opening : ℕ) (events : List Event) → IsAfter opening workspace.old.board events → IsAfter opening workspace.new.board
-            (working.events_for_path (λ path. events_at path workspace.old.files workspace.new.files) (spec.path_in (state_of self.now workspace.old) (view params.now)) ++ events)) }
+        ensures board { OnOk result (Records workspace.old.board workspace.new.board (on_board.events_for_path (λ path. events_at path workspace.old.files workspace.new.files) (spec.path_in (state_of self.now workspace.old) (view params.now)))) }
         ensures exhausted { result ≡ Err BoardFault.Exhausted → IsExhausted workspace.new.board }
         ensures err { OnErr result (workspace.new.board ≡ workspace.old.board) }
     {

@@ -1,9 +1,8 @@
 // A core over a list of events.
-ghost use Rattle.std.specs.Prelude.{◌≡◌, ◌+◌, ℕ, List, [], ◌∷◌, ◌++◌, filter, length, map, None, Err, IfOk, IfErr, OnOk};
+ghost use Rattle.std.specs.Prelude.{◌≡◌, ◌+◌, [], ◌∷◌, ◌++◌, filter, length, map, None, Err, IfOk, IfErr, OnOk};
 ghost use Rattle.std.specs.Option.{option_to_list};
-ghost use Rattle.lsp_config.specs.Configuration.{Configuration};
 ghost use Rattle.lsp_config.specs.Fault.{ComesWithoutThreads};
-ghost use Rattle.lsp_session.specs.Core.{Event, messages, IsAfter, ExhaustsStamps};
+ghost use Rattle.lsp_session.specs.Core.{messages, WhateverCame, ExhaustsStamps};
 ghost use Rattle.lsp_session.specs.Run.{incoming_of, is_message, verdicts_of, HasCome, HasFollowed, HasRun};
 ghost use Rattle.lsp_session.specs.View.{core_state, last_fault};
 
@@ -39,8 +38,8 @@ pub struct CoreRun {
 
 // Gives the core an event, and says what became of it, if it is an offer.
 fn take(core: &mut Core, event: CoreEvent) -> Result<Option<Verdict>, CoreFault>
-    ensures comes { OnOk result ((opening : ℕ) (config : Configuration) (h : List Event) → IsAfter opening config (core_state core.old) h → HasCome opening config (core_state core.new) (incoming_of event) h) }
-    ensures verdict { IfOk result (λ verdict. (opening : ℕ) (config : Configuration) (h : List Event) → IsAfter opening config (core_state core.old) h → option_to_list verdict ≡ verdicts_of opening config h (incoming_of event)) }
+    ensures comes { OnOk result (WhateverCame (core_state core.old) (λ opening config h. HasCome opening config (core_state core.new) (incoming_of event) h)) }
+    ensures verdict { IfOk result (λ verdict. WhateverCame (core_state core.old) (λ opening config h. option_to_list verdict ≡ verdicts_of opening config h (incoming_of event))) }
     ensures open { last_fault core.old ≡ None → OnOk result (last_fault core.new ≡ None) }
     ensures memory { last_fault core.old ≡ None → IfErr result (λ fault. fault ≡ CoreFault.Memory) }
 {
@@ -85,12 +84,10 @@ fn handle(
     replies: &mut Vec<Reply>,
     verdicts: &mut Vec<Verdict>,
 ) -> Result<(), CoreFault>
-    ensures follows { OnOk result ((opening : ℕ) (config : Configuration) (h : List Event) → IsAfter opening config (core_state core.old) h
-        → HasFollowed opening config (core_state core.new) (incoming_of event) h replies.old.items replies.new.items verdicts.old.items verdicts.new.items) }
+    ensures follows { OnOk result (WhateverCame (core_state core.old) (λ opening config h. HasFollowed opening config (core_state core.new) (incoming_of event) h replies.old.items replies.new.items verdicts.old.items verdicts.new.items)) }
     ensures open { last_fault core.old ≡ None → OnOk result (last_fault core.new ≡ None) }
     ensures threads { last_fault core.old ≡ None → IfErr result ComesWithoutThreads }
-    ensures stamps { last_fault core.old ≡ None → result ≡ Err CoreFault.Exhausted → (opening : ℕ) (config : Configuration) (h : List Event) → IsAfter opening config (core_state core.old) h
-        → ExhaustsStamps opening config (length (messages h) + length (filter is_message (incoming_of event ∷ []))) }
+    ensures stamps { last_fault core.old ≡ None → result ≡ Err CoreFault.Exhausted → WhateverCame (core_state core.old) (λ opening config h. ExhaustsStamps opening config (length (messages h) + length (filter is_message (incoming_of event ∷ [])))) }
 {
     let verdict = take(core, event)?;
     push_verdict(verdicts, verdict)?;

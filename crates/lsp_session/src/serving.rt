@@ -119,7 +119,7 @@ fn run<
 /// their facts; 0 counts as 1, and over 64 as 64. Each enters the gate before it works on a text. A text is handed
 /// out as soon as the workers have room for one more, not only when a message asks for it. If a message needs a whole analysis, as
 /// many threads resolve the names of the files, but never more than there are files; each enters the gate before each of its files.
-/// After changes of at most 64 texts, and if files came or left, this thread does it alone.
+/// If at most 64 files came, left or got other texts since the last analysis, this thread does it alone.
 ///
 /// It ends with the message `exit`, behind which nothing is read, or with the input: at its end or at a frame that
 /// can't be read. The faults: `Read` where the source failed, `Write` where the sink did, `Memory` where memory was refused, also

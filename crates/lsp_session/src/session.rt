@@ -1,18 +1,17 @@
 // The session: what a message changes, and what is left to be answered to it.
-ghost use Rattle.std.specs.Prelude.{◌≡◌, ◌++◌, ◌∷◌, [], ℕ, List, Err, IfOk, OnOk, OnErr, IsTrue, true, map, string_bytes};
-ghost use Rattle.piece_collector.specs.Board.{IsAfter};
-ghost use Rattle.piece_collector.specs.Events.{Event};
+ghost use Rattle.std.specs.Prelude.{◌≡◌, ◌++◌, ◌∷◌, [], Err, IfOk, OnOk, OnErr, IsTrue, true, map, string_bytes};
 ghost use Rattle.serde_json.specs.View.{view};
 ghost use Rattle.serde_json.specs.Written.{compact_text};
 ghost use Rattle.lsp_rpc.specs.ClientCapabilities.{default_client};
 ghost use Rattle.lsp_rpc.specs.Message.{id_view, message_view};
 ghost use Rattle.workspace_uri.specs.View.{roots_texts};
+ghost use Rattle.lsp_workspace.specs.Recorded.{Records};
 ghost use Rattle.lsp_workspace.specs.View.{WorkspaceData};
 ghost use Rattle.lsp_answers.specs.Questions.{answer};
 ghost use Rattle.lsp_answers.specs.Reports.{publications};
 ghost use Rattle.lsp_answers.specs.Views.{question_view};
 ghost use Rattle.lsp_session.specs.Session as spec;
-ghost use Rattle.lsp_session.specs.Working as working;
+ghost use Rattle.lsp_session.specs.BoardEvents as on_board;
 
 use crate::pending::Pending;
 use crate::phase::Phase;
@@ -151,8 +150,7 @@ impl Session {
     ) -> Result<Pending, BoardFault>
         ensures state { OnOk result (state_of self.new workspace.new ≡ spec.running_notification (state_of self.old workspace.old) method (view params)) }
         ensures pending { IfOk result (λ p. pending_view p ≡ spec.running_publishes (state_of self.old workspace.old) method (view params)) }
-        ensures board { OnOk result ((opening : ℕ) (events : List Event) → IsAfter opening workspace.old.board events
-            → IsAfter opening workspace.new.board (working.events_by_method (state_of self.old workspace.old) method (view params) workspace.new.files ++ events)) }
+        ensures board { OnOk result (Records workspace.old.board workspace.new.board (on_board.events_by_method (state_of self.old workspace.old) method (view params) workspace.new.files)) }
         ensures exhausted { result ≡ Err BoardFault.Exhausted → IsExhausted workspace.new.board }
         ensures err { OnErr result (workspace.new.board ≡ workspace.old.board) }
     {
@@ -181,8 +179,7 @@ impl Session {
             ≡ spec.notified (phase_of self.old) (state_of self.old workspace.old) method (view params)) }
         ensures pending { IfOk result (λ p. pending_view p
             ≡ spec.publishes (phase_of self.old) (state_of self.old workspace.old) method (view params)) }
-        ensures board { OnOk result ((opening : ℕ) (events : List Event) → IsAfter opening workspace.old.board events
-            → IsAfter opening workspace.new.board (working.events_in_phase (phase_of self.old) (state_of self.old workspace.old) method (view params) workspace.new.files ++ events)) }
+        ensures board { OnOk result (Records workspace.old.board workspace.new.board (on_board.events_in_phase (phase_of self.old) (state_of self.old workspace.old) method (view params) workspace.new.files)) }
         ensures exhausted { result ≡ Err BoardFault.Exhausted → IsExhausted workspace.new.board }
         ensures err { OnErr result (workspace.new.board ≡ workspace.old.board) }
     {
@@ -215,8 +212,7 @@ impl Session {
     ) -> Result<Pending, BoardFault>
         ensures state { OnOk result (state_of self.new workspace.new ≡ (spec.received (state_of self.old workspace.old) (message_view message)).state) }
         ensures pending { IfOk result (λ p. pending_view p ≡ (spec.received (state_of self.old workspace.old) (message_view message)).pending) }
-        ensures board { OnOk result ((opening : ℕ) (events : List Event) → IsAfter opening workspace.old.board events
-            → IsAfter opening workspace.new.board (working.events_of (state_of self.old workspace.old) (message_view message) workspace.new.files ++ events)) }
+        ensures board { OnOk result (Records workspace.old.board workspace.new.board (on_board.events_of (state_of self.old workspace.old) (message_view message) workspace.new.files)) }
         ensures exhausted { result ≡ Err BoardFault.Exhausted → IsExhausted workspace.new.board }
         ensures err { OnErr result (workspace.new.board ≡ workspace.old.board) }
     {
@@ -247,7 +243,7 @@ impl Session {
     ) -> Result<Pending, BoardFault>
         ensures state { OnOk result (state_of self.new workspace.new ≡ (spec.turn (state_of self.old workspace.old) (message_view message)).state) }
         ensures pending { IfOk result (λ p. pending_view p ≡ (spec.turn (state_of self.old workspace.old) (message_view message)).pending) }
-        ensures board { OnOk result ((opening : ℕ) (events : List Event) → IsAfter opening workspace.old.board events → IsAfter opening workspace.new.board (working.board_events_of (state_of self.old workspace.old) (message_view message) ++ events)) }
+        ensures board { OnOk result (Records workspace.old.board workspace.new.board (on_board.board_events_of (state_of self.old workspace.old) (message_view message))) }
         ensures exhausted { result ≡ Err BoardFault.Exhausted → IsExhausted workspace.new.board }
         ensures err { OnErr result (workspace.new.board ≡ workspace.old.board) }
     {

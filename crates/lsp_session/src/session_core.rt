@@ -1,12 +1,12 @@
 // The core: messages and work in, replies and jobs out, and nothing of streams.
-ghost use Rattle.std.specs.Prelude.{◌≡◌, ◌↔◌, ◌<◌, ◌++◌, ℕ, List, [], ◌∷◌, length, option_map, Some, None, Err, IfOk, IfErr, IfSome, OnOk, OnErr, IsTrue, true, false};
+ghost use Rattle.std.specs.Prelude.{◌≡◌, ◌↔◌, ◌<◌, ℕ, List, [], ◌∷◌, length, option_map, Some, None, Err, IfOk, IfErr, IfSome, OnOk, OnErr, IsTrue, false};
 ghost use Rattle.piece_collector.specs.Board.{IsFirstWanted, IsFull, current_text};
 ghost use Rattle.piece_collector.specs.History.{stands_at};
 ghost use Rattle.lsp_config.specs.Configuration.{Configuration, files_of};
 ghost use Rattle.lsp_config.specs.Fault.{ComesWithoutThreads};
 ghost use Rattle.lsp_workspace.specs.Files.{workspace};
 ghost use Rattle.lsp_workspace.specs.Texts.{StampsRunOut};
-ghost use Rattle.lsp_session.specs.Core.{Event, Arrive, Advance, Give, messages, processed, board_events, IsAfter, MayStep, IsSettled, ComesToAnAnalysis, ExhaustsStamps, Replied, Advances};
+ghost use Rattle.lsp_session.specs.Core.{Event, Arrive, Advance, Give, messages, processed, board_events, IsAfter, WhateverCame, Records, MayStep, IsSettled, ComesToAnAnalysis, ExhaustsStamps, Replied, Advances};
 ghost use Rattle.lsp_session.specs.Run.{event_of, incoming_of_done, verdicts_of};
 ghost use Rattle.lsp_session.specs.Steps.{CanStep, IsPrepared, IsReady, NeedsAnalysis, steps_left, unprocessed};
 ghost use Rattle.lsp_session.specs.Stream.{exit_of};
@@ -36,7 +36,7 @@ use work_index::{AnalyseFault, Done, Gate};
 pub struct Core {
     alloc: Global,
     session: Session,
-    workspace: Workspace,
+    pub(crate) workspace: Workspace,
     queue: VecDeque<Message>,
     /// What is left to be answered to the message that has begun.
     pending: Option<Pending>,
@@ -98,7 +98,7 @@ impl Core {
         ensures open { OnOk result (last_fault self.new ≡ None) }
 
         // What the core stood for, it stands for with one more message.
-        ensures arrives { OnOk result ((opening : ℕ) (config : Configuration) (h : List Event) → IsAfter opening config (core_state self.old) h → IsAfter opening config (core_state self.new) (Arrive body.now ∷ h)) }
+        ensures arrives { OnOk result (Records (core_state self.old) (core_state self.new) (Arrive body.now ∷ [])) }
     {
         if let Some(fault) = self.fault {
             return Err(fault);
@@ -111,7 +111,7 @@ impl Core {
 
     fn enqueue(&mut self, body: &[u8]) -> Result<(), AllocError>
         ensures fault { last_fault self.new ≡ last_fault self.old }
-        ensures arrives { OnOk result ((opening : ℕ) (config : Configuration) (h : List Event) → IsAfter opening config (core_state self.old) h → IsAfter opening config (core_state self.new) (Arrive body.now ∷ h)) }
+        ensures arrives { OnOk result (Records (core_state self.old) (core_state self.new) (Arrive body.now ∷ [])) }
     {
         let message = Message::parse(self.alloc, body)?;
         self.queue.push_back(message)?;
@@ -133,11 +133,11 @@ impl Core {
         ensures state { (core_state self.new).state ≡ (core_state self.old).state }
 
         // What the core stood for, it stands for with one more job asked for.
-        ensures gives { OnOk result ((opening : ℕ) (config : Configuration) (h : List Event) → IsAfter opening config (core_state self.old) h → IsAfter opening config (core_state self.new) (Give ∷ h)) }
+        ensures gives { OnOk result (Records (core_state self.old) (core_state self.new) (Give ∷ [])) }
 
         // The job is for the first wanted path, with the current stamp and text of that path.
-        ensures first { IfOk result (λ job. (opening : ℕ) (config : Configuration) (h : List Event) → IsAfter opening config (core_state self.old) h → IsFirstWanted opening (board_events config h) (option_map (λ j. j.path) job)) }
-        ensures text { IfOk result (λ job. (opening : ℕ) (config : Configuration) (h : List Event) → IsAfter opening config (core_state self.old) h → IfSome job (λ j. option_map (current_text j.path) (stands_at opening (board_events config h) j.path) ≡ Some j)) }
+        ensures first { IfOk result (λ job. WhateverCame (core_state self.old) (λ opening config h. IsFirstWanted opening (board_events config h) (option_map (λ j. j.path) job))) }
+        ensures text { IfOk result (λ job. WhateverCame (core_state self.old) (λ opening config h. IfSome job (λ j. option_map (current_text j.path) (stands_at opening (board_events config h) j.path) ≡ Some j))) }
     {
         if let Some(fault) = self.fault {
             return Err(fault);
@@ -156,8 +156,8 @@ impl Core {
         ensures open { OnOk result (last_fault self.new ≡ None) }
 
         // What the core stood for, it stands for with what was brought.
-        ensures brings { OnOk result ((opening : ℕ) (config : Configuration) (h : List Event) → IsAfter opening config (core_state self.old) h → IsAfter opening config (core_state self.new) (event_of sent ∷ h)) }
-        ensures verdict { IfOk result (λ verdict. (opening : ℕ) (config : Configuration) (h : List Event) → IsAfter opening config (core_state self.old) h → verdict ∷ [] ≡ verdicts_of opening config h (incoming_of_done sent)) }
+        ensures brings { OnOk result (Records (core_state self.old) (core_state self.new) (event_of sent ∷ [])) }
+        ensures verdict { IfOk result (λ verdict. WhateverCame (core_state self.old) (λ opening config h. verdict ∷ [] ≡ verdicts_of opening config h (incoming_of_done sent))) }
     {
         if let Some(fault) = self.fault {
             return Err(fault);
@@ -167,8 +167,8 @@ impl Core {
 
     fn take(&mut self, sent: Done) -> Verdict
         ensures fault { last_fault self.new ≡ last_fault self.old }
-        ensures brings { (opening : ℕ) (config : Configuration) (h : List Event) → IsAfter opening config (core_state self.old) h → IsAfter opening config (core_state self.new) (event_of sent ∷ h) }
-        ensures verdict { (opening : ℕ) (config : Configuration) (h : List Event) → IsAfter opening config (core_state self.old) h → result ∷ [] ≡ verdicts_of opening config h (incoming_of_done sent) }
+        ensures brings { Records (core_state self.old) (core_state self.new) (event_of sent ∷ []) }
+        ensures verdict { WhateverCame (core_state self.old) (λ opening config h. result ∷ [] ≡ verdicts_of opening config h (incoming_of_done sent)) }
     {
         match sent {
             Done::Made(piece) => self.workspace.offer(piece),
@@ -189,11 +189,11 @@ impl Core {
         ensures exhausted { last_fault self.old ≡ None → result ≡ Err CoreFault.Exhausted → IsExhausted (core_state self.new).board }
 
         // No stamp is left only where the files on disk and the messages that came are more than the stamps.
-        ensures stamps { last_fault self.old ≡ None → result ≡ Err CoreFault.Exhausted → (opening : ℕ) (config : Configuration) (h : List Event) → IsAfter opening config (core_state self.old) h → ExhaustsStamps opening config (length (messages h)) }
+        ensures stamps { last_fault self.old ≡ None → result ≡ Err CoreFault.Exhausted → WhateverCame (core_state self.old) (λ opening config h. ExhaustsStamps opening config (length (messages h))) }
         ensures open { OnOk result (last_fault self.new ≡ None) }
 
         // What the core stood for, it stands for with all messages processed that could be.
-        ensures advances { IfOk result (λ replies. (opening : ℕ) (config : Configuration) (h : List Event) → IsAfter opening config (core_state self.old) h → Advances opening config (core_state self.new) h replies.items) }
+        ensures advances { IfOk result (λ replies. WhateverCame (core_state self.old) (λ opening config h. Advances opening config (core_state self.new) h replies.items)) }
     {
         if let Some(fault) = self.fault {
             return Err(fault);
@@ -206,8 +206,8 @@ impl Core {
 
     /// Does what [`advance`](Core::advance) does, but as many threads as there are `workers` make a whole analysis: 0 counts as 1,
     /// and over 64 as 64, and there are never more than there are files. Each thread enters the gate before each of its files. If
-    /// at most 64 files left or got other texts since the last analysis, no thread is started and no gate is entered, whatever files
-    /// came. It waits until each thread has ended.
+    /// at most 64 files came, left or got other texts since the last analysis, no thread is started and no gate is entered. It waits
+    /// until each thread has ended.
     ///
     /// `Memory` if memory was refused, here or in a thread, `ThreadRefused` if a thread couldn't be started, `Exhausted` if a text
     /// finds no stamp: then the replies of this call are lost.
@@ -223,14 +223,14 @@ impl Core {
         ensures exhausted { last_fault self.old ≡ None → result ≡ Err CoreFault.Exhausted → IsExhausted (core_state self.new).board }
 
         // No stamp is left only where the files on disk and the messages that came are more than the stamps.
-        ensures stamps { last_fault self.old ≡ None → result ≡ Err CoreFault.Exhausted → (opening : ℕ) (config : Configuration) (h : List Event) → IsAfter opening config (core_state self.old) h → ExhaustsStamps opening config (length (messages h)) }
+        ensures stamps { last_fault self.old ≡ None → result ≡ Err CoreFault.Exhausted → WhateverCame (core_state self.old) (λ opening config h. ExhaustsStamps opening config (length (messages h))) }
 
         // A thread is refused only where a message comes to be answered from an analysis.
-        ensures threads { last_fault self.old ≡ None → result ≡ Err CoreFault.ThreadRefused → (opening : ℕ) (config : Configuration) (h : List Event) → IsAfter opening config (core_state self.old) h → ComesToAnAnalysis opening config h }
+        ensures threads { last_fault self.old ≡ None → result ≡ Err CoreFault.ThreadRefused → WhateverCame (core_state self.old) ComesToAnAnalysis }
         ensures open { OnOk result (last_fault self.new ≡ None) }
 
         // What the core stood for, it stands for with all messages processed that could be.
-        ensures advances { IfOk result (λ replies. (opening : ℕ) (config : Configuration) (h : List Event) → IsAfter opening config (core_state self.old) h → Advances opening config (core_state self.new) h replies.items) }
+        ensures advances { IfOk result (λ replies. WhateverCame (core_state self.old) (λ opening config h. Advances opening config (core_state self.new) h replies.items)) }
     {
         if let Some(fault) = self.fault {
             return Err(fault);
@@ -244,8 +244,8 @@ impl Core {
     fn take_steps(&mut self) -> Result<Vec<Reply>, BoardFault>
         ensures fault { last_fault self.new ≡ last_fault self.old }
         ensures exhausted { result ≡ Err BoardFault.Exhausted → IsExhausted (core_state self.new).board }
-        ensures stamps { result ≡ Err BoardFault.Exhausted → (opening : ℕ) (config : Configuration) (h : List Event) → IsAfter opening config (core_state self.old) h → ExhaustsStamps opening config (length (messages h)) }
-        ensures advances { IfOk result (λ replies. (opening : ℕ) (config : Configuration) (h : List Event) → IsAfter opening config (core_state self.old) h → Advances opening config (core_state self.new) h replies.items) }
+        ensures stamps { result ≡ Err BoardFault.Exhausted → WhateverCame (core_state self.old) (λ opening config h. ExhaustsStamps opening config (length (messages h))) }
+        ensures advances { IfOk result (λ replies. WhateverCame (core_state self.old) (λ opening config h. Advances opening config (core_state self.new) h replies.items)) }
     {
         let mut replies = Vec::new(self.alloc);
         'steps: while let Some(step) = self.next_step() {
@@ -263,9 +263,9 @@ impl Core {
     ) -> Result<Vec<Reply>, CoreFault>
         ensures fault { last_fault self.new ≡ last_fault self.old }
         ensures exhausted { result ≡ Err CoreFault.Exhausted → IsExhausted (core_state self.new).board }
-        ensures stamps { result ≡ Err CoreFault.Exhausted → (opening : ℕ) (config : Configuration) (h : List Event) → IsAfter opening config (core_state self.old) h → ExhaustsStamps opening config (length (messages h)) }
-        ensures threads { result ≡ Err CoreFault.ThreadRefused → (opening : ℕ) (config : Configuration) (h : List Event) → IsAfter opening config (core_state self.old) h → ComesToAnAnalysis opening config h }
-        ensures advances { IfOk result (λ replies. (opening : ℕ) (config : Configuration) (h : List Event) → IsAfter opening config (core_state self.old) h → Advances opening config (core_state self.new) h replies.items) }
+        ensures stamps { result ≡ Err CoreFault.Exhausted → WhateverCame (core_state self.old) (λ opening config h. ExhaustsStamps opening config (length (messages h))) }
+        ensures threads { result ≡ Err CoreFault.ThreadRefused → WhateverCame (core_state self.old) ComesToAnAnalysis }
+        ensures advances { IfOk result (λ replies. WhateverCame (core_state self.old) (λ opening config h. Advances opening config (core_state self.new) h replies.items)) }
     {
         let mut replies = Vec::new(self.alloc);
         'steps: while let Some(step) = self.next_step() {
@@ -279,8 +279,8 @@ impl Core {
     fn next_step(&self) -> Option<Step>
         ensures ready { IfSome result (λ step. IsReady (core_state self.now)) }
         ensures can { IfSome result (λ step. CanStep (core_state self.now) step) }
-        ensures may { IfSome result (λ step. (opening : ℕ) (config : Configuration) (h : List Event) → IsAfter opening config (core_state self.now) h → MayStep opening config h step) }
-        ensures settled { result ≡ None → (opening : ℕ) (config : Configuration) (h : List Event) → IsAfter opening config (core_state self.now) h → IsSettled opening config h }
+        ensures may { IfSome result (λ step. WhateverCame (core_state self.now) (λ opening config h. MayStep opening config h step)) }
+        ensures settled { result ≡ None → WhateverCame (core_state self.now) IsSettled }
     {
         match &self.pending {
             Some(pending) if pending.waits() && !self.workspace.is_complete() => None,
@@ -340,9 +340,9 @@ impl Core {
         requires prepared { IsPrepared (core_state self.old) self.old.workspace.is_current }
         ensures fault { last_fault self.new ≡ last_fault self.old }
         ensures exhausted { result ≡ Err BoardFault.Exhausted → IsExhausted (core_state self.new).board }
-        ensures stamps { result ≡ Err BoardFault.Exhausted → (opening : ℕ) (config : Configuration) (h : List Event) → IsAfter opening config (core_state self.old) h → ExhaustsStamps opening config (length (messages h)) }
+        ensures stamps { result ≡ Err BoardFault.Exhausted → WhateverCame (core_state self.old) (λ opening config h. ExhaustsStamps opening config (length (messages h))) }
         ensures shorter { OnOk result (steps_left (core_state self.new) < steps_left (core_state self.old)) }
-        ensures after { OnOk result ((opening : ℕ) (config : Configuration) (h : List Event) → IsAfter opening config (core_state self.old) h → MayStep opening config h step → IsAfter opening config (core_state self.new) (Advance step ∷ h)) }
+        ensures after { OnOk result (WhateverCame (core_state self.old) (λ opening config h. MayStep opening config h step → IsAfter opening config (core_state self.new) (Advance step ∷ h))) }
         ensures replied { OnOk result ((opening : ℕ) (config : Configuration) (h : List Event) (first : List (List ℕ)) → IsAfter opening config (core_state self.old) h → MayStep opening config h step → Replied config h first replies.old.items → Replied config (Advance step ∷ h) first replies.new.items) }
     {
         match step {
@@ -356,9 +356,9 @@ impl Core {
         requires { CanStep (core_state self.old) Step.Begin }
         ensures fault { last_fault self.new ≡ last_fault self.old }
         ensures exhausted { result ≡ Err BoardFault.Exhausted → IsExhausted (core_state self.new).board }
-        ensures stamps { result ≡ Err BoardFault.Exhausted → (opening : ℕ) (config : Configuration) (h : List Event) → IsAfter opening config (core_state self.old) h → ExhaustsStamps opening config (length (messages h)) }
+        ensures stamps { result ≡ Err BoardFault.Exhausted → WhateverCame (core_state self.old) (λ opening config h. ExhaustsStamps opening config (length (messages h))) }
         ensures shorter { OnOk result (steps_left (core_state self.new) < steps_left (core_state self.old)) }
-        ensures after { OnOk result ((opening : ℕ) (config : Configuration) (h : List Event) → IsAfter opening config (core_state self.old) h → MayStep opening config h Step.Begin → IsAfter opening config (core_state self.new) (Advance Step.Begin ∷ h)) }
+        ensures after { OnOk result (WhateverCame (core_state self.old) (λ opening config h. MayStep opening config h Step.Begin → IsAfter opening config (core_state self.new) (Advance Step.Begin ∷ h))) }
     {
         let Some(message) = self.queue.pop_front() else {
             return Ok(());
@@ -374,7 +374,7 @@ impl Core {
         requires prepared { IsPrepared (core_state self.old) self.old.workspace.is_current }
         ensures fault { last_fault self.new ≡ last_fault self.old }
         ensures shorter { OnOk result (steps_left (core_state self.new) < steps_left (core_state self.old)) }
-        ensures after { OnOk result ((opening : ℕ) (config : Configuration) (h : List Event) → IsAfter opening config (core_state self.old) h → MayStep opening config h Step.Finish → IsAfter opening config (core_state self.new) (Advance Step.Finish ∷ h)) }
+        ensures after { OnOk result (WhateverCame (core_state self.old) (λ opening config h. MayStep opening config h Step.Finish → IsAfter opening config (core_state self.new) (Advance Step.Finish ∷ h))) }
         ensures replied { OnOk result ((opening : ℕ) (config : Configuration) (h : List Event) (first : List (List ℕ)) → IsAfter opening config (core_state self.old) h → MayStep opening config h Step.Finish → Replied config h first replies.old.items → Replied config (Advance Step.Finish ∷ h) first replies.new.items) }
     {
         let Some(pending) = self.pending.take() else {
@@ -385,7 +385,7 @@ impl Core {
 
     /// Whether a message came that isn't processed.
     pub fn waits(&self) -> bool
-        ensures { (opening : ℕ) (config : Configuration) (h : List Event) → IsAfter opening config (core_state self.now) h → IsTrue result ↔ (processed h < length (messages h)) }
+        ensures { WhateverCame (core_state self.now) (λ opening config h. IsTrue result ↔ (processed h < length (messages h))) }
     {
         self.unprocessed() > 0
     }

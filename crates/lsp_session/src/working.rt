@@ -1,8 +1,7 @@
 // The work of a core, done on this thread.
-ghost use Rattle.std.specs.Prelude.{◌≡◌, ℕ, List, false, None, IfOk, IfErr, OnOk};
+ghost use Rattle.std.specs.Prelude.{◌≡◌, false, None, IfOk, IfErr, OnOk};
 ghost use Rattle.piece_collector.specs.Board.{IsFirstWanted};
-ghost use Rattle.lsp_config.specs.Configuration.{Configuration};
-ghost use Rattle.lsp_session.specs.Core.{Event, Offer, IsAfter, board_events};
+ghost use Rattle.lsp_session.specs.Core.{Offer, IsAfter, WhateverCame, board_events};
 ghost use Rattle.lsp_session.specs.Run.{event_of};
 ghost use Rattle.lsp_session.specs.Steps.{with_round, HasWorked};
 ghost use Rattle.lsp_session.specs.View.{core_state, last_fault};
@@ -27,8 +26,8 @@ fn do_job(alloc: Global, job: Job) -> Result<Done, CoreFault>
 
 // Does the next job, and says whether there was one.
 fn do_next(core: &mut Core) -> Result<bool, CoreFault>
-    ensures round { OnOk result ((opening : ℕ) (config : Configuration) (h : List Event) → IsAfter opening config (core_state core.old) h → IsAfter opening config (core_state core.new) (with_round opening config h)) }
-    ensures none { IfOk result (λ more. more ≡ false → (opening : ℕ) (config : Configuration) (h : List Event) → IsAfter opening config (core_state core.old) h → IsFirstWanted opening (board_events config h) None) }
+    ensures round { OnOk result (WhateverCame (core_state core.old) (λ opening config h. IsAfter opening config (core_state core.new) (with_round opening config h))) }
+    ensures none { IfOk result (λ more. more ≡ false → WhateverCame (core_state core.old) (λ opening config h. IsFirstWanted opening (board_events config h) None)) }
     ensures open { last_fault core.old ≡ None → OnOk result (last_fault core.new ≡ None) }
     ensures memory { last_fault core.old ≡ None → IfErr result (λ fault. fault ≡ CoreFault.Memory) }
 {
@@ -43,7 +42,7 @@ fn do_next(core: &mut Core) -> Result<bool, CoreFault>
 
 /// Does all the work that a core has to give. `Memory` where memory is refused.
 pub fn do_all(core: &mut Core) -> Result<(), CoreFault>
-    ensures works { OnOk result ((opening : ℕ) (config : Configuration) (h : List Event) → IsAfter opening config (core_state core.old) h → HasWorked opening config (core_state core.new) h) }
+    ensures works { OnOk result (WhateverCame (core_state core.old) (λ opening config h. HasWorked opening config (core_state core.new) h)) }
     ensures open { last_fault core.old ≡ None → OnOk result (last_fault core.new ≡ None) }
     ensures memory { last_fault core.old ≡ None → IfErr result (λ fault. fault ≡ CoreFault.Memory) }
 {

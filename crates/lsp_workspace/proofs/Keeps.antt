@@ -3,24 +3,23 @@ use Rattle.std.proofs.Common.{◌≡◌, ℕ, ◌<◌, List, [], ◌∷◌, Bool
 use Rattle.std.specs.Prelude.{◌⊎◌, ◌==◌, option_and_then, option_map, bytes_eq, IfSome, IsTrue, OnOk, OnErr, unwrap_or, if◌then◌else◌}
 use Rattle.std.specs.List.{slice_get}
 use Rattle.std.specs.Map.{lookup, update}
-use Rattle.std.proofs.lemmas.Bool.{and_parts, false≢true}
 use Rattle.std.proofs.lemmas.Bool.Decides.{nat_tests}
 use Rattle.std.proofs.lemmas.List.{length-map}
 use Rattle.std.proofs.lemmas.Option.{get_or_from_slice_get, slice_get_cases}
 use Rattle.piece_collector.specs.Board.{IsTextsIn}
 use Rattle.piece_collector.specs.Views.{BoardView, TextAt, known_text}
-use Rattle.work_index.specs.Changes.{IsBefore}
 use Rattle.work_index.specs.Pieces.{workspace_of}
-use Rattle.work_index.specs.Workspace.{Workspace, AnalysisData, analysis}
+use Rattle.work_index.specs.Updates.{NameAllChanges}
+use Rattle.work_index.specs.Workspace.{AnalysisData, analysis}
+use Rattle.work_index.proofs.ByPath.{path-at, text-at}
+use Rattle.work_index.proofs.Updates.{lent_workspace, one_workspace}
 use Rattle.lsp_workspace.specs.Files.{OpenDocument, File, Files, file_at, set_file, text_at, workspace, with_open_file, with_document, closed_at, closed_files, AreInPathOrder}
-use Rattle.lsp_workspace.specs.Kept.{IsBeforeMoves, IsOf, IsKept, DifferAt, have_stayed, is_current}
+use Rattle.lsp_workspace.specs.Kept.{IsOf, IsKept, is_current}
 use Rattle.lsp_workspace.specs.Steps.{with_document_at}
 use Rattle.lsp_workspace.specs.Texts.{open_document, is_open, text_event, event_at, events_at, TextsChangeAt}
 use Rattle.lsp_workspace.specs.declared.known.Known.{Known}
-use Rattle.lsp_workspace.specs.declared.known.Moves.{Moves}
-use Rattle.lsp_workspace.specs.declared.known.Moves.TheVariants.{Stayed, Came, Others}
-use Rattle.lsp_workspace.proofs.Earlier.{known_fresh, path-at, text-at}
-use Rattle.lsp_workspace.proofs.Held.{same_workspace, text_in_workspace, held_texts, now_of}
+use Rattle.lsp_workspace.proofs.Held.{text_in_workspace, workspace_of_board}
+use Rattle.lsp_workspace.proofs.Noted.{known_fresh, known_still, one_change}
 use Rattle.lsp_workspace.proofs.PathOrder.{paths, from_disk-order, ascend-workspace}
 use Rattle.lsp_workspace.proofs.TextChanges.{set-texts, without-texts}
 
@@ -37,15 +36,20 @@ either (Err e) ok err one two = two err
 -- ---- the fields of a workspace
 
 -- where the text at a path has become another on the board and in the files
-pub keeps : (path : List ℕ) (t : Option (List ℕ)) (stays : Bool) (old new : Files) (before after : BoardView) (known later : Option Known) → IsKept old before known → AreInPathOrder new → after.is_lent ≡ false
-    → ((q : List ℕ) → known_text q after ≡ update bytes_eq (λ p. known_text p before) path t q) → TextsChangeAt path t old new → stays ≡ is_some t
-    → ((text : Option (List ℕ)) (o n : Files) → DifferAt path text o n → stays ≡ is_some text → IfSome known (λ k. IsOf k (workspace o)) → IfSome later (λ k. IsOf k (workspace n))) → IsKept new after later
-keeps path t stays old new before after known later k order here board changes same more = record {
+pub keeps : (path : List ℕ) (t : Option (List ℕ)) (old new : Files) (before after : BoardView) (known later : Option Known) → IsKept old before known → AreInPathOrder new → after.is_lent ≡ false
+    → ((q : List ℕ) → known_text q after ≡ update bytes_eq (λ p. known_text p before) path t q) → TextsChangeAt path t old new
+    → ((o n : List ℕ → Option (List ℕ)) → NameAllChanges (path ∷ []) o n → IfSome known (λ k. IsOf k o) → IfSome later (λ k. IsOf k n)) → IsKept new after later
+keeps path t old new before after known later k order here board changes more = record {
   ordered = order;
   here = here;
   texts = λ q. board q ∙ ap (cond (bytes_eq path q) t) (k.texts q) ∙ sym (changes q);
-  is_of = more t old new (record { old_order = k.ordered; new_order = order; texts = changes }) same k.is_of;
+  is_of = more (λ q. text_at q old) (λ q. text_at q new) (one_change path t old new changes) k.is_of;
 }
+
+-- what is known of texts is known of texts that are the same at each path
+known_of : (known : Option Known) (before after : List ℕ → Option (List ℕ)) → ((q : List ℕ) → after q ≡ before q) → IfSome known (λ k. IsOf k before) → IfSome known (λ k. IsOf k after)
+known_of None before after same of = tt
+known_of (Some k) before after same of = record { is = of.is; ordered = of.ordered; changes = λ q out. same q ∙ of.changes q out }
 
 -- where no text has
 pub keeps_same : (old new : Files) (board : BoardView) (known : Option Known) → IsKept old board known → AreInPathOrder new → ((q : List ℕ) → text_at q new ≡ text_at q old) → IsKept new board known
@@ -53,7 +57,7 @@ keeps_same old new board known k order same = record {
   ordered = order;
   here = k.here;
   texts = λ q. k.texts q ∙ sym (same q);
-  is_of = subst (λ (w : Workspace). IfSome known (λ k. IsOf k w)) (sym (same_workspace old new k.ordered order same)) k.is_of;
+  is_of = known_of known (λ q. text_at q old) (λ q. text_at q new) same k.is_of;
 }
 
 -- ---- the texts behind what is done to an open document
@@ -106,39 +110,30 @@ text_of_file files n path text order there is =
 
 -- ---- lending
 
-pub lent_workspace : (files : Files) (before lent_board : BoardView) (ts : List TextAt) (known : Option Known) → IsKept files before known → lent_board ≡ record before { is_lent = true } → IsTextsIn lent_board ts → workspace_of ts ≡ workspace files
-lent_workspace files before lent_board ts known k is are =
-    let there : IsTextsIn (record before { is_lent = true }) ts = subst (λ b. IsTextsIn b ts) is are in
-    held_texts files before ts k.ordered k.texts (record { ascends = there.ascends; each = there.each })
+-- the pieces that a board lends are the files
+pub lent_files : (files : Files) (before lent_board : BoardView) (ts : List TextAt) (known : Option Known) → IsKept files before known → lent_board ≡ record before { is_lent = true } → IsTextsIn lent_board ts → workspace_of ts ≡ workspace files
+lent_files files before lent_board ts known k is are =
+    one_workspace before (workspace_of ts) (workspace files) (lent_workspace before lent_board ts is are) (workspace_of_board files before k.ordered k.texts)
 
-pub keeps_refreshed : (files : Files) (before lent_board after : BoardView) (known : Option Known) (now : Known) (a : AnalysisData) → IsKept files before known → lent_board ≡ record before { is_lent = true } → after ≡ record lent_board { is_lent = false }
-    → now.analysis ≡ a → now.changed.items ≡ [] → now.moves ≡ Stayed → a ≡ analysis (workspace files) → IsKept files after (Some now)
-keeps_refreshed files before lent_board after known now a k is back made current still fresh =
-    let of : IsOf now (workspace files) = known_fresh (workspace files) now (ascend-workspace files k.ordered) (made ∙ fresh) current still in
-    subst (λ b. IsKept files b (Some now)) (sym (back ∙ ap {A = BoardView} (λ (b : BoardView). record b { is_lent = false }) is)) (record { ordered = k.ordered; here = refl; texts = k.texts; is_of = of })
+-- what is known of the files is known of the texts of the board
+pub known_on_board : (files : Files) (board : BoardView) (known taken : Option Known) → IsKept files board known → taken ≡ known → IfSome taken (λ k. IsOf k (λ path. known_text path board))
+known_on_board files board known taken k is = subst (λ (o : Option Known). IfSome o (λ k. IsOf k (λ path. known_text path board))) (sym is) (known_of known (λ q. text_at q files) (λ q. known_text q board) k.texts k.is_of)
 
--- where the board stays as it is
-pub keeps_known : (files : Files) (board : BoardView) (known : Option Known) (now : Known) (a : AnalysisData) → IsKept files board known
-    → now.analysis ≡ a → now.changed.items ≡ [] → now.moves ≡ Stayed → a ≡ analysis (workspace files) → IsKept files board (Some now)
-keeps_known files board known now a k made current still fresh =
-    record { ordered = k.ordered; here = k.here; texts = k.texts; is_of = known_fresh (workspace files) now (ascend-workspace files k.ordered) (made ∙ fresh) current still }
+-- where an analysis of the files as they are has become known, and the board is as before
+pub keeps_fresh : (files : Files) (before after : BoardView) (known : Option Known) (now : Known) (a : AnalysisData) → IsKept files before known → after ≡ before
+    → now.analysis ≡ a → now.changes.items ≡ [] → a ≡ analysis (workspace files) → IsKept files after (Some now)
+keeps_fresh files before after known now a k same made current fresh =
+    subst (λ b. IsKept files b (Some now)) (sym same) (record { ordered = k.ordered; here = k.here; texts = k.texts; is_of = known_fresh files now k.ordered (made ∙ fresh) current })
 
-empty : (numbers : List ℕ) → IsTrue (length numbers == 0) → numbers ≡ []
+empty : {X : Type 0} (xs : List X) → IsTrue (length xs == 0) → xs ≡ []
 empty [] is = refl
-empty (x ∷ numbers) is = absurd (grind (arith, nat_tests))
-
-before_none : (m : Moves) (a : AnalysisData) (w : Workspace) (numbers : List ℕ) → have_stayed m ≡ true → IsBeforeMoves m a w numbers → IsBefore a w numbers
-before_none Stayed a w numbers still before = before
-before_none (Came path) a w numbers still before = absurd (false≢true still)
-before_none Others a w numbers still before = absurd (false≢true still)
+empty (x ∷ xs) is = absurd (grind (arith, nat_tests))
 
 -- an analysis that is current is that of the files
-pub known_now : (files : Files) (known : Option Known) (k : Known) → IfSome known (λ k. IsOf k (workspace files)) → known ≡ Some k → IsTrue (is_current known) → k.analysis ≡ analysis (workspace files)
-known_now files known k of is current =
-    let both = and_parts (length k.changed.items == 0) (have_stayed k.moves) (subst (λ (o : Option Known). IsTrue (is_current o)) is current) in
-    let none : k.changed.items ≡ [] = empty k.changed.items both.0 in
-    let of' : IsOf k (workspace files) = subst (λ (o : Option Known). IfSome o (λ k. IsOf k (workspace files))) is of in
-    now_of k.analysis (workspace files) (subst (λ (numbers : List ℕ). IsBefore k.analysis (workspace files) numbers) none (before_none k.moves k.analysis (workspace files) k.changed.items both.1 of'.before))
+pub known_now : (files : Files) (board : BoardView) (known : Option Known) (k : Known) → IsKept files board known → known ≡ Some k → IsTrue (is_current known) → k.analysis ≡ analysis (workspace files)
+known_now files board known k kept is current =
+    let of : IsOf k (λ q. text_at q files) = subst (λ (o : Option Known). IfSome o (λ k. IsOf k (λ q. text_at q files))) is kept.is_of in
+    known_still files k kept.ordered of (empty k.changes.items (subst (λ (o : Option Known). IsTrue (is_current o)) is current))
 
 -- where no file is left
 pub keeps_nothing : (files : Files) (board : BoardView) → files ≡ [] → board.is_lent ≡ false → ((q : List ℕ) → known_text q board ≡ None) → IsKept files board None

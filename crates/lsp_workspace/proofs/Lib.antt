@@ -7,8 +7,7 @@ pub mod TextChanges
 mod RootsLemmas
 pub mod Held
 pub mod FirstEvents
-pub mod OneMore
-pub mod Earlier
+pub mod Noted
 pub mod Crossing
 mod OfAnalysis
 mod Keeps

@@ -8,20 +8,13 @@ use Rattle.std.specs.Map.{keys_of}
 use Rattle.std.specs.BTreeMap.{is_at}
 use Rattle.std.proofs.lemmas.Cmp.{nat_list_cmp_total}
 use Rattle.std.proofs.lemmas.Map.{keys-set_value}
+use Rattle.work_index.specs.Updates.{IsInOrder}
 use Rattle.work_index.specs.Workspace.{Workspace}
+pub use Rattle.work_index.proofs.ByPath.{AreBehind, behind-later, paths}
 use Rattle.doc_text.specs.Edits.{ChangeData}
 use Rattle.doc_text.specs.declared.encoding.Encoding.{Encoding}
 use Rattle.lsp_workspace.specs.Disk.{FileData}
 use Rattle.lsp_workspace.specs.Files.{OpenDocument, File, Files, empty_file, file_at, with_file, set_file, without_file, text_of, workspace, are_apart, AreInPathOrder, disk_file, with_disk_files, from_disk, opened_file, opened_at, opened_files, with_document, with_open_file, changed_file, changed_files, saved_file, saved_files, closed_at, closed_files}
-
--- each path comes after p
-abbrev pub AreBehind : List ℕ → List (List ℕ) → Type 0
-AreBehind p paths = AllByRecursion (λ q. slice_cmp nat_cmp p q ≡ Less) paths
-
--- what comes after a path comes after each one before it
-pub behind-later : (p q : List ℕ) (paths : List (List ℕ)) → slice_cmp nat_cmp p q ≡ Less → AreBehind q paths → AreBehind p paths
-behind-later p q [] less all = tt
-behind-later p q (r ∷ paths) less all = (nat_list_cmp_total.trans p q r less all.0, behind-later p q paths less all.1)
 
 -- ---- a file put in its place
 
@@ -125,11 +118,8 @@ closed_files-order path files order = with_open_file-order (λ f d. closed_at pa
 
 -- ---- the workspace
 
-abbrev pub paths : Workspace → List (List ℕ)
-paths w = map (λ file. file.0) w
-
 abbrev pub Ascend : Workspace → Type 0
-Ascend w = IsStrictlySortedBy (slice_cmp nat_cmp) (paths w)
+Ascend w = IsInOrder w
 
 -- the files with one more in front, if it has a text
 abbrev with_first : List ℕ → Option (List ℕ) → Workspace → Workspace

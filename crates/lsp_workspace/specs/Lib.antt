@@ -3,5 +3,6 @@ pub mod Files
 pub mod View
 pub mod Steps
 pub mod Texts
+pub mod Recorded
 pub mod Roots
 pub mod Kept

@@ -1,7 +1,9 @@
 -- What is kept of files, as their definitions see it.
 use Rattle.std.specs.Prelude.{ℕ, Bool, List, option_map, map, String, string_bytes}
+use Rattle.std.specs.List.{zip}
 use Rattle.std.specs.declared.alloc.Global.{Global}
 use Rattle.piece_collector.specs.Views.{BoardView}
+use Rattle.work_index.specs.Workspace.{Workspace, DiagnosisData}
 use Rattle.lsp_workspace.specs.Files.{OpenDocument, File, Files}
 use Rattle.lsp_workspace.specs.declared.files.Document.{Document}
 use Rattle.lsp_workspace.specs.declared.files.FileEntry.{FileEntry}
@@ -23,3 +25,7 @@ pub record WorkspaceData : Type 0 where
   pub files : Files
   pub board : BoardView
   pub is_current : Bool
+
+-- the files of a diagnosis, each with its text
+abbrev pub diagnosed_files : DiagnosisData → Workspace
+diagnosed_files d = zip d.paths d.texts

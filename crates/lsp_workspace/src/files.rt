@@ -121,13 +121,6 @@ pub fn get<'f>(files: &'f Files, path: &str) -> Option<&'f FileEntry>
     files.get(path)
 }
 
-/// The text at a path, if it is one of the workspace. Takes no memory.
-pub fn text_at<'f>(files: &'f Files, path: &str) -> Option<&'f str>
-    ensures { option_map (λ t. t.now) result ≡ text_at path.now (files_view files.now.entries) }
-{
-    get(files, path)?.text()
-}
-
 // The document that is open at a path.
 fn document_at<'f>(files: &'f Files, path: &str) -> Option<&'f Document>
     ensures { option_map (λ d. document_view d.now) result ≡ open_document path.now (files_view files.now.entries) }

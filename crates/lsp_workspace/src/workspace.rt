@@ -1,20 +1,21 @@
 // The files of a workspace, the board of their texts, and the analysis of them.
-ghost use Rattle.std.specs.Prelude.{◌≡◌, ℕ, length, List, [], ◌∷◌, ◌++◌, false, IfOk, IfSome, OnOk, OnErr, IsTrue, IsFalse, Option, Some, Err, option_map, map, string_bytes, ◌↔◌, bytes_eq};
+ghost use Rattle.std.specs.Prelude.{◌≡◌, ℕ, length, List, [], ◌∷◌, false, IfOk, IfSome, OnOk, OnErr, IsTrue, Option, Some, Err, option_map, map, string_bytes, ◌↔◌, bytes_eq};
 ghost use Rattle.std.specs.Map.{update};
 ghost use Rattle.doc_text.specs.Edits.{change_view};
 ghost use Rattle.piece_collector.specs.Board.{IsAfter, IsFirstWanted, IsComplete, IsFull, current_text};
-ghost use Rattle.piece_collector.specs.Events.{Event, NextJob, Offer, Fail};
+ghost use Rattle.piece_collector.specs.Events.{NextJob, Offer, Fail};
 ghost use Rattle.piece_collector.specs.History.{verdict_on, failure_on, stands_at};
 ghost use Rattle.piece_collector.specs.Views.{known_text};
 ghost use Rattle.lsp_workspace.specs.Disk.{disk_view};
 ghost use Rattle.lsp_workspace.specs.Files.{from_disk, opened_files, changed_files, saved_files, closed_files, text_at, workspace};
+ghost use Rattle.lsp_workspace.specs.Recorded.{WhateverCame, Records};
 ghost use Rattle.lsp_workspace.specs.Texts.{HoldsTexts, StampsRunOut, text_event, event_at, events_at, first_events};
 ghost use Rattle.lsp_workspace.specs.View.{document_view, file_view, files_view};
 
 use crate::diagnosed::DiagnosedFiles;
 use crate::disk::DiskFile;
 use crate::files::{self, Document, Edits, FileEntry, Files};
-use crate::known::{Known, analyse, arrived, known_after};
+use crate::known::{Known, analyse, known_after};
 use crate::snapshot::Snapshot;
 use collector_laws::texts_of_events;
 use piece_collector::{Board, BoardFault, Job, Piece, SharedText, Verdict};
@@ -22,7 +23,7 @@ use std::alloc::{AllocError, Global};
 use std::marker::Model;
 use std::sync::Wait;
 use std::thread::Threads;
-use work_index::{AnalyseFault, FileWork, Gate, analyse_in_shares, analyse_with, diagnose};
+use work_index::{AnalyseFault, FileWork, Gate, analyse_in_shares, diagnose};
 
 /// The files that an editor's session knows, the board of their texts with the work on them, and the analysis of them.
 ///
@@ -55,7 +56,7 @@ fn set_first(
     file: &FileEntry,
 ) -> Result<(), BoardFault>
     requires { board.old.is_lent ≡ false }
-    ensures is_after { OnOk result ((opening : ℕ) (events : List Event) → IsAfter opening board.old events → IsAfter opening board.new (first_events (workspace ((path.now, file_view file.now) ∷ [])) ++ events)) }
+    ensures is_after { OnOk result (Records board.old board.new (first_events (workspace ((path.now, file_view file.now) ∷ [])))) }
     ensures here { board.new.is_lent ≡ false }
     ensures exhausted { result ≡ Err BoardFault.Exhausted → StampsRunOut board.old.last (length (workspace ((path.now, file_view file.now) ∷ []))) }
 {
@@ -89,7 +90,7 @@ fn tell(
     text: Option<SharedText>,
 ) -> Result<(), BoardFault>
     requires { board.old.is_lent ≡ false }
-    ensures is_after { OnOk result ((opening : ℕ) (events : List Event) → IsAfter opening board.old events → IsAfter opening board.new (text_event path.now text ∷ events)) }
+    ensures is_after { OnOk result (Records board.old board.new (text_event path.now text ∷ [])) }
     ensures texts { OnOk result ((q : List ℕ) → known_text q board.new ≡ update bytes_eq (λ p. known_text p board.old) path.now text q) }
     ensures here { board.new.is_lent ≡ false }
     ensures exhausted { result ≡ Err BoardFault.Exhausted → board.new.last ≡ 18446744073709551615 }
@@ -143,7 +144,7 @@ impl Workspace {
     /// stays. Refused with 502 where no stamp is left, and with 501 where memory was refused; the texts are as before then.
     pub fn open(&mut self, path: &str, uri: String, document: Document) -> Result<(), BoardFault>
         ensures files { OnOk result (self.new.files ≡ opened_files (string_bytes uri) (document_view document) path.now self.old.files) }
-        ensures board { OnOk result ((opening : ℕ) (events : List Event) → IsAfter opening self.old.board events → IsAfter opening self.new.board (event_at path.now self.new.files ∷ events)) }
+        ensures board { OnOk result (Records self.old.board self.new.board (event_at path.now self.new.files ∷ [])) }
 
         // No stamp is left only where the last one was given.
         ensures exhausted { result ≡ Err BoardFault.Exhausted → (let board = self.new.board in board.last) ≡ 18446744073709551615 }
@@ -154,7 +155,7 @@ impl Workspace {
         files::make_room(self.alloc, &mut self.files, path)?;
         tell(self.alloc, &mut self.board, path, Some(copy))?;
         files::open(&mut self.files, path, uri, document);
-        self.known = known_after(self.known.take(), own, true);
+        self.known = known_after(self.known.take(), own);
         Ok(())
     }
 
@@ -162,7 +163,7 @@ impl Workspace {
     /// Refused as [`open`](Workspace::open) is.
     pub fn change(&mut self, path: &str, edits: Edits) -> Result<(), BoardFault>
         ensures files { OnOk result (self.new.files ≡ changed_files edits.version edits.encoding (map change_view edits.changes.items) path.now self.old.files) }
-        ensures board { OnOk result ((opening : ℕ) (events : List Event) → IsAfter opening self.old.board events → IsAfter opening self.new.board (events_at path.now self.old.files self.new.files ++ events)) }
+        ensures board { OnOk result (Records self.old.board self.new.board (events_at path.now self.old.files self.new.files)) }
 
         // No stamp is left only where the last one was given.
         ensures exhausted { result ≡ Err BoardFault.Exhausted → (let board = self.new.board in board.last) ≡ 18446744073709551615 }
@@ -175,7 +176,7 @@ impl Workspace {
         let copy = files::copied(self.alloc, &document.text)?;
         tell(self.alloc, &mut self.board, path, Some(copy))?;
         files::set_document(&mut self.files, path, document);
-        self.known = known_after(self.known.take(), own, true);
+        self.known = known_after(self.known.take(), own);
         Ok(())
     }
 
@@ -197,7 +198,7 @@ impl Workspace {
     /// as [`open`](Workspace::open) is.
     pub fn close(&mut self, path: &str) -> Result<(), BoardFault>
         ensures files { OnOk result (self.new.files ≡ closed_files path.now self.old.files) }
-        ensures board { OnOk result ((opening : ℕ) (events : List Event) → IsAfter opening self.old.board events → IsAfter opening self.new.board (events_at path.now self.old.files self.new.files ++ events)) }
+        ensures board { OnOk result (Records self.old.board self.new.board (events_at path.now self.old.files self.new.files)) }
 
         // No stamp is left only where the last one was given.
         ensures exhausted { result ≡ Err BoardFault.Exhausted → (let board = self.new.board in board.last) ≡ 18446744073709551615 }
@@ -208,10 +209,9 @@ impl Workspace {
         }
         let own = String::from_str(self.alloc, path)?;
         let kept = files::shared_kept(&self.files, path)?;
-        let stays = kept.is_some();
         tell(self.alloc, &mut self.board, path, kept)?;
         files::close(&mut self.files, path);
-        self.known = known_after(self.known.take(), own, stays);
+        self.known = known_after(self.known.take(), own);
         Ok(())
     }
 
@@ -221,11 +221,11 @@ impl Workspace {
     /// nothing changes.
     pub fn next_job(&mut self) -> Result<Option<Job>, AllocError>
         ensures files { self.new.files ≡ self.old.files }
-        ensures board { OnOk result ((opening : ℕ) (events : List Event) → IsAfter opening self.old.board events → IsAfter opening self.new.board (NextJob ∷ events)) }
-        ensures first { IfOk result (λ job. (opening : ℕ) (events : List Event) → IsAfter opening self.old.board events → IsFirstWanted opening events (option_map (λ j. j.path) job)) }
+        ensures board { OnOk result (Records self.old.board self.new.board (NextJob ∷ [])) }
+        ensures first { IfOk result (λ job. WhateverCame self.old.board (λ opening events. IsFirstWanted opening events (option_map (λ j. j.path) job))) }
 
         // The job has the path's current stamp and text.
-        ensures text { IfOk result (λ job. (opening : ℕ) (events : List Event) → IsAfter opening self.old.board events → IfSome job (λ j. option_map (current_text j.path) (stands_at opening events j.path) ≡ Some j)) }
+        ensures text { IfOk result (λ job. WhateverCame self.old.board (λ opening events. IfSome job (λ j. option_map (current_text j.path) (stands_at opening events j.path) ≡ Some j))) }
         ensures err { OnErr result (self.new ≡ self.old) }
     {
         self.board.next_job()
@@ -234,8 +234,8 @@ impl Workspace {
     /// Brings the work on a text, whether or not its job was given. The verdict says whether it was taken.
     pub fn offer(&mut self, piece: Piece<FileWork>) -> Verdict
         ensures files { self.new.files ≡ self.old.files }
-        ensures board { (opening : ℕ) (events : List Event) → IsAfter opening self.old.board events → IsAfter opening self.new.board (Offer piece.path piece.stamp piece.text ∷ events) }
-        ensures verdict { (opening : ℕ) (events : List Event) → IsAfter opening self.old.board events → result ≡ verdict_on piece.stamp piece.text (stands_at opening events piece.path) }
+        ensures board { Records self.old.board self.new.board (Offer piece.path piece.stamp piece.text ∷ []) }
+        ensures verdict { WhateverCame self.old.board (λ opening events. result ≡ verdict_on piece.stamp piece.text (stands_at opening events piece.path)) }
     {
         self.board.offer(piece)
     }
@@ -243,8 +243,8 @@ impl Workspace {
     /// Brings the failure of a job, whether or not the job was given. The verdict says whether it was taken.
     pub fn fail(&mut self, path: &str, stamp: u64) -> Verdict
         ensures files { self.new.files ≡ self.old.files }
-        ensures board { (opening : ℕ) (events : List Event) → IsAfter opening self.old.board events → IsAfter opening self.new.board (Fail path.now stamp ∷ events) }
-        ensures verdict { (opening : ℕ) (events : List Event) → IsAfter opening self.old.board events → result ≡ failure_on stamp (stands_at opening events path.now) }
+        ensures board { Records self.old.board self.new.board (Fail path.now stamp ∷ []) }
+        ensures verdict { WhateverCame self.old.board (λ opening events. result ≡ failure_on stamp (stands_at opening events path.now)) }
     {
         self.board.fail(path, stamp)
     }
@@ -252,7 +252,7 @@ impl Workspace {
     /// Whether the work on each text is there.
     pub fn is_complete(&self) -> bool
         ensures full { IsTrue result ↔ IsFull self.now.board }
-        ensures complete { (opening : ℕ) (events : List Event) → IsAfter opening self.now.board events → (IsTrue result ↔ IsComplete opening events) }
+        ensures complete { WhateverCame self.now.board (λ opening events. IsTrue result ↔ IsComplete opening events) }
     {
         self.board.is_complete()
     }
@@ -287,24 +287,14 @@ impl Workspace {
         if self.is_current() {
             return Ok(());
         }
-        if let Some(piece) = arrived(&self.known, &self.board) {
-            let Some(known) = self.known.take() else {
-                unreachable!();
-            };
-            let analysis = analyse_with(self.alloc, known.analysis, piece)?;
-            self.known = Some(Known::current(analysis));
-            return Ok(());
-        }
-        let lent = self.board.lend_all()?;
-        let analysis = analyse(self.alloc, self.known.take(), lent.pieces());
-        self.board.take_back(lent);
-        self.known = Some(Known::current(analysis?));
+        let analysis = analyse(self.alloc, self.known.take(), &mut self.board)?;
+        self.known = Some(Known::current(self.alloc, analysis));
         Ok(())
     }
 
     /// Analyses the files, unless their analysis is known: as [`refresh`](Workspace::refresh) does, but a whole analysis is made
     /// by so many threads (see [`analyse_in_shares`]), each of which enters the gate before each of its files. If at
-    /// most 64 files left or got other texts since the last analysis, no thread is started and no gate is entered, whatever files came.
+    /// most 64 files came, left or got other texts since the last analysis, no thread is started and no gate is entered.
     /// The board has to be complete.
     ///
     /// `Memory` if memory was refused, and `ThreadRefused` if a thread was. The files and the board are then as before, or the
@@ -344,7 +334,7 @@ impl Workspace {
         match analyse_in_shares(rt, self.alloc, lent, workers, gate) {
             Ok((back, analysis)) => {
                 self.board.take_back(back);
-                self.known = Some(Known::current(analysis));
+                self.known = Some(Known::current(self.alloc, analysis));
                 Ok(())
             }
             Err(fault) => {
@@ -371,13 +361,12 @@ impl Workspace {
     {
         let Workspace {
             alloc,
-            files,
             mut board,
             ..
         } = self;
         let lent = board.lend_all()?;
         let diagnosis = diagnose(rt, alloc, lent, workers, gate)?;
-        Ok(DiagnosedFiles::of(files, board, diagnosis))
+        Ok(DiagnosedFiles::of(diagnosis))
     }
 
     /// The files with their analysis. Takes no memory.

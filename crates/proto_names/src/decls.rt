@@ -90,7 +90,11 @@ fn put(
     requires within { end ≤ length decls.old.items }
     ensures { OnOk result (decls.new.items ≡ splice decls.old.items start end others.items) }
 {
-    decls.splice(start..end, others)?;
+    let mut others = others;
+    let behind = decls.len() - end;
+    decls.append(&mut others)?;
+    decls[end..].rotate_left(behind);
+    drop(decls.drain(start..end));
     Ok(())
 }
 

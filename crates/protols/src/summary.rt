@@ -36,7 +36,7 @@ fn word_for(count: usize, one: &'static str, several: &'static str) -> &'static 
 }
 
 // Says how many files were checked, how many errors were found in them, and how many weren't checked for unknown names and why, if there
-// are any.
+// are any. Control characters of an import are escaped, since a terminal would obey them.
 pub(crate) fn tell_summary(rt: &impl Eprint, checked: &Checked) {
     let files = checked.files;
     let file_word = word_for(files, "file", "files");
@@ -46,7 +46,7 @@ pub(crate) fn tell_summary(rt: &impl Eprint, checked: &Checked) {
         let _told = eprintln!(rt; "protols: {files} {file_word} checked, {errors} {error_word}");
         return;
     };
-    let path = lost.as_str();
+    let path = lost.as_str().escape_debug();
     let unchecked = checked.unchecked;
     let unchecked_word = word_for(unchecked, "file", "files");
     let _told = eprintln!(rt;

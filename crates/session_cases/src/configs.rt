@@ -1,5 +1,5 @@
 // What sessions are started with.
-use case_notation::{first_word, plain};
+use library_cases::{first_word, plain};
 use lsp_session::{Config, DiskFile};
 use std::alloc::{AllocError, Global};
 

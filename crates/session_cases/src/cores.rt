@@ -2,7 +2,7 @@
 use crate::configs::config_of;
 use crate::frames::put_body;
 use crate::settings::bytes_of;
-use case_notation::{Line, Names, field, first_word, number, plain};
+use library_cases::{Line, Names, field, first_word, number, plain, verdict_word};
 use lsp_session::{
     Core, CoreEvent, CoreFault, CoreRun, Done, FileWork, Job, Piece, Reply, Verdict, run_core,
 };
@@ -16,17 +16,13 @@ fn put_replies(names: &Names, line: &mut Line, replies: &[Reply]) {
 }
 
 fn put_verdict(line: &mut Line, verdict: Verdict) {
-    line.put(match verdict {
-        Verdict::Taken => " Taken",
-        Verdict::Stale => " Stale",
-        Verdict::Foreign => " Foreign",
-        Verdict::Doubled => " Doubled",
-    });
+    line.put(" ");
+    line.put(verdict_word(verdict));
 }
 
 fn put_fault(line: &mut Line, fault: CoreFault) {
-    line.put(" fault ");
-    line.put_number(fault.code() as u64);
+    line.put(" ");
+    line.put_fault(fault.code());
 }
 
 // A job, given its stamp, its path and its text.
@@ -159,10 +155,6 @@ fn step(names: &Names, line: &mut Line, core: &mut Core, step: &str) -> Result<(
     }
 }
 
-fn put_waits(line: &mut Line, core: &Core) {
-    line.put(if core.waits() { "true" } else { "false" });
-}
-
 fn put_steps(
     names: &Names,
     line: &mut Line,
@@ -170,13 +162,13 @@ fn put_steps(
     given: &str,
     behind: usize,
 ) -> Result<(), AllocError> {
-    put_waits(line, &core);
+    line.put_bool(core.waits());
     for field in given.split(" :: ").skip(behind) {
         if let Some(what) = field.strip_prefix("> ") {
             step(names, line, &mut core, what)?;
         }
         line.put(" ");
-        put_waits(line, &core);
+        line.put_bool(core.waits());
     }
     Ok(())
 }

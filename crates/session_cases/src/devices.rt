@@ -1,5 +1,5 @@
 // Which errors of std are interruptions.
-use case_notation::Line;
+use library_cases::Line;
 use lsp_frame::{Frame, FrameReader, FromRead, ToWrite, write_frame};
 use std::alloc::Global;
 use std::io::{self, ErrorKind, Read, Write};

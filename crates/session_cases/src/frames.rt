@@ -1,6 +1,6 @@
 // Frames that are read from sources and written to sinks. The first field is the settings.
-use crate::settings::{Settings, bytes_of, note, put_bytes};
-use case_notation::{Line, Names, field};
+use crate::settings::{Settings, bytes_of, put_bytes};
+use library_cases::{Line, Names, field};
 use lsp_frame::{Frame, FrameReader, MemSink, MemSource, write_frame};
 use std::alloc::{AllocError, Global};
 
@@ -58,7 +58,7 @@ fn stream(
     let mut reader = FrameReader::new(names.alloc(), source);
     let mut own = Line::new(names.alloc());
     put_all(names, &mut own, &mut reader);
-    note(line, size, own.as_str());
+    line.put_once(size, own.as_str());
     Ok(())
 }
 
@@ -97,7 +97,7 @@ fn write_one(
     let mut sink = settings.sink(alloc, size, field(given, 2))?;
     let mut own = Line::new(alloc);
     put_written(&mut own, &mut sink, body.as_slice());
-    note(line, size, own.as_str());
+    line.put_once(size, own.as_str());
     Ok(())
 }
 

@@ -1,7 +1,7 @@
 // Sessions and checks whose workers a gate holds back until something else has happened.
 use crate::configs::config_of;
 use crate::settings::{bytes_of, put_bytes};
-use case_notation::{Line, field};
+use library_cases::{Line, field};
 use lsp_frame::{ByteSink, ByteSource, Fail, FrameReader, MemSink, MemSource};
 use lsp_session::{Config, Ended, Gate, ServeFault, check, serve};
 use std::alloc::{AllocError, Global};

@@ -1,5 +1,5 @@
-//! Runs frames, cores and gated sessions on the cases of standard input, and prints what comes of them: line N of the output is
-//! the answer to line N of the input (../library_cases/README.md).
+//! Answers the cases of standard input, and prints the answers: line N of the output is the answer to line N of the input
+//! (../library_cases/README.md). Frames, cores and gated sessions are run here, all else by `library_cases`.
 #![tactic(auto)]
 
 mod configs;
@@ -9,7 +9,7 @@ mod frames;
 mod gates;
 mod settings;
 
-use case_notation::{Line, Names, field};
+use library_cases::{Line, Names, answer_call, field};
 use std::alloc::AllocError;
 use std::io::{self, BufRead, BufReader};
 use std::marker::Send;
@@ -34,7 +34,7 @@ fn answer<R: Threads + Wait + Clone + Send + Drop + 'static>(
         "hold" => gates::hold(rt, names.alloc(), line, given),
         "hold until written" => gates::hold_until_written(rt, names.alloc(), line, given),
         "meet in check" => gates::meet_in_check(rt, names.alloc(), line, given),
-        _ => Ok(line.put("no such call")),
+        _ => answer_call(rt, names.alloc(), line, given),
     }
 }
 

@@ -1,7 +1,7 @@
 // How a device does, and what it moved.
 ghost use Rattle.std.specs.Prelude.{◌<◌};
 
-use case_notation::{Line, first_word, number, plain};
+use library_cases::{Line, first_word, number, plain};
 use lsp_frame::{MemSink, MemSource};
 use std::alloc::{AllocError, Global};
 
@@ -58,16 +58,4 @@ pub fn put_bytes(line: &mut Line, bytes: &[u8]) {
 pub fn bytes_of(alloc: Global, field: &str) -> Result<Vec<u8>, AllocError> {
     let text = plain(alloc, field)?;
     Vec::from_slice(alloc, text.as_bytes())
-}
-
-/// Writes an answer behind the others, unless it is that of the first size.
-pub fn note(line: &mut Line, size: &str, answer: &str) {
-    if line.as_str().is_empty() {
-        line.put(answer);
-    } else if line.as_str() != answer {
-        line.put("; but with pieces of ");
-        line.put(size);
-        line.put(": ");
-        line.put(answer);
-    }
 }

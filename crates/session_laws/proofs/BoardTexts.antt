@@ -18,7 +18,7 @@ use Rattle.lsp_workspace.proofs.PathOrder.{from_disk-order}
 use Rattle.lsp_workspace.proofs.TextChanges.{by_own}
 use Rattle.lsp_session.specs.Core.{Event, Arrive, Advance, Give, Offer, Fail, messages, done, next_body, state_after, board_events, IsLegal}
 use Rattle.lsp_session.specs.Session.{State, at_path, path_of, path_in, opened, changed, running_notification, notified, received, turn_in, turn, session}
-use Rattle.lsp_session.specs.Working as working
+use Rattle.lsp_session.specs.BoardEvents as on_board
 use Rattle.lsp_session.specs.declared.phase.Phase.{Phase}
 use Rattle.lsp_session.specs.declared.phase.Phase.TheVariants.{Uninitialized, Running, Shut, Exited}
 use Rattle.lsp_session.specs.declared.step.Step.TheVariants.{Begin, Finish}
@@ -46,32 +46,32 @@ module _ (o : ℕ) (law : EachEventGivesTheTexts) (one : TextsChangeAtOnePath) (
   none-is None e = refl
   none-is (Some d) e = cc
 
-  follow-opened : (s : State) (d : Option OpenedDocument) → Follow [] s.files → Follow (working.events_for_path (λ path. event_at path (opened s d).files ∷ []) (option_and_then (λ d. path_of s d.uri) d)) (opened s d).files
+  follow-opened : (s : State) (d : Option OpenedDocument) → Follow [] s.files → Follow (on_board.events_for_path (λ path. event_at path (opened s d).files ∷ []) (option_and_then (λ d. path_of s d.uri) d)) (opened s d).files
   follow-opened s None before = before
   follow-opened s (Some d) before = by (path_of s d.uri)
     where
       document : OpenDocument
       document = record { version = d.version; text = d.text }
 
-      by : (path : Option (List ℕ)) → Follow (working.events_for_path (λ p. event_at p (at_path (opened_files d.uri document) s path).files ∷ []) path) (at_path (opened_files d.uri document) s path).files
+      by : (path : Option (List ℕ)) → Follow (on_board.events_for_path (λ p. event_at p (at_path (opened_files d.uri document) s path).files ∷ []) path) (at_path (opened_files d.uri document) s path).files
       by None = before
       by (Some path) = follow-event path s.files (opened_files d.uri document path s.files) before (by_own path (Some d.text) s.files (opened_files d.uri document path s.files) (one.opened d.uri document path s.files))
 
-  follow-changed : (s : State) (c : Option ChangedDocument) → Follow [] s.files → Follow (working.events_for_path (λ path. events_at path s.files (changed s c).files) (option_and_then (λ c. path_of s c.document.uri) c)) (changed s c).files
+  follow-changed : (s : State) (c : Option ChangedDocument) → Follow [] s.files → Follow (on_board.events_for_path (λ path. events_at path s.files (changed s c).files) (option_and_then (λ c. path_of s c.document.uri) c)) (changed s c).files
   follow-changed s None before = before
   follow-changed s (Some c) before = by (path_of s c.document.uri)
     where
       become : List ℕ → Files → Files
       become = changed_files c.document.version s.client.encoding c.changes
 
-      by : (path : Option (List ℕ)) → Follow (working.events_for_path (λ p. events_at p s.files (at_path (changed_files c.document.version s.client.encoding c.changes) s path).files) path) (at_path (changed_files c.document.version s.client.encoding c.changes) s path).files
+      by : (path : Option (List ℕ)) → Follow (on_board.events_for_path (λ p. events_at p s.files (at_path (changed_files c.document.version s.client.encoding c.changes) s path).files) path) (at_path (changed_files c.document.version s.client.encoding c.changes) s path).files
       by None = before
       by (Some path) =
           let new = changed_files c.document.version s.client.encoding c.changes path s.files in
           some-open s.files path (is_open path s.files) new before (one.changed c.document.version s.client.encoding c.changes path s.files)
           (λ e. none_open path s.files (λ f d. set_file path (changed_file c.document.version s.client.encoding c.changes f d) s.files) (none-is (open_document path s.files) e))
 
-  follow-closed : (s : State) (path : Option (List ℕ)) → AreInPathOrder s.files → Follow [] s.files → Follow (working.events_for_path (λ p. events_at p s.files (at_path closed_files s path).files) path) (at_path closed_files s path).files
+  follow-closed : (s : State) (path : Option (List ℕ)) → AreInPathOrder s.files → Follow [] s.files → Follow (on_board.events_for_path (λ p. events_at p s.files (at_path closed_files s path).files) path) (at_path closed_files s path).files
   follow-closed s None order before = before
   follow-closed s (Some path) order before =
       some-open s.files path (is_open path s.files) (closed_files path s.files) before (one.closed path s.files order) (λ e. none_open path s.files (λ f d. closed_at path s.files f f.kept) (none-is (open_document path s.files) e))
@@ -80,7 +80,7 @@ module _ (o : ℕ) (law : EachEventGivesTheTexts) (one : TextsChangeAtOnePath) (
   follow-saved s None before = before
   follow-saved s (Some path) before = λ q. before q ∙ sym (one.saved path s.files q)
 
-  follow-running : (s : State) (method : Option Method) (params : Data) → AreInPathOrder s.files → Follow [] s.files → Follow (working.events_by_method s method params (running_notification s method params).files) (running_notification s method params).files
+  follow-running : (s : State) (method : Option Method) (params : Data) → AreInPathOrder s.files → Follow [] s.files → Follow (on_board.events_by_method s method params (running_notification s method params).files) (running_notification s method params).files
   follow-running s (Some Exit) params order before = before
   follow-running s (Some DidOpen) params order before = follow-opened s (opened_of params) before
   follow-running s (Some DidChange) params order before = follow-changed s (changed_of params) before
@@ -88,13 +88,13 @@ module _ (o : ℕ) (law : EachEventGivesTheTexts) (one : TextsChangeAtOnePath) (
   follow-running s (Some DidClose) params order before = follow-closed s (path_in s params) order before
   follow-running s _ params order before = before
 
-  follow-notified : (phase : Phase) (s : State) (method : Option Method) (params : Data) → AreInPathOrder s.files → Follow [] s.files → Follow (working.events_in_phase phase s method params (notified phase s method params).files) (notified phase s method params).files
+  follow-notified : (phase : Phase) (s : State) (method : Option Method) (params : Data) → AreInPathOrder s.files → Follow [] s.files → Follow (on_board.events_in_phase phase s method params (notified phase s method params).files) (notified phase s method params).files
   follow-notified Uninitialized s method params order before = λ q. before q ∙ ap (text_at q) (sym (exits-files false s method))
   follow-notified Running s method params order before = follow-running s method params order before
   follow-notified Shut s method params order before = λ q. before q ∙ ap (text_at q) (sym (exits-files true s method))
   follow-notified (Exited after_shutdown) s method params order before = before
 
-  follow-received : (s : State) (m : MessageData) → AreInPathOrder s.files → Follow [] s.files → Follow (working.events_of s m (received s m).state.files) (received s m).state.files
+  follow-received : (s : State) (m : MessageData) → AreInPathOrder s.files → Follow [] s.files → Follow (on_board.events_of s m (received s m).state.files) (received s m).state.files
   follow-received s parse_error order before = before
   follow-received s (invalid_request id) order before = before
   follow-received s response order before = before
@@ -102,17 +102,17 @@ module _ (o : ℕ) (law : EachEventGivesTheTexts) (one : TextsChangeAtOnePath) (
   follow-received s (notification method params) order before = follow-notified s.phase s method params order before
 
   -- behind an exit nothing is done
-  told-exited : (s : State) (after_shutdown : Bool) (m : MessageData) (files : Files) → s.phase ≡ Exited after_shutdown → working.events_of s m files ≡ []
+  told-exited : (s : State) (after_shutdown : Bool) (m : MessageData) (files : Files) → s.phase ≡ Exited after_shutdown → on_board.events_of s m files ≡ []
   told-exited s after_shutdown parse_error files is = refl
   told-exited s after_shutdown (invalid_request id) files is = refl
   told-exited s after_shutdown response files is = refl
   told-exited s after_shutdown (request id method params) files is = refl
-  told-exited s after_shutdown (notification method params) files is = ap (λ phase. working.events_in_phase phase s method params files) is
+  told-exited s after_shutdown (notification method params) files is = ap (λ phase. on_board.events_in_phase phase s method params files) is
 
-  pub follow-turn : (s : State) (m : MessageData) → AreInPathOrder s.files → Follow [] s.files → Follow (working.board_events_of s m) (turn s m).state.files
+  pub follow-turn : (s : State) (m : MessageData) → AreInPathOrder s.files → Follow [] s.files → Follow (on_board.board_events_of s m) (turn s m).state.files
   follow-turn s m order before = by s.phase refl
     where
-      by : (phase : Phase) → s.phase ≡ phase → Follow (working.events_of s m (turn_in phase s m).state.files) (turn_in phase s m).state.files
+      by : (phase : Phase) → s.phase ≡ phase → Follow (on_board.events_of s m (turn_in phase s m).state.files) (turn_in phase s m).state.files
       by Uninitialized is = follow-received s m order before
       by Running is = follow-received s m order before
       by Shut is = follow-received s m order before

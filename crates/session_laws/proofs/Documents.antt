@@ -15,8 +15,8 @@ use Rattle.lsp_queries.specs.PlaceLaws.{IsBefore, PlacesAscend, places_of, text_
 use Rattle.lsp_queries.specs.Renaming.{renamed}
 use Rattle.lsp_answers.specs.Answers.{DocumentPlaceData, documents_of, edits_of, number_of}
 use Rattle.lsp_answers.specs.Context.{Context}
-use Rattle.query_laws.specs.EditLaws.{RenamesChangeTheNames, change_of, changed_from_the_last, range_of}
-use Rattle.query_laws.proofs.Renames.{renamed-places}
+use Rattle.work_laws.specs.EditLaws.{RenamesChangeTheNames, change_of, changed_from_the_last, range_of}
+use Rattle.work_laws.proofs.Renames.{renamed-places}
 use Rattle.session_laws.specs.DocumentLaws.{AreRespelled, GroupsAreTheFiles, RenamesRespellDocuments, changes_with}
 use Rattle.work_index.specs.Workspace.{analysis}
 

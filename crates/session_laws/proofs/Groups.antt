@@ -5,7 +5,7 @@ use Rattle.std.specs.List.{AllPairs}
 use Rattle.std.proofs.lemmas.Bool.{eq-eqb, eqb-false, eqb-true, ne_eqb}
 use Rattle.std.proofs.lemmas.List.Elements.{All-cons, All-contains, All-head, All-map, All-nil, All-tail}
 use Rattle.std.proofs.lemmas.List.Kept.{AllPairs-cons}
-use Rattle.facts_laws.proofs.Holders.{cases_in}
+use Rattle.proto_laws.proofs.Holders.{cases_in}
 use Rattle.lsp_queries.specs.declared.place.Place.{Place}
 use Rattle.lsp_queries.specs.ByFile.{behind, by_file, later}
 use Rattle.lsp_queries.specs.Edited.{places_in}

@@ -11,7 +11,7 @@ use Rattle.lsp_queries.specs.Renaming.{renamed}
 use Rattle.lsp_queries.specs.declared.place.Place.{Place}
 use Rattle.lsp_answers.specs.Answers.{DocumentPlaceData, document_of, edits_at, number_of}
 use Rattle.lsp_answers.specs.Context.{Context}
-use Rattle.query_laws.specs.EditLaws.{changed_from_the_last}
+use Rattle.work_laws.specs.EditLaws.{changed_from_the_last}
 
 -- there is one group for each file that has a place, in ascending order, with all the places in it
 pub record AreByFile (places : List Place) (groups : List (ℕ × List Place)) : Type 0 where

@@ -2,7 +2,7 @@
 ghost use Rattle.session_laws.specs.DocumentLaws.{GroupsAreTheFiles, RenamesRespellDocuments};
 
 use lsp_queries::places_in_order;
-use query_laws::renames_change_the_names;
+use work_laws::renames_change_the_names;
 
 /// A law: places whose files ascend are put together as one group for each file that has a place, in ascending order, with all
 /// the places in it.

@@ -23,7 +23,7 @@ use Rattle.sqlite_items.proofs.items.Items.TheSendSync as Items
 use Rattle.file_facts.proofs.shared_facts.SharedFacts.TheSendSync as SharedFacts
 use Rattle.link_changes.proofs.asked.Asked.TheSendSync as Asked
 use Rattle.proto_resolve.proofs.table.Table.TheSendSync as Table
-use Rattle.proto_resolve.proofs.resolve.Links.TheSendSync as Links
+use Rattle.work_index.proofs.shared_links.SharedLinks.TheSendSync as SharedLinks
 use Rattle.file_facts.proofs.diagnostic.Diag.TheSendSync as Diag
 use Rattle.proto_resolve.specs.contracts.table.Table as TableRow
 use Rattle.work_index.specs.contracts.file_work.FileOut as FileOut
@@ -35,7 +35,6 @@ use Rattle.work_index.proofs.part_table.PartTable.TheSendSync as PartTable
 use Rattle.work_index.specs.contracts.analysis.Resolutions as Resolutions
 use Rattle.work_index.specs.contracts.diagnosis.Diagnosis as Diagnosis
 use Rattle.work_index.specs.contracts.diagnosis.Diagnosis.TheInside as inside
-use Rattle.file_facts.proofs.name.Name.TheSendSync as Name
 
 node_send : IsSend Node.the_row
 node_send = search (knot.send-Node, sendable, Boxed.the_send, Items.the_send, Span.the_field_send, Span.the_send, TypeName.the_send, Field.the_send, MapField.the_send, Number.the_send, ReservedList.the_send, Literal.the_send) depth 20
@@ -80,7 +79,7 @@ pub indexed_send : IsSend IndexedShare.the_row
 indexed_send = search (sendable, indexed_field_send) depth 20
 
 resolutions_field_send : IsSend (Resolutions.the_field).row
-resolutions_field_send = struct_send (shape Resolutions.the_type) (search (sendable, crosses, Links.the_send) depth 40, (search (sendable, crosses, Items.the_send, Diag.the_send) depth 40, tt))
+resolutions_field_send = struct_send (shape Resolutions.the_type) (search (sendable, crosses, SharedLinks.the_send) depth 40, (search (sendable, crosses, Items.the_send, Diag.the_send) depth 40, tt))
 
 linked_field_send : IsSend (LinkedShare.the_field).row
 linked_field_send = struct_send (shape LinkedShare.the_type) (search (sendable, crosses, out_send) depth 40, (resolutions_field_send, tt))
@@ -92,7 +91,7 @@ pub diagnosis_sync : IsSync Diagnosis.the_row
 diagnosis_sync = view_sync inside.the_row _ _ _ _
     (recorded_sync (inside.the_field).row _ _ (inside.the_type).to_one
     (struct_sync (shape inside.the_type)
-    (search (sendable, crosses, Name.the_sync) depth 40, (search (sendable, crosses, Items.the_sync, Diag.the_sync) depth 40, (search (sendable, crosses, out_sync) depth 40, (Table.the_sync, tt))))))
+    (search (sendable, crosses, out_sync) depth 40, (search (sendable, crosses, Items.the_sync, Diag.the_sync) depth 40, (Table.the_sync, tt)))))
 
 -- what a closure takes with it crosses where each of two does, and where each of four does
 pub two_send : (name : Sym) (A B : RattleType) → IsSend A → IsSend B → IsSend (TupleAt name (A ∷ B ∷ []))

@@ -1,5 +1,5 @@
 -- An analysis is that of the workspace of its paths and texts.
-use Rattle.std.proofs.Common.{◌≡◌, ◌∙◌, List, length, map, sym, ap, ap₂}
+use Rattle.std.proofs.Common.{◌≡◌, ◌∙◌, List, length, map, sym, ap, ap₂, subst}
 use Rattle.std.proofs.lemmas.List.{length-map}
 use Rattle.std.proofs.lemmas.Simd.{map-map}
 use Rattle.file_facts.specs.declared.diagnostic.Diag.{Diag}
@@ -8,7 +8,7 @@ use Rattle.proto_names.specs.Files.{all_decls}
 use Rattle.proto_resolve.specs.declared.resolve.Links.{Links}
 use Rattle.work_index.specs.Known.{HoldTogether, analysis_with}
 use Rattle.work_index.specs.Workspace.{AnalysisData, IsKnown, Workspace, all_facts, analysis, diagnostics_of, named_facts, resolution_of, workspace_in}
-use Rattle.work_index.proofs.Changed.{made, made_length, zipped}
+use Rattle.work_index.proofs.Changed.{AreParts, made, made_length, parts, zipped}
 
 -- the workspace of the analysis of a workspace is that one
 pub known_workspace : (w : Workspace) → workspace_in (analysis w) ≡ w
@@ -17,7 +17,14 @@ known_workspace w = zipped w
 is_known : (a : AnalysisData) (w : Workspace) → a ≡ analysis w → IsKnown a
 is_known a w is = record { is = is ∙ ap analysis (sym (ap workspace_in is ∙ known_workspace w)) }
 
--- ---- an analysis from its parts
+-- ---- an analysis and its parts
+
+-- the parts of an analysis are those of its own workspace
+pub own_parts : (a : AnalysisData) (table : List NamedFacts) (files : Workspace) (links : List Links) (diagnostics : List (List Diag))
+    → HoldTogether table files links diagnostics → analysis_with table files links diagnostics ≡ a → AreParts table files links diagnostics (workspace_in a)
+own_parts a table files links diagnostics hold is =
+    let known : IsKnown a = subst (λ (b : AnalysisData). IsKnown b) is hold.4 in
+    parts table files links diagnostics (workspace_in a) hold.3 (is ∙ known.is)
 
 module _ (w : Workspace) (table : List NamedFacts) (files : Workspace) (links : List Links) (diagnostics : List (List Diag))
     (all : table ≡ all_facts w) (are : files ≡ w) (linked : links ≡ made (resolution_of w) w) (wrong : diagnostics ≡ made (diagnostics_of w) w) where

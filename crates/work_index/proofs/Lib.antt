@@ -6,6 +6,8 @@ pub mod Stayed
 pub mod FilesMoves
 pub mod Unimported
 pub mod Arrived
+pub mod ByPath
+pub mod Updates
 pub mod Balance
 pub mod Crossing
 pub mod Merged

@@ -25,15 +25,7 @@ use Rattle.work_index.specs.declared.again.Outdated.{Outdated}
 use Rattle.work_index.specs.declared.again.Relinking.{Relinking}
 use Rattle.work_index.specs.declared.analysis.Resolutions.{Resolutions}
 use Rattle.work_index.specs.Edited.{StaysBut}
-use Rattle.work_index.specs.Workspace.{Workspace, AnalysisData, all_facts, analysis, diagnostics_of, merged, resolution_of}
-
--- the analysis is that of the workspace before changes of the texts of these files: there the other files had the texts that they have
-pub record IsBefore (a : AnalysisData) (w : Workspace) (files : List ℕ) : Type 0 where
-  pub old : Workspace
-  pub paths : map (λ f. f.0) old ≡ map (λ f. f.0) w
-  pub within : All (λ f. f < length w) files
-  pub others : (n : ℕ) → (Contains files n → ⊥) → slice_index_or old n ([], []) ≡ slice_index_or w n ([], [])
-  pub is : a ≡ analysis old
+use Rattle.work_index.specs.Workspace.{Workspace, all_facts, diagnostics_of, merged, resolution_of}
 
 -- what was known of the workspace before changes of the texts of these files, and is kept
 pub record WasKnown (o : Outdated) (w : Workspace) (files : List ℕ) : Type 0 where

@@ -9,5 +9,6 @@ pub mod Stretches
 pub mod Parts
 pub mod Shares
 pub mod Arrivals
+pub mod Updates
 pub mod Known
 pub mod Edited

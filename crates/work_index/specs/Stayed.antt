@@ -6,7 +6,7 @@ use Rattle.import_graph.specs.Moves.{IsMovedOutlook, place}
 use Rattle.import_graph.specs.Outlooks.{outlook}
 use Rattle.work_index.specs.declared.after.Earlier.{Earlier}
 use Rattle.work_index.specs.Changes.{no_links}
-use Rattle.work_index.specs.Workspace.{Workspace, AnalysisData, all_facts, analysis, resolution_of}
+use Rattle.work_index.specs.Workspace.{Workspace, all_facts, resolution_of}
 
 -- the file g of a workspace and the file n of another have the same path and the same text
 pub record IsSameFile (old new : Workspace) (g n : ℕ) : Type 0 where
@@ -17,12 +17,6 @@ pub record IsSameFile (old new : Workspace) (g n : ℕ) : Type 0 where
 -- each file that has a number among the new ones stayed as it was
 abbrev pub Stay : Workspace → Workspace → List (Option ℕ) → Type 0
 Stay old new to = (g n : ℕ) → place to g ≡ Some n → IsSameFile old new g n
-
--- the analysis is that of a workspace of which the files that have a number stayed as they were
-pub record IsAmong (a : AnalysisData) (w : Workspace) (to : List (Option ℕ)) : Type 0 where
-  pub old : Workspace
-  pub is : a ≡ analysis old
-  pub stayed : Stay old w to
 
 -- of each of so many files, the number that it had, where one is listed at its new number
 pub record AreNumbersBefore (files : ℕ) (to before : List (Option ℕ)) : Type 0 where

@@ -8,15 +8,16 @@ ghost use Rattle.link_changes.specs.Touched.{links_after};
 ghost use Rattle.piece_collector.specs.Board.{Ascends};
 ghost use Rattle.work_index.specs.Changes.{no_links};
 ghost use Rattle.work_index.specs.Pieces.{workspace_of};
-ghost use Rattle.work_index.specs.Stayed.{AreNumbersBefore, HasMoved, IsAmong, IsEarlier};
-ghost use Rattle.work_index.specs.Workspace.{all_facts, analysis, diagnostics_of, resolution_of};
+ghost use Rattle.work_index.specs.Stayed.{AreNumbersBefore, HasMoved, IsEarlier, Stay};
+ghost use Rattle.work_index.specs.Workspace.{all_facts, analysis, diagnostics_of, resolution_of, workspace_in};
 
 use crate::analyse::{files_of, push_found, resolution_of};
 use crate::analysis::{Analysis, Resolutions};
 use crate::file_work::FileWork;
 use crate::moved_table::table_after;
+use crate::shared_links::SharedLinks;
 use import_graph::{FileNo, Graph, moved_outlook};
-use link_changes::{move_files, moved_law};
+use link_changes::moved_law;
 use piece_collector::Piece;
 use proto_resolve::{Index, Links, Table};
 use sqlite_items::Items;
@@ -28,7 +29,7 @@ use std::mem::replace;
 struct Earlier {
     graph: Graph,
     // The links of each file; of one from which they were taken, none.
-    links: Vec<Links>,
+    links: Vec<SharedLinks>,
 }
 
 // Of each of so many files, the number that it had, if it stayed as it was.
@@ -73,18 +74,23 @@ fn number_if_moved(
 }
 
 // Takes the links of a file out of all, and gives their declarations the numbers that files have now.
-fn take_links(alloc: Global, old: FileNo, to: &[Option<FileNo>], links: &mut Vec<Links>) -> Links
+fn take_links(
+    alloc: Global,
+    old: FileNo,
+    to: &[Option<FileNo>],
+    links: &mut Vec<SharedLinks>,
+) -> Result<SharedLinks, AllocError>
     requires { old < length links.old.items }
-    ensures taken { result ≡ links_after (decl_moved to.now) (slice_index_or links.old.items old no_links) }
-    ensures left { links.new.items ≡ slice_set links.old.items old no_links }
+    ensures taken { IfOk result (λ taken. taken ≡ links_after (decl_moved to.now) (slice_index_or links.old.items old no_links)) }
+    ensures left { OnOk result (links.new.items ≡ slice_set links.old.items old no_links) }
 {
     let none = Links {
         uses: Items::new(alloc),
         diags: Items::new(alloc),
     };
-    let mut taken = replace(&mut links[old], none);
-    move_files(to, &mut taken);
-    taken
+    let mut taken = replace(&mut links[old], SharedLinks::of(alloc, none)?);
+    taken.move_files(alloc, to)?;
+    Ok(taken)
 }
 
 // The links of a file: those that it had, if it stayed as it was and sees the same files as before; else it is linked anew.
@@ -96,7 +102,7 @@ fn links_now(
     before: Option<FileNo>,
     file: FileNo,
     pieces: &[Piece<FileWork>],
-) -> Result<Links, AllocError>
+) -> Result<SharedLinks, AllocError>
     requires file { file < length pieces.now }
     requires table { table.now ≡ all_facts (workspace_of pieces.now) }
     requires before { IfSome before (λ g. place to.now g ≡ Some file) }
@@ -106,7 +112,7 @@ fn links_now(
     ensures earlier { OnOk result (IsEarlier (file + 1) to.now (workspace_of pieces.now) earlier.new) }
 {
     match number_if_moved(&earlier.graph, table, to, before, file)? {
-        Some(old) => Ok(take_links(alloc, old, to, &mut earlier.links)),
+        Some(old) => take_links(alloc, old, to, &mut earlier.links),
         None => resolution_of(alloc, table, file, &pieces[file]),
     }
 }
@@ -138,10 +144,9 @@ fn link_after(
     Ok(resolutions)
 }
 
-/// The analysis of the workspace of some pieces, which are in the order of their paths, no path twice, after files came, left or got
-/// other texts. Given are the analysis before, and for each file there its number now, from 0, or `None` if it left or has another
-/// text. A file that stayed as it was, and sees the same files as before, is not linked again. An `Err` comes only where memory was refused;
-/// the earlier analysis is gone then.
+// The analysis of the workspace of some pieces after files came, left or got other texts. Given are the analysis before, and for each
+// file there its number now, or `None` if it left or has another text. A file that stayed as it was, and sees the same files as before,
+// is not linked again.
 pub fn analyse_after(
     alloc: Global,
     earlier: Analysis,
@@ -149,7 +154,7 @@ pub fn analyse_after(
     pieces: &[Piece<FileWork>],
 ) -> Result<Analysis, AllocError>
     requires ascends { Ascends pieces.now }
-    requires stayed { IsAmong earlier (workspace_of pieces.now) to.now }
+    requires stayed { Stay (workspace_in earlier) (workspace_of pieces.now) to.now }
     ensures { IfOk result (λ found. found ≡ analysis (workspace_of pieces.now)) }
 {
     moved_law();

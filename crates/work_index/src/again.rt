@@ -13,16 +13,18 @@ ghost use Rattle.proto_resolve.specs.Seen.{SeenLaw};
 ghost use Rattle.link_changes.specs.Laws.{TouchedLaw};
 ghost use Rattle.link_changes.specs.Touched.{decl_after, links_after};
 ghost use Rattle.work_index.specs.declared.again.FileChange.{FileChange};
-ghost use Rattle.work_index.specs.Changes.{AreKeptBut, AreLinked, AreLinkedBefore, AreTakenBut, DifferAt, Follows, IsBefore, IsSpared, StillWait, links_under, waiting_under, waits, WasKnown};
+ghost use Rattle.work_index.specs.Changes.{AreKeptBut, AreLinked, AreLinkedBefore, AreTakenBut, DifferAt, Follows, IsSpared, StillWait, links_under, waiting_under, waits, WasKnown};
+ghost use Rattle.work_index.specs.Edited.{StaysBut};
 ghost use Rattle.work_index.specs.Pieces.{workspace_of};
-ghost use Rattle.work_index.specs.Workspace.{Workspace, all_facts, analysis, diagnostics_of, resolution_of};
+ghost use Rattle.work_index.specs.Workspace.{Workspace, all_facts, analysis, diagnostics_of, resolution_of, workspace_in};
 
 use crate::analyse::diagnostics_of;
 use crate::analysis::{Analysis, Resolutions};
 use crate::file_work::{FileWork, tree_in, tree_of};
+use crate::shared_links::SharedLinks;
 use crate::source_file::SourceFile;
 use import_graph::{FileNo, Graph, SharedFacts, same_outlook};
-use link_changes::{Asked, Renumbering, Touched, renumber, touched_law};
+use link_changes::{Asked, Renumbering, Touched, touched_law};
 use piece_collector::Piece;
 use proto_resolve::{
     Index, Links, ListedTable, Table, resolve_file, same_exports, same_imports, seen_law,
@@ -158,8 +160,9 @@ fn set_linked(
 {
     let found = resolve_file(alloc, table, file, source.text(), tree)?;
     let diagnostics = diagnostics_of(alloc, source.facts().get(), &found)?;
+    let links = SharedLinks::of(alloc, found)?;
     resolutions.diagnostics[file] = diagnostics;
-    resolutions.links[file] = found;
+    resolutions.links[file] = links;
     Ok(())
 }
 
@@ -198,32 +201,44 @@ fn link_again(
 }
 
 // Gives the links of a file the numbers that declarations have now.
-fn set_renumbered(by: &Renumbering, file: usize, resolutions: &mut Resolutions)
+fn set_renumbered(
+    alloc: Global,
+    by: &Renumbering,
+    file: usize,
+    resolutions: &mut Resolutions,
+) -> Result<(), AllocError>
     requires { file < length resolutions.old.links.items }
-    ensures links { (d : Links) → resolutions.new.links.items ≡ slice_set resolutions.old.links.items file (links_after (decl_after by.now) (slice_index_or resolutions.old.links.items file d)) }
+    ensures links { (d : Links) → OnOk result (resolutions.new.links.items ≡ slice_set resolutions.old.links.items file (links_after (decl_after by.now) (slice_index_or resolutions.old.links.items file d))) }
     ensures diagnostics { resolutions.new.diagnostics.items ≡ resolutions.old.diagnostics.items }
 {
-    renumber(by, &mut resolutions.links[file]);
+    resolutions.links[file].renumber(alloc, by)
 }
 
 // Lets a change have its effect on the links of a file.
-fn take_effect(effect: Effect, file: usize, relinking: &mut Relinking)
+fn take_effect(
+    alloc: Global,
+    effect: Effect,
+    file: usize,
+    relinking: &mut Relinking,
+) -> Result<(), AllocError>
     requires links { file < length relinking.old.resolutions.links.items }
     requires waiting { file < length relinking.old.waiting.items }
-    ensures links { relinking.new.resolutions.links.items ≡ links_under effect file relinking.old.resolutions.links.items }
+    ensures links { OnOk result (relinking.new.resolutions.links.items ≡ links_under effect file relinking.old.resolutions.links.items) }
     ensures diagnostics { relinking.new.resolutions.diagnostics.items ≡ relinking.old.resolutions.diagnostics.items }
-    ensures waiting { relinking.new.waiting.items ≡ waiting_under effect file relinking.old.waiting.items }
+    ensures waiting { OnOk result (relinking.new.waiting.items ≡ waiting_under effect file relinking.old.waiting.items) }
 {
     match effect {
         Effect::Stay => {}
-        Effect::Move(by) => set_renumbered(&by, file, &mut relinking.resolutions),
+        Effect::Move(by) => set_renumbered(alloc, &by, file, &mut relinking.resolutions)?,
         Effect::Relink => relinking.waiting[file] = true,
     }
+    Ok(())
 }
 
 // Brings the links of the files that don't wait up to the change; those to which it may make more of a difference than other
 // numbers wait from then on.
 fn follow(
+    alloc: Global,
     table: &Table,
     change: &FileChange,
     files: &[SourceFile],
@@ -238,7 +253,7 @@ fn follow(
     for (file, source) in files.iter().enumerate() {
         if !relinking.waiting[file] {
             let effect = effect_on(table, change, file, source.asked())?;
-            take_effect(effect, file, relinking);
+            take_effect(alloc, effect, file, relinking)?;
         }
     }
     Ok(())
@@ -327,7 +342,7 @@ fn take_change(
         told,
         before,
     };
-    follow(table.table(), &change, files, relinking)?;
+    follow(alloc, table.table(), &change, files, relinking)?;
     Ok(table)
 }
 
@@ -391,8 +406,8 @@ fn link_waiting(
     Ok(resolutions)
 }
 
-/// The analysis of these files, made of what was known before changes of the texts of some. The pieces are those of all files, if
-/// they are at hand.
+// The analysis of these files, made of what was known before changes of the texts of some. The pieces are those of all files, if
+// they are at hand.
 pub fn bring_up(
     alloc: Global,
     outdated: Outdated,
@@ -439,17 +454,17 @@ fn with_changed(
     Ok(files)
 }
 
-/// The analysis of the workspace of some pieces, which are in the order of their paths, no path twice, after changes of the texts
-/// of some files. It is given the analysis before the changes, and the files' numbers, from 0. Links again only those files, the
-/// files of which the imports say another thing than before, and of those that see a changed one the ones that may ask for a name
-/// that the change touches: all of them if it touches many names, or the package's. An `Err` comes only where memory was refused.
+// The analysis of the workspace of some pieces after changes of the texts of some files, whose numbers are given. Links again only
+// those files, the files of which the imports say another thing than before, and of those that see a changed one the ones that may
+// ask for a name that the change touches: all of them if it touches many names, or the package's.
 pub fn analyse_again(
     alloc: Global,
     earlier: Analysis,
     changed: &[FileNo],
     pieces: &[Piece<FileWork>],
 ) -> Result<Analysis, AllocError>
-    requires { IsBefore earlier (workspace_of pieces.now) changed.now }
+    requires within { All (λ f. f < length (workspace_of pieces.now)) changed.now }
+    requires others { StaysBut changed.now (workspace_in earlier) (workspace_of pieces.now) }
     ensures { IfOk result (λ found. found ≡ analysis (workspace_of pieces.now)) }
 {
     let Analysis {

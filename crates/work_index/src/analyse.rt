@@ -11,24 +11,14 @@ use crate::analysis::{Analysis, Resolutions};
 use crate::file_work::{FileWork, facts_in, tree_in};
 use crate::gate::{Gate, OpenGate};
 use crate::room::make_room;
+use crate::shared_links::SharedLinks;
 use crate::source_file::SourceFile;
 use crate::table_of::listed_table_of;
-use file_facts::{Diag, FileFacts, Name, in_order};
+use file_facts::{Diag, FileFacts, in_order};
 use piece_collector::Piece;
 use proto_resolve::{Links, Table, resolve_file};
 use sqlite_items::Items;
 use std::alloc::{AllocError, Global};
-
-// The paths of pieces.
-pub fn paths_of(alloc: Global, pieces: &[Piece<FileWork>]) -> Result<Vec<Name>, AllocError>
-    ensures { IfOk result (λ paths. paths.items ≡ map (λ p. p.path) pieces.now) }
-{
-    let mut paths = Vec::new(alloc);
-    for piece in pieces {
-        paths.push(Name::of(String::from_str(alloc, piece.path())?))?;
-    }
-    Ok(paths)
-}
 
 // The files of pieces.
 pub fn files_of(alloc: Global, pieces: &[Piece<FileWork>]) -> Result<Vec<SourceFile>, AllocError>
@@ -47,11 +37,12 @@ pub fn resolution_of(
     table: &Table,
     file: usize,
     piece: &Piece<FileWork>,
-) -> Result<Links, AllocError>
+) -> Result<SharedLinks, AllocError>
     requires { file < length table.now }
     ensures { (w : Workspace) → table.now ≡ all_facts w → IfOk result (λ links. links ≡ resolution_of w (file, (piece.now.path, piece.now.text))) }
 {
-    resolve_file(alloc, table, file, piece.text(), tree_in(piece))
+    let found = resolve_file(alloc, table, file, piece.text(), tree_in(piece))?;
+    SharedLinks::of(alloc, found)
 }
 
 // All that is wrong in a file with these facts, which are those of a text, by itself and by what it sees.
@@ -77,13 +68,13 @@ pub fn diagnostics_of(
 pub fn push_found(
     alloc: Global,
     piece: &Piece<FileWork>,
-    found: Links,
+    found: SharedLinks,
     resolutions: &mut Resolutions,
 ) -> Result<(), AllocError>
     ensures links { OnOk result (resolutions.new.links.items ≡ resolutions.old.links.items ++ found ∷ []) }
     ensures diagnostics { OnOk result (resolutions.new.diagnostics.items ≡ resolutions.old.diagnostics.items ++ merged (facts_of piece.now.text) found ∷ []) }
 {
-    let diagnostics = diagnostics_of(alloc, facts_in(piece), &found)?;
+    let diagnostics = diagnostics_of(alloc, facts_in(piece), found.get())?;
     resolutions.diagnostics.push(diagnostics)?;
     resolutions.links.push(found)?;
     Ok(())
@@ -141,7 +132,7 @@ fn push_diagnosed(
     ensures { (w : Workspace) → table.now ≡ all_facts w → OnOk result (diagnostics.new.items ≡ diagnostics.old.items ++ diagnostics_of w (file, (piece.now.path, piece.now.text)) ∷ []) }
 {
     let found = resolution_of(alloc, table, file, piece)?;
-    diagnostics.push(diagnostics_of(alloc, facts_in(piece), &found)?)?;
+    diagnostics.push(diagnostics_of(alloc, facts_in(piece), found.get())?)?;
     Ok(())
 }
 

@@ -2,6 +2,7 @@
 ghost use Rattle.std.specs.Prelude.{◌≡◌, ◌<◌, ◌↔◌, [], length, Some, None, bytes_eq, position, slice_index_or, IfOk, IsFalse};
 ghost use Rattle.work_index.specs.Arrivals.{NoneImports};
 
+use crate::shared_links::SharedLinks;
 use crate::source_file::SourceFile;
 use file_facts::{Diag, FileFacts};
 use import_graph::FileNo;
@@ -24,17 +25,17 @@ pub struct Analysis {
 // What the names of each file mean, and what is wrong in each file.
 #[derive(Drop)]
 pub struct Resolutions {
-    pub links: Vec<Links>,
+    pub links: Vec<SharedLinks>,
     pub diagnostics: Vec<Items<Diag>>,
 }
 
 // Once more what the names of each file mean.
-fn copy_links(alloc: Global, all: &[Links]) -> Result<Vec<Links>, AllocError>
+fn copy_links(alloc: Global, all: &[SharedLinks]) -> Result<Vec<SharedLinks>, AllocError>
     ensures { IfOk result (λ copies. copies.items ≡ all.now) }
 {
     let mut copies = Vec::with_capacity(alloc, all.len())?;
     for links in all {
-        copies.push(links.copy(alloc)?)?;
+        copies.push(links.another()?)?;
     }
     Ok(copies)
 }
@@ -106,7 +107,8 @@ impl Analysis {
         let _ = &self.files;
     }
 
-    // The same analysis, in memory of its own but for what is known of each text by itself, which it shares. An `Err` comes only where memory was refused.
+    // The same analysis, in memory of its own but for what is known of each text by itself and what its names mean, which it shares. An `Err`
+    // comes only where memory was refused.
     pub(crate) fn copy(&self, alloc: Global) -> Result<Analysis, AllocError>
         ensures { IfOk result (λ a. a ≡ self.now) }
     {
@@ -142,7 +144,7 @@ impl Analysis {
         requires { file < length self.now.paths }
         ensures { slice_get self.now.links file ≡ Some result.now }
     {
-        &self.resolutions.links[file]
+        self.resolutions.links[file].get()
     }
 
     /// The diagnostics 201 to 406 of a file, each once, by start, end, number and words.

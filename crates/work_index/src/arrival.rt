@@ -9,12 +9,12 @@ ghost use Rattle.work_index.specs.Workspace.{analysis};
 use crate::analyse::{diagnostics_of, resolution_of};
 use crate::analysis::Analysis;
 use crate::file_work::{FileWork, facts_in};
+use crate::shared_links::SharedLinks;
 use crate::source_file::SourceFile;
 use crate::table_of::named_facts;
 use import_graph::{FileNo, arrival_law};
-use link_changes::{move_files, moved_law};
+use link_changes::moved_law;
 use piece_collector::Piece;
-use proto_resolve::Links;
 use std::alloc::{AllocError, Global};
 
 // The numbers of so many files, once another comes to the place `at`.
@@ -29,12 +29,17 @@ fn numbers_with(alloc: Global, at: FileNo, count: usize) -> Result<Vec<Option<Fi
 }
 
 // Gives the declarations in the links of all files the new numbers of their files.
-fn move_all(to: &[Option<FileNo>], links: &mut Vec<Links>)
-    ensures { links.new.items ≡ map (links_after (decl_moved to.now)) links.old.items }
+fn move_all(
+    alloc: Global,
+    to: &[Option<FileNo>],
+    links: &mut Vec<SharedLinks>,
+) -> Result<(), AllocError>
+    ensures { OnOk result (links.new.items ≡ map (links_after (decl_moved to.now)) links.old.items) }
 {
     for own in links.iter_mut() {
-        move_files(to, own);
+        own.move_files(alloc, to)?;
     }
+    Ok(())
 }
 
 // Gives them the numbers that so many files have once another comes to the place `at`. If that is the last one, no number changes.
@@ -42,20 +47,19 @@ fn make_way(
     alloc: Global,
     at: FileNo,
     count: usize,
-    links: &mut Vec<Links>,
+    links: &mut Vec<SharedLinks>,
 ) -> Result<(), AllocError>
     ensures { OnOk result (links.new.items ≡ map (links_after (decl_moved (numbers_with at count))) links.old.items) }
 {
     if at < count {
         let to = numbers_with(alloc, at, count)?;
-        move_all(to.as_slice(), links);
+        move_all(alloc, to.as_slice(), links)?;
     }
     Ok(())
 }
 
-/// The analysis of a workspace with one more file, which is that of the piece, from the analysis without it. None of the others imports it:
-/// those stay linked as they were, but for the numbers of files, of which none changes if its path comes after theirs. An `Err` comes only
-/// where memory was refused; the earlier analysis is gone then.
+// The analysis of a workspace with one more file, which is that of the piece, from the analysis without it. None of the others imports it:
+// those stay linked as they were, but for the numbers of files, of which none changes if its path comes after theirs.
 pub fn analyse_with(
     alloc: Global,
     earlier: Analysis,
@@ -76,7 +80,7 @@ pub fn analyse_with(
     let table = table.with_unimported(alloc, at, named_facts(alloc, piece)?)?;
     files.insert(at, SourceFile::of(alloc, piece)?)?;
     let found = resolution_of(alloc, table.table(), at, piece)?;
-    let diagnostics = diagnostics_of(alloc, facts_in(piece), &found)?;
+    let diagnostics = diagnostics_of(alloc, facts_in(piece), found.get())?;
     resolutions.links.insert(at, found)?;
     resolutions.diagnostics.insert(at, diagnostics)?;
     Ok(Analysis {

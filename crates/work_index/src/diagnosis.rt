@@ -11,38 +11,51 @@ use sqlite_items::Items;
 use std::alloc::{AllocError, Global};
 use std::marker::Model;
 
-/// The paths of the files of a workspace, and what is wrong in each. A file is a number: its place, counted from 0, in the list of
-/// paths.
+/// The files of a workspace, and what is wrong in each. A file is a number: its place, counted from 0, in the order of the paths.
 #[derive(Drop)]
 pub struct Diagnosis {
-    pub(crate) paths: Vec<Name>,
-    pub(crate) diagnostics: Vec<Items<Diag>>,
-    // The work on the texts. No call reads it: it is freed with the diagnosis and not before, since that takes a good part of the time in
-    // which it is made.
+    // The work on the texts, which has their paths too.
     pub(crate) pieces: Vec<Piece<FileWork>>,
+    pub(crate) diagnostics: Vec<Items<Diag>>,
     pub(crate) table: Table,
 }
 
 impl Model for Diagnosis {
-    ghost use Rattle.std.specs.Prelude.{◌≡◌, length};
+    ghost use Rattle.std.specs.Prelude.{◌≡◌, length, map};
     ghost use Rattle.work_index.specs.Workspace.{DiagnosisData};
 
     ghost Value = { DiagnosisData };
 
-    ghost view = { λ d. record { paths = d.paths.items; files = d.table; diagnostics = d.diagnostics.items } };
+    ghost view = { λ d. record { paths = map (λ p. p.path) d.pieces.items; texts = map (λ p. p.text) d.pieces.items; files = d.table; diagnostics = d.diagnostics.items } };
 
-    ghost invariant = { λ d. length d.diagnostics.items ≡ length d.paths.items };
+    ghost invariant = { λ d. length d.diagnostics.items ≡ length d.pieces.items };
 }
 
 impl Diagnosis {
     ghost use Rattle.std.specs.List.{slice_get};
     ghost use Rattle.work_index.specs.Unchecked.{unchecked, first_lost};
 
-    /// The paths of the files, by their bytes.
-    pub fn files(&self) -> &[Name]
-        ensures { result.now ≡ self.now.paths }
+    /// How many files there are.
+    pub fn file_count(&self) -> usize
+        ensures { result ≡ length self.now.paths }
     {
-        self.paths.as_slice()
+        self.pieces.len()
+    }
+
+    /// The path of a file. The files are in the order of their paths, by their bytes.
+    pub fn path(&self, file: FileNo) -> &str
+        requires { file < length self.now.paths }
+        ensures { slice_get self.now.paths file ≡ Some result.now }
+    {
+        self.pieces[file].path()
+    }
+
+    /// The text of a file.
+    pub fn text(&self, file: FileNo) -> &str
+        requires { file < length self.now.paths }
+        ensures { slice_get self.now.texts file ≡ Some result.now }
+    {
+        self.pieces[file].text()
     }
 
     /// The diagnostics 201 to 406 of a file, each once, by start, end, number and words.

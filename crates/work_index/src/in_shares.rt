@@ -7,7 +7,7 @@ ghost use Rattle.work_index.specs.Pieces.{workspace_of};
 ghost use Rattle.work_index.specs.Shares.{pieces_in, AreConsecutive, AreNumbersIn, ArePlacedIn, IsLinkedBy, IsLinkedIn, AreLinkedBy};
 ghost use Rattle.work_index.specs.Workspace.{all_facts, analysis, diagnosis};
 
-use crate::analyse::{files_of, paths_of};
+use crate::analyse::files_of;
 use crate::analysis::{Analysis, Resolutions};
 use crate::diagnosis::Diagnosis;
 use crate::fault::AnalyseFault;
@@ -218,7 +218,6 @@ pub fn diagnose<R: Threads + Wait, G: Gate>(
     ensures { IfOk result (λ found. found ≡ diagnosis (workspace_of lent)) }
 {
     let pieces = lent.into_pieces();
-    let paths = paths_of(alloc, pieces.as_slice())?;
     let all = Share {
         first: 0,
         pieces,
@@ -231,9 +230,8 @@ pub fn diagnose<R: Threads + Wait, G: Gate>(
     } = linked;
     let Resolutions { diagnostics, .. } = resolutions;
     Ok(Diagnosis {
-        paths,
-        diagnostics,
         pieces,
+        diagnostics,
         table,
     })
 }

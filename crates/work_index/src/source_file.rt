@@ -52,11 +52,11 @@ impl SourceFile {
         })
     }
 
-    // The file with another text, which is read.
+    // The file with another text, which is read. It is as if it asked for all names: its links are made anew, whatever else changes.
     pub fn with_text(&self, alloc: Global, text: String) -> Result<SourceFile, AllocError>
         ensures { IfOk result (λ file. file ≡ (self.now.0, string_bytes text)) }
     {
-        let FileOut { facts, asked, .. } = FileWork::new(alloc).work(text.as_str())?;
+        let FileOut { facts, asked, .. } = FileWork::linking_once(alloc).work(text.as_str())?;
         let path = self.path.copy(alloc)?;
         let text = SharedText::shared(alloc, text)?;
         Ok(SourceFile {

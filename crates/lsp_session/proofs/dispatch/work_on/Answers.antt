@@ -1,4 +1,4 @@
-use Rattle.std.proofs.Common.{length, subst}
+use Rattle.std.proofs.Common.{length, subst, ◌∙◌}
 use Rattle.lsp_workspace.proofs.FirstEvents.{refused_with}
 use Rattle.lsp_config.specs.declared.fault.ServeFault.TheVariants as served
 use Rattle.lsp_session.specs.Core.{ExhaustsStamps}
@@ -18,13 +18,13 @@ returns-clause-progress g c = if_ok c.advance.result c.advance.ensures.advances 
 pub returns-in_err-hand_out-clause-stamps : goal.returns-in_err-hand_out-clause-stamps
 returns-in_err-hand_out-clause-stamps g c = λ free out.
     let fault = c.in_err-hand_out.field-0.0 in
-    absurd (not_of_workers fault (c.in_err-hand_out.ensures.workers free) (refused_with fault served.Exhausted c.from_residual.result c.from_residual.ensures.1 out))
+    absurd (not_of_workers fault (c.in_err-hand_out.ensures.workers) (refused_with fault served.Exhausted c.from_residual.result c.from_residual.ensures.1 out))
 
 pub returns-in_err-take_result-clause-stamps : goal.returns-in_err-take_result-clause-stamps
 returns-in_err-take_result-clause-stamps g c = λ free out.
     let fault = c.in_err-take_result.field-0.0 in
     absurd
-    (not_of_workers fault (c.in_err-take_result.ensures.workers (c.in_ok-hand_out.ensures.open free))
+    (not_of_workers fault c.in_err-take_result.ensures.workers
     (refused_with fault served.Exhausted c.from_residual-in_err-take_result.result c.from_residual-in_err-take_result.ensures.1 out))
 
 pub returns-clause-stamps : goal.returns-clause-stamps
@@ -34,4 +34,4 @@ returns-clause-stamps g c = λ free out config bodies body w.
     let took = core_state c.take_result.new.core in
     let still = awaits-on config old handed bodies body w (λ h after. let handed = c.in_ok-hand_out.ensures.hands 0 config h after in handed.works) in
     let now = awaits-on config handed took bodies body still (c.in_ok-take_result.ensures.works 0 config) in
-    subst (λ bs. ExhaustsStamps 0 config (length bs)) now.came (c.advance.ensures.stamps c.in_ok-take_result.ensures.open out 0 config now.history now.is_after)
+    subst (λ bs. ExhaustsStamps 0 config (length bs)) now.came (c.advance.ensures.stamps (c.take_result.ensures.fault ∙ c.hand_out.ensures.fault ∙ free) out 0 config now.history now.is_after)

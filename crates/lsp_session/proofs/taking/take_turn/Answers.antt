@@ -1,5 +1,6 @@
 use Rattle.lsp_frame.specs.FrameReader.{source_of}
 use Rattle.lsp_session.specs.View.{core_state}
+use Rattle.lsp_session.proofs.FaultLemmas.{of_workers}
 use Rattle.lsp_session.proofs.ServingLemmas.{serving-on, fails_between, core_caused, no_calls}
 use Rattle.std.proofs.Common.{◌∙◌, ap}
 use Rattle.lsp_session.specs.Stream.{is_exited}
@@ -7,13 +8,12 @@ use Rattle.lsp_session.proofs.taking.take_turn.Goals as goal
 
 pub returns-in-Ok-clause-comes : goal.returns-in-Ok-clause-comes
 returns-in-Ok-clause-comes g c = λ config a v so_far not_exited free.
-    let handed = c.in-Ok.ensures in
-    c.take_next.ensures.comes config a v (serving-on config a (g.S.ByteSource.left (source_of c.args.reader.now)) v (g.K.ByteSink.written c.args.writer.now) (core_state c.args.core.now) (core_state c.hand_out.new.core) so_far handed.state (λ h after. let hands = handed.hands 0 config h after in hands.works))
-    (ap (λ s. is_exited s.phase) handed.state ∙ not_exited) (handed.open free)
+    c.take_next.ensures.comes config a v (serving-on config a (g.S.ByteSource.left (source_of c.args.reader.now)) v (g.K.ByteSink.written c.args.writer.now) (core_state c.args.core.now) (core_state c.hand_out.new.core) so_far c.hand_out.ensures.state (λ h after. let hands = c.in-Ok.ensures.hands 0 config h after in hands.works))
+    (ap (λ s. is_exited s.phase) c.hand_out.ensures.state ∙ not_exited) (c.hand_out.ensures.fault ∙ free)
 
 pub returns-in-Err-clause-comes : goal.returns-in-Err-clause-comes
 returns-in-Err-clause-comes g c = λ config a v so_far not_exited free.
-    fails_between config a (g.S.ByteSource.left (source_of c.args.reader.now)) v (g.K.ByteSink.written c.args.writer.now) (core_state c.args.core.now) c.in-Err.fault so_far (c.in-Err.ensures.workers free)
+    fails_between config a (g.S.ByteSource.left (source_of c.args.reader.now)) v (g.K.ByteSink.written c.args.writer.now) (core_state c.args.core.now) c.in-Err.fault so_far c.in-Err.ensures.workers
 
 pub returns-in-Err-clause-reads : goal.returns-in-Err-clause-reads
 returns-in-Err-clause-reads g c = no_calls _ _ _
@@ -22,4 +22,4 @@ pub returns-in-Err-clause-writes : goal.returns-in-Err-clause-writes
 returns-in-Err-clause-writes g c = no_calls _ _ _
 
 pub returns-in-Err-clause-cause : goal.returns-in-Err-clause-cause
-returns-in-Err-clause-cause g c = core_caused (g.S.ByteSource.counts (source_of c.args.reader.now)) (g.S.ByteSource.counts (source_of c.args.reader.now)) (g.K.ByteSink.counts c.args.writer.now) (g.K.ByteSink.counts c.args.writer.now) c.in-Err.fault c.in-Err.ensures.fault
+returns-in-Err-clause-cause g c = core_caused (g.S.ByteSource.counts (source_of c.args.reader.now)) (g.S.ByteSource.counts (source_of c.args.reader.now)) (g.K.ByteSink.counts c.args.writer.now) (g.K.ByteSink.counts c.args.writer.now) c.in-Err.fault (of_workers c.in-Err.fault c.in-Err.ensures.workers)

@@ -1,6 +1,5 @@
-use Rattle.std.proofs.Common.{◌≡◌, ℕ, List, None}
-use Rattle.lsp_config.specs.Configuration.{Configuration}
-use Rattle.lsp_session.specs.Core.{Event, IsAfter}
+use Rattle.std.proofs.Common.{◌≡◌, None}
+use Rattle.lsp_session.specs.Core.{IsAfter, WhateverCame}
 use Rattle.lsp_session.specs.Steps.{with_rounds}
 use Rattle.lsp_session.specs.View.{core_state, last_fault}
 use Rattle.lsp_session.proofs.working.do_all.Given as goal
@@ -8,6 +7,6 @@ use Rattle.lsp_session.proofs.working.do_all.Given as goal
 -- so many rounds are done
 abbrev pub invariant-loop-round : goal.invariant-loop-round
 invariant-loop-round l = record {
-  rounds : (opening : ℕ) (config : Configuration) (h : List Event) → IsAfter opening config (core_state l.initial.core) h → IsAfter opening config (core_state l.core) (with_rounds l._round opening config h);
+  rounds : WhateverCame (core_state l.initial.core) (λ opening config h. IsAfter opening config (core_state l.core) (with_rounds l._round opening config h));
   «open» : last_fault l.initial.core ≡ None → last_fault l.core ≡ None;
 }

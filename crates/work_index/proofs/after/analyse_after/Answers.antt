@@ -2,23 +2,22 @@ use Rattle.std.proofs.Common.{◌∙◌, ap, arith}
 use Rattle.import_graph.specs.Imports.{graph_of}
 use Rattle.work_index.specs.Pieces.{workspace_of}
 use Rattle.work_index.specs.Stayed.{IsSameFile}
-use Rattle.work_index.proofs.Changed.{parts, pieces_length}
+use Rattle.work_index.specs.Workspace.{workspace_in}
+use Rattle.work_index.proofs.Changed.{pieces_length}
 use Rattle.work_index.proofs.Stayed.{none_taken}
-use Rattle.work_index.proofs.Known.{hold_together, is_analysis}
+use Rattle.work_index.proofs.Known.{hold_together, is_analysis, own_parts}
 use Rattle.work_index.proofs.after.analyse_after.Goals as goal
 
 pub numbers_before-requires : goal.numbers_before-requires
 numbers_before-requires c = λ g n moves.
-    let was = c.requires.stayed in
-    let file : IsSameFile was.old (workspace_of c.args.pieces.now) g n = was.stayed g n moves in
+    let file : IsSameFile (workspace_in c.args.earlier) (workspace_of c.args.pieces.now) g n = c.requires.stayed g n moves in
     omega (arith, file.here, pieces_length c.args.pieces.now)
 
 pub link_after-requires-clause-earlier : goal.link_after-requires-clause-earlier
 link_after-requires-clause-earlier c =
-    let was = c.requires.stayed in
     let inside = c.earlier.inside in
-    let of = parts inside.table inside.files.items inside.resolutions.links.items inside.resolutions.diagnostics.items was.old c.earlier.invariant.3 (c.earlier.view_is ∙ was.is) in
-    none_taken was.old (workspace_of c.args.pieces.now) c.args.to.now was.stayed (record { graph = c.in_ok-table.graph; links = inside.resolutions.links }) (c.in_ok-table.ensures.graph ∙ ap graph_of of.table_is) of.links_are
+    let of = own_parts c.args.earlier inside.table inside.files.items inside.resolutions.links.items inside.resolutions.diagnostics.items c.earlier.invariant c.earlier.view_is in
+    none_taken (workspace_in c.args.earlier) (workspace_of c.args.pieces.now) c.args.to.now c.requires.stayed (record { graph = c.in_ok-table.graph; links = inside.resolutions.links }) (c.in_ok-table.ensures.graph ∙ ap graph_of of.table_is) of.links_are
 
 pub invariant_of-result : goal.invariant_of-result
 invariant_of-result c =
@@ -29,7 +28,6 @@ returns c = is_analysis (workspace_of c.args.pieces.now) _ _ _ _ c.in_ok-table.e
 
 pub table_after-requires-clause-before : goal.table_after-requires-clause-before
 table_after-requires-clause-before c =
-    let was = c.requires.stayed in
     let inside = c.earlier.inside in
-    let of = parts inside.table inside.files.items inside.resolutions.links.items inside.resolutions.diagnostics.items was.old c.earlier.invariant.3 (c.earlier.view_is ∙ was.is) in
-    record { old = was.old; is = of.table_is; stayed = was.stayed }
+    let of = own_parts c.args.earlier inside.table inside.files.items inside.resolutions.links.items inside.resolutions.diagnostics.items c.earlier.invariant c.earlier.view_is in
+    record { old = workspace_in c.args.earlier; is = of.table_is; stayed = c.requires.stayed }

@@ -3,12 +3,22 @@ use Rattle.std.specs.Prelude.{IfOk, OnOk}
 use Rattle.import_graph.specs.Imports.{graph_of}
 use Rattle.link_changes.specs.Laws.{decl_moved}
 use Rattle.link_changes.specs.Touched.{links_after}
+use Rattle.proto_resolve.specs.declared.resolve.Links.{Links}
+use Rattle.work_index.specs.Changes.{no_links}
 use Rattle.work_index.specs.Pieces.{workspace_of}
 use Rattle.work_index.specs.Stayed.{HasMoved}
 use Rattle.work_index.specs.Workspace.{all_facts, resolution_of}
 use Rattle.work_index.proofs.Changed.{nothing, piece_at}
 use Rattle.work_index.proofs.Stayed.{links_moved, moved_in, number_within, one_further, one_taken}
 use Rattle.work_index.proofs.after.links_now.Goals as goal
+
+same-links : {E : Type 0} (r : Result Links E) (a b : Links) → a ≡ b → IfOk r (λ l. l ≡ a) → IfOk r (λ l. l ≡ b)
+same-links (Ok l) a b same is = is ∙ same
+same-links (Err e) a b same is = tt
+
+OnOk-then : {A E P Q : Type 0} (r : Result A E) → (P → Q) → OnOk r P → OnOk r Q
+OnOk-then (Ok x) so holds = so holds
+OnOk-then (Err e) so holds = tt
 
 OnOk-always : {A E P : Type 0} (r : Result A E) → P → OnOk r P
 OnOk-always (Ok x) holds = holds
@@ -27,16 +37,18 @@ returns-in-Some-clause-links c =
     let n = c.args.file in
     let found : HasMoved c.args.earlier.now.graph (graph_of c.args.table.now) c.args.to.now g n = rw c.in-Some.is at c.in_ok-old.ensures in
     let moved : HasMoved (graph_of (all_facts was.old)) (graph_of (all_facts w)) c.args.to.now g n = moved_in c.args.earlier.now.graph (graph_of c.args.table.now) (graph_of (all_facts was.old)) (graph_of (all_facts w)) c.args.to.now g n was.graph (ap graph_of c.requires.table) found in
-    c.take_links.ensures.taken
-    ∙ ap (links_after (decl_moved c.args.to.now)) (was.links g n found.moves (omega arith))
-    ∙ links_moved was.old w c.args.to.now was.stayed c.requires.moved_law g n moved
+    let move = links_after (decl_moved c.args.to.now) in
+    let old : Links = get_or c.args.earlier.now.links.items g no_links in
+    let same : move old ≡ resolution_of w (n, get_or w n nothing) =
+    ap move (was.links g n found.moves (omega arith)) ∙ links_moved was.old w c.args.to.now was.stayed c.requires.moved_law g n moved in
+    same-links c.take_links.result (move old) (resolution_of w (n, get_or w n nothing)) same c.take_links.ensures.taken
 
 pub returns-in-Some-clause-earlier : goal.returns-in-Some-clause-earlier
 returns-in-Some-clause-earlier c =
     let g = c.in-Some.old in
     let found : HasMoved c.args.earlier.now.graph (graph_of c.args.table.now) c.args.to.now g c.args.file = rw c.in-Some.is at c.in_ok-old.ensures in
-    one_taken c.args.file c.args.to.now (workspace_of c.args.pieces.now) c.args.earlier.now c.requires.earlier g found.moves c.take_links.new.links.items c.take_links.ensures.left
-    (record { graph = c.args.earlier.now.graph; links = c.take_links.new.links }) refl refl
+    OnOk-then c.take_links.result (λ left. one_taken c.args.file c.args.to.now (workspace_of c.args.pieces.now) c.args.earlier.now c.requires.earlier g found.moves c.take_links.new.links.items left
+    (record { graph = c.args.earlier.now.graph; links = c.take_links.new.links }) refl refl) c.take_links.ensures.left
 
 pub returns-in-None-clause-links : goal.returns-in-None-clause-links
 returns-in-None-clause-links c =

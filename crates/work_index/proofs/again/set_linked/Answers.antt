@@ -9,7 +9,7 @@ pub returns-clause-links : goal.returns-clause-links
 returns-clause-links c = λ w is.
     let found : c.in_ok-found.found ≡ resolution_of w (c.args.file, c.args.source.now) = cc (c.in_ok-found.ensures, is, c.text.ensures, c.requires.tree) in
     let links : List Links = c.args.resolutions.now.links.items in
-    ap (λ (l : Links). set links c.args.file l) found
+    ap (λ (l : Links). set links c.args.file l) (c.in_ok-links.ensures ∙ found)
 
 pub returns-clause-diagnostics : goal.returns-clause-diagnostics
 returns-clause-diagnostics c = λ w is.

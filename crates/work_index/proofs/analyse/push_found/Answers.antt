@@ -1,6 +1,8 @@
 use Rattle.std.proofs.Common.{◌∙◌, ◌++◌, [], ◌∷◌, List, ap}
 use Rattle.file_facts.specs.declared.diagnostic.Diag.{Diag}
+use Rattle.file_facts.specs.Facts.{facts_of}
+use Rattle.work_index.specs.Workspace.{merged}
 use Rattle.work_index.proofs.analyse.push_found.Goals as goal
 
 pub returns-clause-diagnostics : goal.returns-clause-diagnostics
-returns-clause-diagnostics c = c.in_ok-push.ensures.items ∙ ap (λ (diagnostics : List Diag). c.args.resolutions.now.diagnostics.items ++ diagnostics ∷ []) (c.in_ok-diagnostics.ensures c.args.piece.now.text c.facts_in.ensures)
+returns-clause-diagnostics c = c.in_ok-push.ensures.items ∙ ap (λ (diagnostics : List Diag). c.args.resolutions.now.diagnostics.items ++ diagnostics ∷ []) (c.in_ok-diagnostics.ensures c.args.piece.now.text c.facts_in.ensures ∙ ap (merged (facts_of c.args.piece.now.text)) c.get.ensures)

@@ -120,7 +120,7 @@ invariant_of-result c =
     c.in_ok-make_way.ensures ∙ ap (λ (n : ℕ). map (links_after (decl_moved (numbers_with k n))) inside.resolutions.links.items) (omega (arith, c.len.ensures, inside.files.ok)) in
     let links : c.insert-2.new.self.items ≡ made (resolution_of w) w = c.in_ok-insert-2.ensures.items ∙ ap₂ (λ (others : List Links) (own : Links). insert others k own) moved found ∙ with.links_are in
     let diagnostics : c.insert-3.new.self.items ≡ made (diagnostics_of w) w =
-    c.in_ok-insert-3.ensures.items ∙ ap (insert inside.resolutions.diagnostics.items k) (c.in_ok-diagnostics.ensures c.args.piece.now.text c.facts_in.ensures ∙ ap (merged (facts_of c.args.piece.now.text)) found) ∙ with.diagnostics_are in
+    c.in_ok-insert-3.ensures.items ∙ ap (insert inside.resolutions.diagnostics.items k) (c.in_ok-diagnostics.ensures c.args.piece.now.text c.facts_in.ensures ∙ ap (merged (facts_of c.args.piece.now.text)) (c.get.ensures ∙ found)) ∙ with.diagnostics_are in
     hold_together w _ _ _ _ all files links diagnostics
 
 pub returns : goal.returns
@@ -141,5 +141,5 @@ returns c = λ arrives.
     c.in_ok-make_way.ensures ∙ ap (λ (n : ℕ). map (links_after (decl_moved (numbers_with k n))) inside.resolutions.links.items) (omega (arith, c.len.ensures, inside.files.ok)) in
     let links : c.insert-2.new.self.items ≡ made (resolution_of w) w = c.in_ok-insert-2.ensures.items ∙ ap₂ (λ (others : List Links) (own : Links). insert others k own) moved found ∙ with.links_are in
     let diagnostics : c.insert-3.new.self.items ≡ made (diagnostics_of w) w =
-    c.in_ok-insert-3.ensures.items ∙ ap (insert inside.resolutions.diagnostics.items k) (c.in_ok-diagnostics.ensures c.args.piece.now.text c.facts_in.ensures ∙ ap (merged (facts_of c.args.piece.now.text)) found) ∙ with.diagnostics_are in
+    c.in_ok-insert-3.ensures.items ∙ ap (insert inside.resolutions.diagnostics.items k) (c.in_ok-diagnostics.ensures c.args.piece.now.text c.facts_in.ensures ∙ ap (merged (facts_of c.args.piece.now.text)) (c.get.ensures ∙ found)) ∙ with.diagnostics_are in
     is_analysis w _ _ _ _ all files links diagnostics

@@ -10,4 +10,4 @@ loop-own-preserved c =
     let n = c.loop-own.own-index in
     let far : n < length walked = omega (arith, c.loop-own-test.true, c.loop-own.auto.own-items) in
     let move = links_after (decl_moved c.args.to.now) in
-    one_more_mapped c.args.links.now.items walked n c.loop-own.invariant.1 c.own-item.result far move _ c.loop-own.invariant.0 c.move_files.ensures
+    one_more_mapped c.args.links.now.items walked n c.loop-own.invariant.1 c.own-item.result far move _ c.loop-own.invariant.0 c.in_ok-move_files.ensures

@@ -1,9 +1,8 @@
-use Rattle.std.proofs.Common.{◌∙◌, ◌++◌, ℕ, List, Option, Some, option_map, ap, sym, subst, refl, true, map}
+use Rattle.std.proofs.Common.{◌∙◌, Option, Some, option_map, ap, sym, subst, refl, true, map}
 use Rattle.doc_text.specs.Edits.{change_view}
-use Rattle.piece_collector.specs.Board.{IsAfter}
-use Rattle.piece_collector.specs.Events.{Event}
 use Rattle.lsp_workspace.specs.Files.{AreInPathOrder}
 use Rattle.lsp_workspace.specs.Kept.{IsKept}
+use Rattle.lsp_workspace.specs.Recorded.{Records}
 use Rattle.lsp_workspace.specs.Texts.{TextsChangeAt, events_at}
 use Rattle.lsp_workspace.specs.View.{WorkspaceData, document_view, files_view}
 use Rattle.lsp_workspace.specs.declared.known.Known.{Known}
@@ -28,7 +27,7 @@ invariant_of-self-2 c =
     let order : AreInPathOrder new = subst AreInPathOrder (sym (c.set_document.ensures ∙ both.1)) (changed_files-order version encoding changes path old c.self.invariant.ordered) in
     let texts : TextsChangeAt path (Some text) old new = subst (λ f. TextsChangeAt path (Some text) old f) (sym c.set_document.ensures) (document-texts path document old open_there.0 open_there.1) in
     let kept : IsKept old c.self.inside.board c.take.result = subst (λ (k : Option Known). IsKept old c.self.inside.board k) (sym c.take.ensures.value) c.self.invariant in
-    keeps path (Some text) true old new c.self.inside.board c.tell.new.board c.take.result c.known_after.result kept order c.tell.ensures.here (rw c.in_ok-copy.ensures at c.in_ok-tell.ensures.texts) texts refl (rw c.in_ok-own.ensures.ok at c.known_after.ensures)
+    keeps path (Some text) old new c.self.inside.board c.tell.new.board c.take.result c.known_after.result kept order c.tell.ensures.here (rw c.in_ok-copy.ensures at c.in_ok-tell.ensures.texts) texts (rw c.in_ok-own.ensures.ok at c.known_after.ensures)
 
 pub returns-clause-board : goal.returns-clause-board
 returns-clause-board c =
@@ -44,5 +43,5 @@ returns-clause-board c =
     let open_there = some_open path old both.0 in
     let texts : TextsChangeAt path (Some text) old new = subst (λ f. TextsChangeAt path (Some text) old f) (sym c.set_document.ensures) (document-texts path document old open_there.0 open_there.1) in
     let event = event_open path old new (Some text) both.0 (own path (Some text) old new texts) in
-    subst (λ (w : WorkspaceData). (opening : ℕ) (events : List Event) → IsAfter opening w.board events → IsAfter opening c.tell.new.board (events_at path w.files new ++ events)) c.self.view_is
-    (λ opening events after. subst (λ es. IsAfter opening c.tell.new.board (es ++ events)) (sym event) (rw c.in_ok-copy.ensures at (c.in_ok-tell.ensures.is_after opening events after)))
+    subst (λ (w : WorkspaceData). Records w.board c.tell.new.board (events_at path w.files new)) c.self.view_is
+    (subst (λ es. Records c.self.inside.board c.tell.new.board es) (sym event) (rw c.in_ok-copy.ensures at c.in_ok-tell.ensures.is_after))

@@ -1,8 +1,7 @@
-use Rattle.std.proofs.Common.{◌≡◌, ◌∙◌, ◌++◌, ℕ, List, Option, sym, subst, true}
-use Rattle.piece_collector.specs.Board.{IsAfter}
-use Rattle.piece_collector.specs.Events.{Event}
+use Rattle.std.proofs.Common.{◌≡◌, ◌∙◌, Option, sym, subst, true}
 use Rattle.lsp_workspace.specs.Files.{AreInPathOrder, closed_files}
 use Rattle.lsp_workspace.specs.Kept.{IsKept}
+use Rattle.lsp_workspace.specs.Recorded.{Records}
 use Rattle.lsp_workspace.specs.Texts.{TextsChangeAt, is_open, events_at}
 use Rattle.lsp_workspace.specs.View.{WorkspaceData, files_view}
 use Rattle.lsp_workspace.specs.declared.known.Known.{Known}
@@ -23,8 +22,8 @@ invariant_of-self-2 c =
     let at_once : TextsChangeAt path t old (closed_files path old) = subst (λ u. TextsChangeAt path u old (closed_files path old)) (sym c.in_ok-kept.ensures) (close-texts path old open_there.0 c.self.invariant.ordered open_there.1) in
     let texts : TextsChangeAt path t old new = subst (λ f. TextsChangeAt path t old f) (sym c.close.ensures) at_once in
     let kept : IsKept old c.self.inside.board c.take.result = subst (λ (k : Option Known). IsKept old c.self.inside.board k) (sym c.take.ensures.value) c.self.invariant in
-    keeps path t c.is_some-stays.result old new c.self.inside.board c.tell.new.board c.take.result c.known_after.result kept order c.tell.ensures.here c.in_ok-tell.ensures.texts texts
-    c.is_some-stays.ensures (rw c.in_ok-own.ensures.ok at c.known_after.ensures)
+    keeps path t old new c.self.inside.board c.tell.new.board c.take.result c.known_after.result kept order c.tell.ensures.here c.in_ok-tell.ensures.texts texts
+    (rw c.in_ok-own.ensures.ok at c.known_after.ensures)
 
 pub returns-clause-board : goal.returns-clause-board
 returns-clause-board c =
@@ -37,5 +36,4 @@ returns-clause-board c =
     let at_once : TextsChangeAt path t old (closed_files path old) = subst (λ u. TextsChangeAt path u old (closed_files path old)) (sym c.in_ok-kept.ensures) (close-texts path old open_there.0 c.self.invariant.ordered open_there.1) in
     let texts : TextsChangeAt path t old new = subst (λ f. TextsChangeAt path t old f) (sym c.close.ensures) at_once in
     let event = event_open path old new t is_open_there (own path t old new texts) in
-    subst (λ (w : WorkspaceData). (opening : ℕ) (events : List Event) → IsAfter opening w.board events → IsAfter opening c.tell.new.board (events_at path w.files new ++ events)) c.self.view_is
-    (λ opening events after. subst (λ es. IsAfter opening c.tell.new.board (es ++ events)) (sym event) (c.in_ok-tell.ensures.is_after opening events after))
+    subst (λ (w : WorkspaceData). Records w.board c.tell.new.board (events_at path w.files new)) c.self.view_is (subst (λ es. Records c.self.inside.board c.tell.new.board es) (sym event) c.in_ok-tell.ensures.is_after)

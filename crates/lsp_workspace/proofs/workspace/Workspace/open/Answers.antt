@@ -1,9 +1,8 @@
-use Rattle.std.proofs.Common.{◌≡◌, ◌∙◌, ◌∷◌, ℕ, List, Option, Some, ap, sym, subst, refl, true, string_bytes}
+use Rattle.std.proofs.Common.{◌≡◌, ◌∙◌, [], ◌∷◌, Option, Some, ap, sym, subst, refl, true, string_bytes}
 use Rattle.std.specs.Prelude.{IsSome}
-use Rattle.piece_collector.specs.Board.{IsAfter}
-use Rattle.piece_collector.specs.Events.{Event}
 use Rattle.lsp_workspace.specs.Files.{AreInPathOrder, file_at, opened_files}
 use Rattle.lsp_workspace.specs.Kept.{IsKept}
+use Rattle.lsp_workspace.specs.Recorded.{Records}
 use Rattle.lsp_workspace.specs.Texts.{TextsChangeAt, text_event, event_at}
 use Rattle.lsp_workspace.specs.View.{WorkspaceData, document_view, files_view}
 use Rattle.lsp_workspace.specs.declared.known.Known.{Known}
@@ -43,7 +42,7 @@ invariant_of-self-2 c =
     let order : AreInPathOrder new = subst AreInPathOrder (sym opened) (opened_files-order uri document path old c.self.invariant.ordered) in
     let texts : TextsChangeAt path (Some document.text) old new = subst (λ f. TextsChangeAt path (Some document.text) old f) (sym opened) (texts_change.opened uri document path old) in
     let kept : IsKept old c.self.inside.board c.take.result = subst (λ (k : Option Known). IsKept old c.self.inside.board k) (sym c.take.ensures.value) c.self.invariant in
-    keeps path (Some document.text) true old new c.self.inside.board c.tell.new.board c.take.result c.known_after.result kept order c.tell.ensures.here (rw c.in_ok-copy.ensures at c.in_ok-tell.ensures.texts) texts refl (rw c.in_ok-own.ensures.ok at c.known_after.ensures)
+    keeps path (Some document.text) old new c.self.inside.board c.tell.new.board c.take.result c.known_after.result kept order c.tell.ensures.here (rw c.in_ok-copy.ensures at c.in_ok-tell.ensures.texts) texts (rw c.in_ok-own.ensures.ok at c.known_after.ensures)
 
 pub returns-clause-files : goal.returns-clause-files
 returns-clause-files c =
@@ -63,5 +62,5 @@ returns-clause-board c =
     let opened : new ≡ opened_files uri document path old = c.open.ensures ∙ ap (opened_files uri document path) c.in_ok-make_room.ensures.room ∙ opened_in_room uri document path old in
     let texts : TextsChangeAt path (Some document.text) old new = subst (λ f. TextsChangeAt path (Some document.text) old f) (sym opened) (texts_change.opened uri document path old) in
     let event : event_at path new ≡ text_event path (Some document.text) = ap (text_event path) (own path (Some document.text) old new texts) in
-    subst (λ (w : WorkspaceData). (opening : ℕ) (events : List Event) → IsAfter opening w.board events → IsAfter opening c.tell.new.board (event_at path new ∷ events)) c.self.view_is
-    (λ opening events after. subst (λ e. IsAfter opening c.tell.new.board (e ∷ events)) (sym event) (rw c.in_ok-copy.ensures at (c.in_ok-tell.ensures.is_after opening events after)))
+    subst (λ (w : WorkspaceData). Records w.board c.tell.new.board (event_at path new ∷ [])) c.self.view_is
+    (subst (λ e. Records c.self.inside.board c.tell.new.board (e ∷ [])) (sym event) (rw c.in_ok-copy.ensures at c.in_ok-tell.ensures.is_after))

@@ -10,5 +10,5 @@ use Rattle.lsp_workspace.proofs.workspace.Workspace.snapshot.Goals as goal
 pub returns : goal.returns
 returns c =
     let files = files_view c.self.inside.files.entries in
-    c.of.ensures ∙ ap workspace_in (known_now files c.self.inside.known c.in-Some.known c.self.invariant.is_of c.in-Some.is (subst IsTrue (sym (ap (λ w. w.is_current) c.self.view_is)) c.requires))
+    c.of.ensures ∙ ap workspace_in (known_now files c.self.inside.board c.self.inside.known c.in-Some.known c.self.invariant c.in-Some.is (subst IsTrue (sym (ap (λ w. w.is_current) c.self.view_is)) c.requires))
     ∙ known_workspace (workspace files) ∙ ap (λ w. workspace w.files) c.self.view_is

@@ -1,3 +1,0 @@
-pub mod NamesOrder
-pub mod Components
-pub mod Uses

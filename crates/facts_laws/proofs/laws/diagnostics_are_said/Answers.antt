@@ -1,5 +1,0 @@
-use Rattle.facts_laws.proofs.FileSaid.{diagnostics-are_said}
-use Rattle.facts_laws.proofs.laws.diagnostics_are_said.Goals as goal
-
-pub returns : goal.returns
-returns c = diagnostics-are_said

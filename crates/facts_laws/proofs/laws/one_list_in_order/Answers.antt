@@ -1,8 +1,0 @@
-use Rattle.file_facts.proofs.DiagOrder.{in_order-is_list, only_list}
-use Rattle.facts_laws.proofs.laws.one_list_in_order.Goals as goal
-
-pub returns-clause-list : goal.returns-clause-list
-returns-clause-list c = in_order-is_list
-
-pub returns-clause-only : goal.returns-clause-only
-returns-clause-only c = only_list

@@ -1,5 +1,0 @@
-use Rattle.file_facts.proofs.ProblemOrder.{problem_order-is}
-use Rattle.facts_laws.proofs.laws.problems_in_order.Goals as goal
-
-pub returns : goal.returns
-returns c = problem_order-is

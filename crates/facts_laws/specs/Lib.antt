@@ -1,4 +1,0 @@
-pub mod Parents
-pub mod Scopes
-pub mod Bodies
-pub mod FileDiagnostics

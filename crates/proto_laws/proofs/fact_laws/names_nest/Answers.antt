@@ -1,0 +1,5 @@
+use Rattle.proto_laws.proofs.Nesting.{names-nest}
+use Rattle.proto_laws.proofs.fact_laws.names_nest.Goals as goal
+
+pub returns : goal.returns
+returns c = names-nest c.size_law.ensures.empty c.identifiers_law.ensures

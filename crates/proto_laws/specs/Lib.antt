@@ -1,0 +1,9 @@
+pub mod Reading
+pub mod Apart
+pub mod Trees
+pub mod Parents
+pub mod Scopes
+pub mod Bodies
+pub mod FileDiagnostics
+pub mod NameScopes
+pub mod OrderLaws

@@ -1,4 +1,0 @@
-pub mod Alike
-pub mod Edits
-pub mod NameScopes
-pub mod Renames

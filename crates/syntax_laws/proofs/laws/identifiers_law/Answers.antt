@@ -1,5 +1,0 @@
-use Rattle.syntax_laws.proofs.TokenNames.{names_are_identifiers}
-use Rattle.syntax_laws.proofs.laws.identifiers_law.Goals as goal
-
-pub returns : goal.returns
-returns c = names_are_identifiers c.one_token_list.ensures.exist c.cut_tokens.ensures

@@ -1,6 +1,0 @@
-use Rattle.std.proofs.Common.{◌≡◌, ◌++◌, drop, map}
-use Rattle.work_index.proofs.analyse.paths_of.Given as goal
-
--- what is there and what is left are all
-abbrev pub invariant-loop-piece : goal.invariant-loop-piece
-invariant-loop-piece l = l.paths.items ++ map (λ p. p.path) (drop l.piece-index l.pieces) ≡ map (λ p. p.path) l.pieces

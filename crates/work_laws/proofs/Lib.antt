@@ -1,0 +1,5 @@
+pub mod Alike
+pub mod Components
+pub mod Edits
+pub mod Renames
+pub mod Uses
