@@ -5,6 +5,7 @@ use Rattle.std.specs.List.{enumerate_from, slice_get}
 use Rattle.std.proofs.lemmas.List.{length-map}
 use Rattle.std.proofs.lemmas.List.FromFn.{length-enumerate_from}
 use Rattle.std.proofs.lemmas.Option.{slice_get-map}
+use Rattle.file_facts.specs.Facts.{facts_of}
 use Rattle.work_index.specs.Workspace.{AnalysisData, IsKnown, diagnostics_of, resolution_of, workspace_in}
 use Rattle.lsp_queries.specs.Bindings.{SameInFile, SameMeaning, bindings, bindings_in, codes, codes_in}
 
@@ -29,10 +30,14 @@ module _ (a : AnalysisData) (known : IsKnown a) where
   paths-long : length a.paths ≡ length (workspace_in a)
   paths-long = ap (λ (x : AnalysisData). length x.paths) known.is ∙ length-map (workspace_in a) (λ file. file.0)
 
+  pub facts-long : length a.facts ≡ length a.paths
+  facts-long = ap (λ (x : AnalysisData). length x.facts) known.is ∙ length-map (workspace_in a) (λ file. facts_of file.1) ∙ sym paths-long
+
+  pub links-long : length a.links ≡ length a.paths
+  links-long = let w = workspace_in a in ap (λ (x : AnalysisData). length x.links) known.is ∙ length-map (enumerate_from 0 w) (resolution_of w) ∙ length-enumerate_from 0 w ∙ sym paths-long
+
   bindings-long : length (bindings a) ≡ length a.paths
-  bindings-long =
-      let w = workspace_in a in
-      length-map a.links bindings_in ∙ ap (λ (x : AnalysisData). length x.links) known.is ∙ length-map (enumerate_from 0 w) (resolution_of w) ∙ length-enumerate_from 0 w ∙ sym paths-long
+  bindings-long = length-map a.links bindings_in ∙ links-long
 
   codes-long : length (codes a) ≡ length a.paths
   codes-long =

@@ -1,5 +1,5 @@
 -- The places of a declaration, file by file.
-use Rattle.std.proofs.Common.{◌≡◌, ◌⊎◌, ◌∙◌, inl, inr, ℕ, ◌+◌, ◌<◌, ◌≤◌, Bool, true, false, cond, List, [], ◌∷◌, length, get_or, map, Option, Some, None, refl, sym, ap, subst, arith, zero-add, lt-ltb, le-ltb}
+use Rattle.std.proofs.Common.{◌≡◌, ◌⊎◌, ◌∙◌, inl, inr, ℕ, ◌+◌, ◌<◌, ◌≤◌, Bool, true, false, cond, List, [], ◌∷◌, length, get_or, map, Option, Some, None, refl, sym, ap, subst, arith, zero-add}
 use Rattle.std.specs.Prelude.{All, Contains, ◌==◌, filter, nat_lt, not, option_map, slice_get}
 use Rattle.std.specs.List.{AllPairs, enumerate_from, flat_map}
 use Rattle.std.specs.Option.{option_map_or}
@@ -8,7 +8,7 @@ use Rattle.std.proofs.lemmas.List.{length-map}
 use Rattle.std.proofs.lemmas.List.Elements.{All-nil, All-cons, All-append, All-contains_itself, All-filter, All-map, filter_passes}
 use Rattle.std.proofs.lemmas.List.FromFn.{get_or-enumerate_from, length-enumerate_from}
 use Rattle.std.proofs.lemmas.List.Kept.{AllPairs-cons, AllPairs-filter, AllPairs-from_increasing}
-use Rattle.std.proofs.lemmas.Option.{get_or_from_slice_get, slice_get-get_or, slice_get-map, slice_get_within}
+use Rattle.std.proofs.lemmas.Option.{get_or_from_slice_get, slice_get-get_or, slice_get-map, slice_get_past, slice_get_within}
 use Rattle.syntax_tree.specs.declared.node.Node.{Node}
 use Rattle.syntax_tree.specs.declared.node.Span.{Span}
 use Rattle.syntax_tree.specs.Names.{names_in, type_components_in}
@@ -117,28 +117,20 @@ module _ (w : Workspace) where
 
   uses-are : (i : ℕ) → i < length w → uses_in (analysis w) i ≡ uses_of_file i
   uses-are i lt =
-      let paths = map (λ file. file.0) w in
-      let there : i < length paths = omega (arith, length-map w (λ file. file.0)) in
       let numbered : i < length (enumerate_from 0 w) = omega (arith, length-enumerate_from 0 w) in
-      ap (λ b. option_map_or (λ links. links.uses) (cond b (slice_get (map (resolution_of w) (enumerate_from 0 w)) i) None) []) (lt-ltb i (length paths) there)
-      ∙ ap (λ o. option_map_or (λ links. links.uses) o [])
+      ap (λ o. option_map_or (λ links. links.uses) o [])
       (slice_get-map (resolution_of w) (enumerate_from 0 w) i
       ∙ ap (option_map (resolution_of w)) (slice_get-get_or (enumerate_from 0 w) i (0, ([], [])) numbered
       ∙ ap (λ e. Some e) (get_or-enumerate_from 0 w i (0, ([], [])) lt ∙ ap (λ n. (n, get_or w i ([], []))) (zero-add i))))
 
   decls-are : (i : ℕ) → i < length w → decls_in (analysis w) i ≡ (facts_of (text_in w i)).decls
   decls-are i lt =
-      let paths = map (λ file. file.0) w in
-      let there : i < length paths = omega (arith, length-map w (λ file. file.0)) in
-      ap (λ b. option_map_or (λ facts. facts.decls) (cond b (slice_get (map (λ file. facts_of file.1) w) i) None) []) (lt-ltb i (length paths) there)
-      ∙ ap (λ o. option_map_or (λ facts. facts.decls) o [])
+      ap (λ o. option_map_or (λ facts. facts.decls) o [])
       (slice_get-map (λ file. facts_of file.1) w i ∙ ap (option_map (λ file. facts_of file.1)) (slice_get-get_or w i ([], []) lt))
 
   no-decls : (i : ℕ) → length w ≤ i → decls_in (analysis w) i ≡ []
   no-decls i le =
-      let paths = map (λ file. file.0) w in
-      let past : length paths ≤ i = omega (arith, length-map w (λ file. file.0)) in
-      ap (λ b. option_map_or (λ facts. facts.decls) (cond b (slice_get (map (λ file. facts_of file.1) w) i) None) []) (le-ltb i (length paths) past)
+      ap (λ o. option_map_or (λ facts. facts.decls) o []) (slice_get_past (map (λ file. facts_of file.1) w) i (omega (arith, le, length-map w (λ file. facts_of file.1))))
 
   -- ---- the own place
 

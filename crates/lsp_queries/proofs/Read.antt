@@ -1,24 +1,23 @@
 -- What an analysis of a workspace has of a file.
-use Rattle.std.proofs.Common.{◌≡◌, ◌⊎◌, ◌∙◌, inl, inr, ℕ, zero, suc, ◌+◌, ◌<◌, Bool, true, false, cond, List, [], ◌∷◌, length, get_or, map, Option, Some, None, refl, sym, ap, subst, arith, zero-add, lt-ltb, le-ltb}
+use Rattle.std.proofs.Common.{◌≡◌, ◌⊎◌, ◌∙◌, inl, inr, ℕ, zero, suc, ◌+◌, ◌<◌, Bool, true, false, cond, List, [], ◌∷◌, length, get_or, Option, Some, None, refl, sym, ap, subst, arith, zero-add}
 use Rattle.std.specs.Prelude.{Contains, find, option_map, position}
 use Rattle.std.specs.List.{enumerate_from, position_from, slice_get}
 use Rattle.std.specs.Option.{option_map_or}
-use Rattle.std.proofs.lemmas.Bool.{cases_lt}
 use Rattle.std.proofs.lemmas.Iterator.Adapters.{position_from-zero}
 use Rattle.std.proofs.lemmas.List.{length-map}
 use Rattle.std.proofs.lemmas.List.FromFn.{get_or-enumerate_from, length-enumerate_from}
-use Rattle.std.proofs.lemmas.Option.{slice_get-get_or, slice_get-map, slice_get_past, slice_get_within}
+use Rattle.std.proofs.lemmas.Option.{slice_get-get_or, slice_get-map, slice_get_within}
 use Rattle.syntax_tree.specs.declared.node.Span.{Span}
 use Rattle.file_facts.specs.declared.fact.Decl.{Decl}
 use Rattle.file_facts.specs.declared.fact.FileFacts.{FileFacts}
 use Rattle.file_facts.specs.declared.fact.PackageFact.{PackageFact}
 use Rattle.file_facts.specs.Facts.{facts_of}
-use Rattle.proto_laws.proofs.Holders.{either, inside}
+use Rattle.proto_laws.proofs.Holders.{inside}
 use Rattle.proto_laws.proofs.Holders.{first_in, later_in, none_in, cases_in}
 use Rattle.proto_resolve.specs.declared.resolve.Links.{Links}
 use Rattle.proto_resolve.specs.declared.uses.NameUse.{NameUse}
 use Rattle.work_index.specs.Workspace.{Workspace, analysis, resolution_of}
-use Rattle.lsp_queries.specs.Files.{components_in, components_of, decls_in, facts_in, links_in, uses_in}
+use Rattle.lsp_queries.specs.Files.{components_in, components_of, decls_in, uses_in}
 use Rattle.lsp_queries.specs.PlaceLaws.{text_in}
 use Rattle.lsp_queries.specs.Standing.{HasComponent, HasDecl, HasUse}
 use Rattle.lsp_queries.proofs.Places.{uses_of_file}
@@ -80,24 +79,6 @@ module _ {X : Type 0} (p : X → Bool) where
 -- ---- an analysis
 
 module _ (w : Workspace) where
-  facts-in : (i : ℕ) → facts_in (analysis w) i ≡ slice_get (map (λ file. facts_of file.1) w) i
-  facts-in i =
-      let paths = map (λ file. file.0) w in
-      let facts = map (λ file. facts_of file.1) w in
-      let long : length facts ≡ length paths = length-map w (λ file. facts_of file.1) ∙ sym (length-map w (λ file. file.0)) in
-      either (λ lt. ap (λ (b : Bool). cond {A = Option FileFacts} b (slice_get facts i) None) (lt-ltb i (length paths) lt))
-      (λ le. ap (λ (b : Bool). cond {A = Option FileFacts} b (slice_get facts i) None) (le-ltb i (length paths) le) ∙ sym (slice_get_past facts i (omega (arith, le, long))))
-      (cases_lt i (length paths))
-
-  links-in : (i : ℕ) → links_in (analysis w) i ≡ slice_get (map (resolution_of w) (enumerate_from 0 w)) i
-  links-in i =
-      let paths = map (λ file. file.0) w in
-      let links = map (resolution_of w) (enumerate_from 0 w) in
-      let long : length links ≡ length paths = length-map (enumerate_from 0 w) (resolution_of w) ∙ length-enumerate_from 0 w ∙ sym (length-map w (λ file. file.0)) in
-      either (λ lt. ap (λ (b : Bool). cond {A = Option Links} b (slice_get links i) None) (lt-ltb i (length paths) lt))
-      (λ le. ap (λ (b : Bool). cond {A = Option Links} b (slice_get links i) None) (le-ltb i (length paths) le) ∙ sym (slice_get_past links i (omega (arith, le, long))))
-      (cases_lt i (length paths))
-
   -- the facts of a file are those of its text
   pub facts-are : (i : ℕ) (facts : FileFacts) → slice_get (analysis w).facts i ≡ Some facts → (i < length w) × (facts ≡ facts_of (text_in w i))
   facts-are i facts e =
@@ -120,41 +101,32 @@ module _ (w : Workspace) where
     abbrev links_at : Option Links
     links_at = slice_get (analysis w).links i
 
-    decls-of : decls_in (analysis w) i ≡ option_map_or (λ facts. facts.decls) facts_at []
-    decls-of = ap (λ o. option_map_or (λ facts. facts.decls) o []) (facts-in i)
-
-    uses-of : uses_in (analysis w) i ≡ option_map_or (λ links. links.uses) links_at []
-    uses-of = ap (λ o. option_map_or (λ links. links.uses) o []) (links-in i)
-
-    components-of : components_in (analysis w) i ≡ option_map_or (λ facts. components_of facts.«package») facts_at []
-    components-of = ap (λ o. option_map_or (λ facts. components_of facts.«package») o []) (facts-in i)
-
     pub has-decl : (n : ℕ) (d : Decl) → slice_get (decls_in (analysis w) i) n ≡ Some d → HasDecl (analysis w) i n d
-    has-decl n d e = by facts_at refl (ap (λ l. slice_get l n) (sym decls-of) ∙ e)
+    has-decl n d e = by facts_at refl e
       where
         by : (o : Option FileFacts) → facts_at ≡ o → slice_get (option_map_or (λ facts. facts.decls) o []) n ≡ Some d → HasDecl (analysis w) i n d
         by None is e = absurd (cc (e))
         by (Some facts) is e = (facts, is, e)
 
     pub decl-there : (n : ℕ) (d : Decl) → HasDecl (analysis w) i n d → slice_get (decls_in (analysis w) i) n ≡ Some d
-    decl-there n d h = ap (λ l. slice_get l n) (decls-of ∙ ap (λ o. option_map_or (λ facts. facts.decls) o []) h.1) ∙ h.2
+    decl-there n d h = ap (λ o. slice_get (option_map_or (λ facts. facts.decls) o []) n) h.1 ∙ h.2
 
     pub has-use : (u : NameUse) → Contains (uses_in (analysis w) i) u → HasUse (analysis w) i u
-    has-use u c = by links_at refl (subst (λ l. Contains l u) uses-of c)
+    has-use u c = by links_at refl c
       where
         by : (o : Option Links) → links_at ≡ o → Contains (option_map_or (λ links. links.uses) o []) u → HasUse (analysis w) i u
         by None is c = absurd (none_in u c)
         by (Some links) is c = (links, is, c)
 
     pub use-there : (u : NameUse) → HasUse (analysis w) i u → Contains (uses_in (analysis w) i) u
-    use-there u h = subst (λ l. Contains l u) (sym (uses-of ∙ ap (λ o. option_map_or (λ links. links.uses) o []) h.1)) h.2
+    use-there u h = subst (λ l. Contains l u) (sym (ap (λ o. option_map_or (λ links. links.uses) o []) h.1)) h.2
 
     of_option : (facts : FileFacts) (o : Option PackageFact) (s : Span) → facts_at ≡ Some facts → facts.«package» ≡ o → Contains (components_of o) s → HasComponent (analysis w) i s
     of_option facts None s at is c = absurd (none_in s c)
     of_option facts (Some p) s at is c = (facts, p, at, is, c)
 
     pub has-component : (s : Span) → Contains (components_in (analysis w) i) s → HasComponent (analysis w) i s
-    has-component s c = by facts_at refl (subst (λ l. Contains l s) components-of c)
+    has-component s c = by facts_at refl c
       where
         by : (o : Option FileFacts) → facts_at ≡ o → Contains (option_map_or (λ facts. components_of facts.«package») o []) s → HasComponent (analysis w) i s
         by None is c = absurd (none_in s c)
@@ -162,4 +134,4 @@ module _ (w : Workspace) where
 
     pub component-there : (s : Span) → HasComponent (analysis w) i s → Contains (components_in (analysis w) i) s
     component-there s h =
-        subst (λ l. Contains l s) (sym (components-of ∙ ap (λ o. option_map_or (λ facts. components_of facts.«package») o []) h.2 ∙ ap components_of h.3)) h.4
+        subst (λ l. Contains l s) (sym (ap (λ o. option_map_or (λ facts. components_of facts.«package») o []) h.2 ∙ ap components_of h.3)) h.4

@@ -1,5 +1,5 @@
 -- What an analysis knows of a file, if there is such a file.
-use Rattle.std.specs.Prelude.{ℕ, List, [], Option, Some, None, length, nat_lt, option_and_then, option_map, if◌then◌else◌}
+use Rattle.std.specs.Prelude.{ℕ, List, [], Option, Some, None, option_and_then, option_map}
 use Rattle.std.specs.List.{slice_get}
 use Rattle.std.specs.Option.{option_map_or}
 use Rattle.syntax_tree.specs.declared.node.Span.{Span}
@@ -22,10 +22,10 @@ components_of (Some p) = p.components
 module _ (a : AnalysisData) where
   -- what a file says by itself, and what its names mean
   abbrev pub facts_in : ℕ → Option FileFacts
-  facts_in file = if nat_lt file (length a.paths) then slice_get a.facts file else None
+  facts_in file = slice_get a.facts file
 
   abbrev pub links_in : ℕ → Option Links
-  links_in file = if nat_lt file (length a.paths) then slice_get a.links file else None
+  links_in file = slice_get a.links file
 
   -- its declarations, its package and the components of that, and the uses of names in it, each by offset
   abbrev pub decls_in : ℕ → List Decl

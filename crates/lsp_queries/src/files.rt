@@ -1,22 +1,55 @@
 // What an analysis knows of a file, if there is such a file.
 ghost use Rattle.std.specs.Prelude.{◌≡◌, option_map};
-ghost use Rattle.lsp_queries.specs.Files.{decls_in, components_in, uses_in, decl_of, place_of};
+ghost use Rattle.lsp_queries.specs.Files.{components_in, components_of, decl_of, decls_in, facts_in, links_in, place_of, uses_in};
 
 use crate::place::Place;
-use file_facts::Decl;
+use file_facts::{Decl, FileFacts, PackageFact};
 use import_graph::FileNo;
-use proto_resolve::{DeclRef, NameUse};
+use proto_resolve::{DeclRef, Links, NameUse};
 use syntax_tree::Span;
 use work_index::Analysis;
+
+// What a file says by itself.
+pub fn facts_in(analysis: &Analysis, file: FileNo) -> Option<&FileFacts>
+    ensures { option_map (λ facts. facts.now) result ≡ facts_in analysis.now file }
+{
+    analysis.known();
+    if file < analysis.file_count() {
+        Some(analysis.facts(file))
+    } else {
+        None
+    }
+}
+
+// What the names of a file mean.
+fn links_in(analysis: &Analysis, file: FileNo) -> Option<&Links>
+    ensures { option_map (λ links. links.now) result ≡ links_in analysis.now file }
+{
+    analysis.known();
+    if file < analysis.file_count() {
+        Some(analysis.links(file))
+    } else {
+        None
+    }
+}
 
 // The declarations of a file, by offset.
 pub fn decls_in(analysis: &Analysis, file: FileNo) -> &[Decl]
     ensures { result.now ≡ decls_in analysis.now file }
 {
-    if file < analysis.file_count() {
-        analysis.facts(file).decls.as_slice()
-    } else {
-        &[]
+    match facts_in(analysis, file) {
+        Some(facts) => facts.decls.as_slice(),
+        None => &[],
+    }
+}
+
+// The components of a package.
+fn components_of(stated: &Option<PackageFact>) -> &[Span]
+    ensures { result.now ≡ components_of stated.now }
+{
+    match stated {
+        Some(package) => package.components.as_slice(),
+        None => &[],
     }
 }
 
@@ -24,11 +57,8 @@ pub fn decls_in(analysis: &Analysis, file: FileNo) -> &[Decl]
 pub fn components_in(analysis: &Analysis, file: FileNo) -> &[Span]
     ensures { result.now ≡ components_in analysis.now file }
 {
-    if file >= analysis.file_count() {
-        return &[];
-    }
-    match &analysis.facts(file).package {
-        Some(package) => package.components.as_slice(),
+    match facts_in(analysis, file) {
+        Some(facts) => components_of(&facts.package),
         None => &[],
     }
 }
@@ -37,10 +67,9 @@ pub fn components_in(analysis: &Analysis, file: FileNo) -> &[Span]
 pub fn uses_in(analysis: &Analysis, file: FileNo) -> &[NameUse]
     ensures { result.now ≡ uses_in analysis.now file }
 {
-    if file < analysis.file_count() {
-        analysis.links(file).uses.as_slice()
-    } else {
-        &[]
+    match links_in(analysis, file) {
+        Some(links) => links.uses.as_slice(),
+        None => &[],
     }
 }
 

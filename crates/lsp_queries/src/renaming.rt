@@ -9,7 +9,7 @@ ghost use Rattle.lsp_queries.specs.Renaming.{is_identifier, is_other, new_full_n
 use crate::comparing::same_meaning;
 use crate::edited::edited_texts;
 use crate::fault::RenameFault;
-use crate::files::{decl_of, place_of};
+use crate::files::{decl_of, facts_in, place_of};
 use crate::offsets::{Symbol, symbol_at};
 use crate::place::Place;
 use crate::place_laws::places_cut_out;
@@ -88,10 +88,10 @@ fn begins(full_name: &[u8], name: &[u8]) -> bool
 fn has_package(analysis: &Analysis, file: FileNo, full_name: &str) -> bool
     ensures { result ≡ files.is_within full_name.now (package_in analysis.now file) }
 {
-    if file >= analysis.file_count() {
+    let Some(facts) = facts_in(analysis, file) else {
         return false;
-    }
-    match &analysis.facts(file).package {
+    };
+    match &facts.package {
         Some(package) => begins(package.full_name.as_str().as_bytes(), full_name.as_bytes()),
         None => false,
     }

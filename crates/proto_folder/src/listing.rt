@@ -1,4 +1,9 @@
 // What is in folders: their entries, and the texts of files.
+ghost use Rattle.std.specs.Prelude.{◌≡◌, ◌⊎◌, ◌+◌, ◌++◌, ◌∷◌, [], true, false, codes, nat_eq, string_bytes, OnOk};
+ghost use Rattle.std.specs.Fs.{IsDir, IsFile, file_type, metadata_len};
+ghost use Rattle.std.specs.List.{ends_with};
+ghost use Rattle.proto_folder.specs.declared.found.FoundFile.{FoundFile};
+ghost use Rattle.proto_folder.specs.declared.found.Met.TheVariants as met;
 
 use crate::fault::FolderFault;
 use crate::found::{Folder, FoundFile, Met, MetFile};
@@ -52,13 +57,17 @@ fn skip_unread<'d>(
     listing: &mut Listing<'d>,
     path: &str,
     error: &io::Error,
-) -> Result<(), FolderFault<'d>> {
+) -> Result<(), FolderFault<'d>>
+    ensures { OnOk result (listing.new.files.items ≡ listing.old.files.items) }
+{
     let skipped = Skipped::unread(listing.alloc, path, error)?;
     Ok(listing.skipped.push(skipped)?)
 }
 
 // Leaves out the entry at a path for a reason.
-fn skip<'d>(listing: &mut Listing<'d>, path: &str, reason: &str) -> Result<(), FolderFault<'d>> {
+fn skip<'d>(listing: &mut Listing<'d>, path: &str, reason: &str) -> Result<(), FolderFault<'d>>
+    ensures { OnOk result (listing.new.met.items ≡ listing.old.met.items) }
+{
     let skipped = Skipped::of(listing.alloc, path, reason)?;
     Ok(listing.skipped.push(skipped)?)
 }
@@ -78,7 +87,9 @@ fn add_folder<'d>(
     listing: &mut Listing<'d>,
     holder: &Folder<'d>,
     path: String,
-) -> Result<(), FolderFault<'d>> {
+) -> Result<(), FolderFault<'d>>
+    ensures { OnOk result (listing.new.met.items ≡ listing.old.met.items ++ met.Folder (record { root = holder.now.root; path = path; depth = holder.now.depth + 1 }) ∷ []) }
+{
     if holder.depth >= MAX_DEPTH {
         return Err(FolderFault::TooDeep {
             dir: holder.root.dir,
@@ -89,6 +100,13 @@ fn add_folder<'d>(
     Ok(listing.met.push(Met::Folder(Folder { root, path, depth }))?)
 }
 
+// Whether a path is that of a file that is read, if it is one.
+fn is_proto(path: &str) -> bool
+    ensures { result ≡ ends_with nat_eq path.now (codes ".proto") }
+{
+    path.as_bytes().ends_with(b".proto")
+}
+
 // Keeps what was met at a path, if it is a folder or a `.proto` file. Symbolic links aren't followed. What ends in `.proto` and is neither
 // a file nor a folder, as a pipe or a socket, can't be read.
 fn add_found<'d>(
@@ -96,11 +114,15 @@ fn add_found<'d>(
     folder: &Folder<'d>,
     path: String,
     found: &Metadata,
-) -> Result<(), FolderFault<'d>> {
+) -> Result<(), FolderFault<'d>>
+    ensures folder { OnOk result (IsDir (file_type found.now) → listing.new.met.items ≡ listing.old.met.items ++ met.Folder (record { root = folder.now.root; path = path; depth = folder.now.depth + 1 }) ∷ []) }
+    ensures file { OnOk result (IsFile (file_type found.now) → ends_with nat_eq (string_bytes path) (codes ".proto") ≡ true → listing.new.met.items ≡ listing.old.met.items ++ met.File (record { root = folder.now.root; path = path; length = metadata_len found.now }) ∷ []) }
+    ensures other { OnOk result (¬ (IsDir (file_type found.now)) → ¬ (IsFile (file_type found.now)) ⊎ (ends_with nat_eq (string_bytes path) (codes ".proto") ≡ false) → listing.new.met.items ≡ listing.old.met.items) }
+{
     if found.is_dir() {
         return add_folder(listing, folder, path);
     }
-    if found.is_symlink() || !path.as_str().ends_with(".proto") {
+    if found.is_symlink() || !is_proto(path.as_str()) {
         return Ok(());
     }
     if !found.is_file() {
@@ -193,7 +215,9 @@ fn read<'d, F: FolderReader>(
     reader: &F,
     listing: &mut Listing<'d>,
     file: MetFile<'d>,
-) -> Result<(), FolderFault<'d>> {
+) -> Result<(), FolderFault<'d>>
+    ensures { OnOk result ((listing.new.files.items ≡ listing.old.files.items) ⊎ ((f : FoundFile) × (listing.new.files.items ≡ listing.old.files.items ++ f ∷ []) × (f.root ≡ file.entry.root.number) × (f.path ≡ file.entry.path))) }
+{
     let MetFile { root, path, length } = file;
     let place = path_in(listing.alloc, root.dir, path.as_str())?;
     match reader.read_text(place.as_str(), length) {
