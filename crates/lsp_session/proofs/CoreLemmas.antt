@@ -6,7 +6,7 @@ use Rattle.std.specs.Option.{option_to_list}
 use Rattle.serde_json.specs.Written.{compact_text}
 use Rattle.std.specs.Prelude.{option_map, option_and_then, if◌then◌else◌, string_bytes, IfOk, OnOk}
 use Rattle.collector_laws.specs.WorkLaws.{NoneIsOut, NoJobChangesNothing, OnlyJobsMakePathsOut, CompleteIsNoneWantedAndNoneOut, RoundsLeaveNoneOut, RoundsEnd, right_piece, after_round, after_rounds}
-use Rattle.piece_collector.specs.Board.{IsComplete, IsFull, IsFirstWanted, current_text}
+use Rattle.piece_collector.specs.Board.{IsComplete, IsFirstWanted, current_text}
 use Rattle.piece_collector.specs.History.{Standing, wants, sets, first_wanted, history, stands_at}
 use Rattle.piece_collector.specs.Laws.{JobsGoToTheFirstWanted}
 use Rattle.piece_collector.specs.Views.{TextAt}
@@ -29,7 +29,7 @@ use Rattle.work_dispatch.specs.Dispatch as dispatch
 use Rattle.lsp_session.specs.Core.{Event, Arrive, Advance, Give, Offer, Fail, messages, processed, has_begun, begun, done, waiting, next_body, state_after, beginning, pending_after, board_events, MayBegin, MayFinish, IsLegal, IsSettled, CoreState, IsAfter, ComesToAnAnalysis, Replied, Steps, Advances}
 use Rattle.lsp_session.specs.Run.{event_of}
 use Rattle.lsp_session.specs.Session.{State, Pending, start, turn, path_of, path_in, replies_of, replies_to, waits, needs_analysis, next, session}
-use Rattle.lsp_session.specs.Steps.{NeedsAnalysis, unprocessed, right_work, with_round, with_rounds, IsWorked, HasWorked, Knows, Awaits, WorksOn, HandsOut, Progresses, replies_after}
+use Rattle.lsp_session.specs.Steps.{NeedsAnalysis, unprocessed, right_work, with_round, with_rounds, IsWorked, HasWorked, Knows, Awaits, WorksOn, Progresses, replies_after}
 use Rattle.lsp_session.specs.View.{roots_of, state_of}
 use Rattle.lsp_session.specs.BoardEvents.{events_for_path, events_by_method, events_in_phase, events_of, board_events_of}
 use Rattle.lsp_session.specs.declared.phase.Phase.{Phase}
@@ -477,23 +477,20 @@ module _ (o : ℕ) (config : Configuration) (old new : CoreState) (h : List Even
   board-gives zero = refl
   board-gives (suc n) = ap (λ es. work.NextJob ∷ es) (board-gives n)
 
-  pub hands-out : (no_room : Type 0) → dispatch.HandsOut old.board new.board no_room → HandsOut o config new h no_room
+  pub hands-out : (no_room : Type 0) → dispatch.HandsOut old.board new.board no_room → WorksOn o config new h
   hands-out no_room hands =
       let n = hands.jobs in
       record {
-        works = record {
-          after = replicate n Give ++ h;
-          is_after = record {
-            legal = legal-gives n;
-            state = state ∙ after.state ∙ sym (same-gives (state_after config) (λ g. refl) n h);
-            queue = queue ∙ after.queue ∙ sym (same-gives (λ g. map message_of (waiting g)) (λ g. refl) n h);
-            pending = pending ∙ after.pending ∙ sym (same-gives (pending_after config) (λ g. refl) n h);
-            board = subst (λ es. board.IsAfter o new.board es) (board-gives n) (hands.records o (board_events config h) after.board);
-          };
-          came = same-gives messages (λ g. refl) n h;
-          count = same-gives processed (λ g. refl) n h;
+        after = replicate n Give ++ h;
+        is_after = record {
+          legal = legal-gives n;
+          state = state ∙ after.state ∙ sym (same-gives (state_after config) (λ g. refl) n h);
+          queue = queue ∙ after.queue ∙ sym (same-gives (λ g. map message_of (waiting g)) (λ g. refl) n h);
+          pending = pending ∙ after.pending ∙ sym (same-gives (pending_after config) (λ g. refl) n h);
+          board = subst (λ es. board.IsAfter o new.board es) (board-gives n) (hands.records o (board_events config h) after.board);
         };
-        stops = ⊎_elim (λ full. inl full) (λ none. inr (subst (λ es. IsFirstWanted o es None) (board-gives n) (none o (board_events config h) after.board))) hands.stops;
+        came = same-gives messages (λ g. refl) n h;
+        count = same-gives processed (λ g. refl) n h;
       }
 
   brought : (done : Done) → board.IsAfter o new.board (dispatch.event_of done ∷ board_events config h) → WorksOn o config new h

@@ -84,11 +84,6 @@ pub record WorksOn (opening : ℕ) (config : Configuration) (core : CoreState) (
   pub came : messages after ≡ messages h
   pub count : processed after ≡ processed h
 
--- the same where jobs went out until there is no room for more, or no text is wanted
-pub record HandsOut (opening : ℕ) (config : Configuration) (core : CoreState) (h : List Event) (no_room : Type 0) : Type 0 where
-  pub works : WorksOn opening config core h
-  pub stops : no_room ⊎ IsFirstWanted opening (board_events config works.after) None
-
 -- the bodies of the replies to one more message
 abbrev pub replies_after : Configuration → List (List ℕ) → List ℕ → List (List ℕ)
 replies_after config bodies body = map compact_text (replies_to (session config bodies).state (message_of body))

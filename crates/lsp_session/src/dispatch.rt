@@ -3,8 +3,9 @@ ghost use Rattle.std.specs.Prelude.{◌≡◌, ℕ, List, [], ◌∷◌, ◌++�
 ghost use Rattle.lsp_config.specs.Configuration.{Configuration};
 ghost use Rattle.lsp_config.specs.Fault.{IsOfCore, IsOfWorkers};
 ghost use Rattle.lsp_session.specs.Core.{messages, WhateverCame, ExhaustsStamps, Advances};
-ghost use Rattle.lsp_session.specs.Steps.{Knows, Awaits, WorksOn, HandsOut, Progresses, replies_after};
+ghost use Rattle.lsp_session.specs.Steps.{Knows, Awaits, WorksOn, Progresses, replies_after};
 ghost use Rattle.lsp_session.specs.View.{core_state, last_fault};
+ghost use Rattle.work_dispatch.specs.Dispatch.{HandsOut};
 ghost use Rattle.worker_pool.specs.SentJobs.{HasRoom};
 
 use crate::reply::Reply;
@@ -20,7 +21,8 @@ use worker_pool::Pool;
 /// Hands out jobs, in the order of the paths, until no text is wanted or the pool has no room. `Memory` if memory is refused or a
 /// job can't be sent. The core doesn't keep such a fault: the session ends with it.
 pub fn hand_out<R: Wait>(rt: &R, core: &mut Core, pool: &mut Pool) -> Result<(), ServeFault>
-    ensures hands { OnOk result (WhateverCame (core_state core.old) (λ opening config h. HandsOut opening config (core_state core.new) h (¬ HasRoom pool.new.sent))) }
+    ensures hands { OnOk result (HandsOut (core_state core.old).board (core_state core.new).board (¬ HasRoom pool.new.sent)) }
+    ensures works { OnOk result (WhateverCame (core_state core.old) (λ opening config h. WorksOn opening config (core_state core.new) h)) }
     ensures state { (core_state core.new).state ≡ (core_state core.old).state }
     ensures fault { last_fault core.new ≡ last_fault core.old }
     ensures workers { IfErr result IsOfWorkers }

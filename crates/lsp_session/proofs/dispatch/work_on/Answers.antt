@@ -12,7 +12,7 @@ returns-clause-progress g c = if_ok c.advance.result c.advance.ensures.advances 
     let old = core_state c.args.core.now in
     let handed = core_state c.hand_out.new.core in
     let took = core_state c.take_result.new.core in
-    let still = awaits-on config old handed bodies body w (λ h after. let handed = c.in_ok-hand_out.ensures.hands 0 config h after in handed.works) in
+    let still = awaits-on config old handed bodies body w (c.in_ok-hand_out.ensures.works 0 config) in
     progresses config took (core_state c.advance.new.core) bodies body replies.items (awaits-on config handed took bodies body still (c.in_ok-take_result.ensures.works 0 config)) (advances 0 config))
 
 pub returns-in_err-hand_out-clause-stamps : goal.returns-in_err-hand_out-clause-stamps
@@ -32,6 +32,6 @@ returns-clause-stamps g c = λ free out config bodies body w.
     let old = core_state c.args.core.now in
     let handed = core_state c.hand_out.new.core in
     let took = core_state c.take_result.new.core in
-    let still = awaits-on config old handed bodies body w (λ h after. let handed = c.in_ok-hand_out.ensures.hands 0 config h after in handed.works) in
+    let still = awaits-on config old handed bodies body w (c.in_ok-hand_out.ensures.works 0 config) in
     let now = awaits-on config handed took bodies body still (c.in_ok-take_result.ensures.works 0 config) in
     subst (λ bs. ExhaustsStamps 0 config (length bs)) now.came (c.advance.ensures.stamps (c.take_result.ensures.fault ∙ c.hand_out.ensures.fault ∙ free) out 0 config now.history now.is_after)
