@@ -1,4 +1,6 @@
 // What a session or a check is started with: the roots, and the files below them.
+ghost use Rattle.std.specs.Prelude.{◌≡◌, codes, map, string_bytes, vec_len, All, IfOk};
+ghost use Rattle.program_options.specs.Path as url;
 
 use crate::failure::Failure;
 use crate::named_files::named_paths;
@@ -14,7 +16,11 @@ use std::sync::Wait;
 use std::thread::Threads;
 
 // The files that were found, each with the number of its root.
-fn disk_files(alloc: Global, found: Vec<FoundFile>) -> Result<Vec<DiskFile>, AllocError> {
+fn disk_files(alloc: Global, found: Vec<FoundFile>) -> Result<Vec<DiskFile>, AllocError>
+    ensures roots { IfOk result (λ files. map (λ f. f.root) files.items ≡ map (λ f. f.root) found.items) }
+    ensures paths { IfOk result (λ files. map (λ f. f.path) files.items ≡ map (λ f. f.path) found.items) }
+    ensures texts { IfOk result (λ files. map (λ f. f.text) files.items ≡ map (λ f. f.text) found.items) }
+{
     let mut files = Vec::with_capacity(alloc, found.len())?;
     for FoundFile { root, path, text } in found {
         files.push(DiskFile { root, path, text })?;
@@ -23,7 +29,9 @@ fn disk_files(alloc: Global, found: Vec<FoundFile>) -> Result<Vec<DiskFile>, All
 }
 
 // The URLs of these folders.
-fn roots_of(alloc: Global, dirs: &[&str]) -> Result<Vec<String>, AllocError> {
+fn roots_of(alloc: Global, dirs: &[&str]) -> Result<Vec<String>, AllocError>
+    ensures { IfOk result (λ roots. map string_bytes roots.items ≡ map (λ dir. url.root_url dir.now) dirs.now) }
+{
     let mut roots = Vec::with_capacity(alloc, dirs.len())?;
     for dir in dirs {
         roots.push(root_url(alloc, dir)?)?;
@@ -32,7 +40,10 @@ fn roots_of(alloc: Global, dirs: &[&str]) -> Result<Vec<String>, AllocError> {
 }
 
 // As many times the root of all paths.
-fn roots_of_all(alloc: Global, count: usize) -> Result<Vec<String>, AllocError> {
+fn roots_of_all(alloc: Global, count: usize) -> Result<Vec<String>, AllocError>
+    ensures count { IfOk result (λ roots. vec_len roots ≡ count) }
+    ensures root { IfOk result (λ roots. All (λ root. string_bytes root ≡ url.root_url (codes "/")) roots.items) }
+{
     let mut roots = Vec::with_capacity(alloc, count)?;
     for _root in 0..count {
         roots.push(root_url(alloc, "/")?)?;
