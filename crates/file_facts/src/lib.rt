@@ -3,7 +3,7 @@
 //! [`FileFacts`] has a file's language, package, imports and declarations, and its diagnostics. Which values these are for a
 //! text is defined in specs/Facts.antt. Each kind of diagnostic has one definition: 201 to 204 in specs/Diags.antt, 312 to
 //! 317 in specs/Facts.antt, the others in specs/Checks.antt. `in_order` puts diagnostics of whatever source into the order in
-//! which a file lists them. The facts are found by the crate `proto_facts`, the laws of these definitions are `facts_laws`.
+//! which a file lists them. The facts are found by the crate `proto_facts`, the laws of these definitions are `proto_laws`.
 #![tactic(auto)]
 
 mod byte_pairs;

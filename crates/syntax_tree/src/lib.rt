@@ -3,7 +3,7 @@
 //! A [`FileTree`] has the statements of a text, each a [`Node`], and what is wrong with those that aren't read. A [`Lexeme`] is
 //! a token as the grammar sees it. The definitions are in specs/: Read.antt says what the tree of a text is, Cut.antt where
 //! statements end, Forms.antt which forms they have, Grammar.antt how these are spelled, and Names.antt and Identifiers.antt
-//! which names stand in a tree. The parser is the crate `proto_syntax`, the laws of these definitions are `syntax_laws`.
+//! which names stand in a tree. The parser is the crate `proto_syntax`, the laws of these definitions are `proto_laws`.
 #![tactic(auto)]
 
 mod lexeme;
