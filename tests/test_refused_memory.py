@@ -86,7 +86,7 @@ class RefusedMemory(unittest.TestCase):
         others = {("", 1), ("error: out of memory\n", 0), ("error: fault 602\n", 0)}
         none = "error: fault 601\n", 0
         seen = set()
-        for megabytes in range(4, 160, 2):
+        for megabytes in range(8, 160, 2):
             with self.subTest(megabytes=megabytes):
                 answer = run_within(program, line + "\n", megabytes)
                 self.assertIn(answer, {whole, none, *others})
