@@ -55,8 +55,26 @@ def same_name(n):
 ONE_NAME = "money.proto"
 ONE_NAME_TEXT = 'syntax = "proto3";\npackage shop;\nmessage Money { int64 units = 1; }\n'
 
+# What may stand there too, so that each file sees it: a message with 200 declarations inside.
+WIDE_MESSAGE = "message Wide {\n" + "".join(f"  message Part{k} {{ }}\n  Part{k} part{k} = {k};\n" for k in range(1, 101)) + "}\n"
+
 
 def user_of_one_name(n):
     """A file that uses that name ten times."""
     fields = "".join(f"  shop.Money price{k} = {k};\n" for k in range(1, 11))
     return f'syntax = "proto3";\npackage {package(n)};\nimport "{ONE_NAME}";\nmessage Order{n} {{\n{fields}}}\n'
+
+
+# A file with a name that nine other files of its tree use, so that it stands in ten.
+RARE_NAME = "rare.proto"
+RARE_NAME_TEXT = 'syntax = "proto3";\npackage rare;\nmessage Seldom { int64 units = 1; }\n'
+
+
+def users_of_rare_name(count):
+    """The numbers of those nine files among so many, far from each other."""
+    return range(0, 9 * (count // 9), count // 9)
+
+
+def use_of_rare_name(n):
+    """What stands at the end of each of them."""
+    return f'import "{RARE_NAME}";\nmessage User{n} {{ rare.Seldom one = 1; }}\n'

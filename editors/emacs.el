@@ -1,6 +1,11 @@
 ;;; emacs.el --- protols in Emacs 28 or newer, with Eglot and protobuf-mode  -*- lexical-binding: t -*-
 
-;; Put (load "~/path/to/emacs.el") into ~/.emacs.d/init.el. Eglot is part of Emacs 29 and newer, and a package (elpa-eglot) before.
+;; Put this into ~/.emacs.d/init.el, with the path of this file:
+;;
+;;   (load "/usr/share/doc/protols/editors/emacs.el")
+;;
+;; It needs protobuf-mode and Eglot: Debian's packages are elpa-protobuf-mode, and elpa-eglot before Emacs 29, of which Eglot is a part.
+;; With the cursor on a fault, the echo area says what it is; M-x flymake-show-buffer-diagnostics lists all of a buffer.
 
 (require 'project)
 (require 'protobuf-mode)
@@ -10,14 +15,19 @@
   "Folders outside a project whose files it imports.
 Debian's libprotobuf-dev puts google/protobuf into /usr/include.")
 
+(defun protols-root ()
+  "The folder that imports are named from.
+Put a file buf.yaml there if it isn't the repository's, nor the file's own."
+  (let ((project (project-current)))
+    (or (locate-dominating-file default-directory "buf.yaml")
+        (if project (project-root project) default-directory))))
+
 (defun protols-command (&rest _)
   "The words that start protols for the project of the current buffer."
-  (let ((project (project-current)))
-    `("protols" "serve"
-      ;; The folder that imports are named from.
-      "--root" ,(expand-file-name (if project (project-root project) default-directory))
-      ,@(mapcan (lambda (folder) (list "--proto-path" folder))
-                (seq-filter #'file-directory-p protols-proto-path)))))
+  `("protols" "serve"
+    "--root" ,(expand-file-name (protols-root))
+    ,@(mapcan (lambda (folder) (list "--proto-path" folder))
+              (seq-filter #'file-directory-p protols-proto-path))))
 
 (with-eval-after-load 'eglot
   (add-to-list 'eglot-server-programs '(protobuf-mode . protols-command)))

@@ -22,8 +22,8 @@ vim.api.nvim_create_autocmd("InsertLeave", {
 vim.api.nvim_create_autocmd("FileType", {
   pattern = "proto",
   callback = function(args)
-    -- The folder that imports are named from: put a file buf.yaml there if it isn't the repository's.
-    local root = vim.fs.root(args.buf, { "buf.yaml", ".git" }) or vim.fn.getcwd()
+    -- The folder that imports are named from: put a file buf.yaml there if it isn't the repository's, nor the file's own.
+    local root = vim.fs.root(args.buf, "buf.yaml") or vim.fs.root(args.buf, ".git") or vim.fn.expand("<afile>:p:h")
     local cmd = { "protols", "serve", "--root", root }
     for _, folder in ipairs(proto_path) do
       if vim.fn.isdirectory(folder) == 1 then

@@ -235,8 +235,8 @@ class Named(unittest.TestCase):
         for edit in sorted(ROOT.glob("crates/*/wrong-bodies/*.edit")) + sorted(ROOT.glob("crates/*/must-fail/*.edit")):
             refused = wrong_bodies_table.described(edit)[1] or ""
             unknown = {word for span in spans(refused) for word in definitions.WORD.findall(span)} - self.sources.words
-            for calls, labels in CLAUSES.findall(refused + ")"):
-                # (a private function stands in parentheses too)
+            # (a private function stands in parentheses too, also behind names of clauses)
+            for calls, labels in CLAUSES.findall(refused + ")") + CLAUSES.findall(refused.replace("` (", "`; (") + ")"):
                 known = [one.labels() for call in spans(calls) for one in self.sources.functions.get(call.rpartition("::")[2], [])]
                 unknown |= set(spans(labels)) - set(self.sources.functions).union(*known) if known else set()
             if unknown:
@@ -264,7 +264,7 @@ class Packaging(unittest.TestCase):
 
     def test_the_formats_are_those_of_the_check(self):
         source = manual.SOURCE.read_text(encoding="utf-8")
-        named = re.findall(r'^ +"(\w+)" => Some\(Format::', (ROOT / "crates/lsp_check/src/format.rt").read_text(encoding="utf-8"), re.MULTILINE)
+        named = re.findall(r'^ +"(\w+)" => Some\(Format::', (ROOT / "crates/check_lines/src/format.rt").read_text(encoding="utf-8"), re.MULTILINE)
         self.assertEqual(manual.names(source)["FORMATS"], named)
         for name in named:
             with self.subTest(format=name):

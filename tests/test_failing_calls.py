@@ -169,7 +169,7 @@ class Devices(unittest.TestCase):
 class Allocations(unittest.TestCase):
     def check_each(self, args, data, status):
         """Each allocation that is refused leads to 803 or 804 behind a part of the output, or while the options are read, to an error of theirs. None is passed
-        over: all goes out only if what found no memory is one of the threads that help to make a table, which is then made without it."""
+        over."""
         [whole] = runs(stream.command(args), data, [{}])
         right = (whole.out, b"", status)
         self.assertEqual((whole.out, whole.err, whole.status), right)
@@ -177,10 +177,7 @@ class Allocations(unittest.TestCase):
         for run in refused_runs(stream.command(args), data):
             with self.subTest(run):
                 self.assertTrue(whole.out.startswith(run.out))
-                if (run.out, run.err, run.status) == right:
-                    self.assertEqual(run.threads, whole.threads - 1)
-                else:
-                    self.assertIn((run.err, run.status), {fault(803), fault(804)} if run.out else {fault(803), fault(804), OPTIONS})
+                self.assertIn((run.err, run.status), {fault(803), fault(804)} if run.out else {fault(803), fault(804), OPTIONS})
             seen.add((run.err, run.status))
         self.assertLessEqual({fault(803), fault(804), OPTIONS}, seen)
 
@@ -201,20 +198,22 @@ class Allocations(unittest.TestCase):
 
 
 class Threads(unittest.TestCase):
-    def check_each(self, args, data, status, asked, helping):
-        """Each of the threads that the number of workers asks for leads to 804 if it can't be started. What others would have done the program does itself."""
+    def check_each(self, args, data, status, threads):
+        """Each of so many threads leads to 804 if it can't be started."""
         [whole] = runs(stream.command(args), data, [{}])
-        right = (whole.out, b"", status)
-        self.assertEqual((whole.out, whole.err, whole.status), right)
-        ended = []
-        for run in refused_runs(stream.command(args), data, "REFUSE_THREAD"):
+        self.assertEqual((whole.err, whole.status), (b"", status))
+        refused = [*refused_runs(stream.command(args), data, "REFUSE_THREAD")]
+        for run in refused:
             self.assertTrue(whole.out.startswith(run.out), run)
-            self.assertIn((run.out, run.err, run.status), {right, (run.out, *fault(804))}, run)
-            ended.append((run.err, run.status))
-        self.assertEqual((ended.count(fault(804)), ended.count((b"", status))), (asked, helping))
+            self.assertEqual((run.err, run.status), fault(804), run)
+        self.assertEqual(len(refused), threads)
 
     def test_a_first_session(self):
-        self.check_each(SERVE, FIRST_INPUT, 0, 3, 2)
+        self.check_each(SERVE, FIRST_INPUT, 0, 3)
+
+    def test_a_session_of_many_files(self):
+        opened = [opening(f"{n}.proto", f"{PROTO3}message M{n} {{}}\n") for n in range(64)]
+        self.check_each(SERVE, frames([INITIALIZE, *opened, request(2, "workspace/diagnostic", "{}"), SHUTDOWN, EXIT]), 0, 5)
 
 
 if __name__ == "__main__":

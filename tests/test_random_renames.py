@@ -1,8 +1,9 @@
 """A thousand random renames on the built program, in small trees that somebody made to be misread.
 
-Which names a text has, and what each means, is worked out here from the rules of the language, and the definitions in each session have to agree. If a rename
-answers edits, an editor makes them, and a new session on the result finds diagnostics of the same numbers in each file, and each name, by its number in its
-file, means what it meant. If a rename is refused since a meaning would change, the same edits made by hand change one of the two.
+Which names a text has, and what each means, is worked out here from the rules of the language, and in each session the definitions of all names and the
+references of some have to agree. If a rename answers edits, an editor makes them, and a new session on the result finds diagnostics of the same numbers in
+each file, and each name, by its number in its file, means what it meant. If a rename is refused since a meaning would change, the same edits made by hand
+change one of the two.
 """
 import collections
 import itertools
@@ -16,6 +17,8 @@ from test_encodings import ENCODINGS, ENDING, at, changing, choosing, notificati
 
 # (with this seed it is the names' numbers alone that change in some trees, files without an edit alone in others, and once edits take a name away)
 SEED, TREES, RENAMES, ROOT = 5, 250, 4, "file:///"
+# Of so many names of a tree each session is asked for the references.
+SOME = 30
 REFUSED = {number: {"code": -32803, "message": f"rename refused: {number}"} for number in range(701, 706)}
 
 # What follows reads texts without bad tokens, lone braces, strings in a row or numbers that aren't decimal: none are written here, and no rename makes one.
@@ -246,12 +249,15 @@ class RandomRenames(unittest.TestCase):
             bodies += [notification(*tree.about(it, path)) for it in ("didSave", "didClose")] * (dice.random() < 0.3)
         first = [tree.about("diagnostic", path) for path in tree.texts]
         first += [tree.about("definition", it.path, dice.randint(it.start, it.end)) for it in tree.spots]
+        some = dice.sample(tree.spots, min(len(tree.spots), SOME))
+        first += [tree.about("references", it.path, dice.randint(it.start, it.end)) for it in some]
         bodies += [*(request(number, *it) for number, it in enumerate([*first, *asked], 2)), *ENDING]
         out, err, status = stream.run(stream.frames(bodies), ("serve", "--workers", str(dice.choice([1, 4]))))
         self.assertEqual((err, status), (b"", 1))
         results = iter([it.get("result", it.get("error")) for it in map(json.loads, stream.split_frames(out)) if it["id"] > 1])
         codes = [[it["code"] for it in next(results)["items"]] for _ in tree.texts]
         self.assertEqual([next(results) for _ in tree.spots], [tree.locations(tree.own_place.get(it.target, [])) for it in tree.spots])
+        self.assertEqual([next(results) for _ in some], [tree.locations(tree.places(it.target)) for it in some])
         return codes, [*results]
 
     def check_meaning(self, dice, tree, codes, target, name, found, answer):

@@ -14,7 +14,7 @@ from test_serve import ASK, EXIT, INITIALIZE, INITIALIZED, OPEN, PROTO3, REPORT,
 FILES, MESSAGES = 12, 500
 
 # Calls of the program of cases, each with its own answers where it finds no memory. An error that is nothing but a refusal is answered as one of the line.
-CALLS = {"tokens": [], "parse": [], "facts": [], "analyse": [], "symbols": [], "references": [], "rename": ["fault 706"]}
+CALLS = {"tokens": [], "parse": [], "facts": [], "analyse": [], "symbols": [], "references": [], "rename": ["fault 706"], "merge": [], "closed": []}
 
 # A stream of one frame, and its end, which is asked for twice, as a fault is.
 STREAM = "frames :: 0 ends 5000 :: Content-Length: 33␍|␍|" + EXIT
@@ -44,7 +44,7 @@ BOARD_REFUSED = [
     BOARD_DONE.replace("3", "fault 501"),
 ]
 
-# A run of a core: what is brought is taken, doubled, foreign and stale, and two requests wait for it. After the change the file has two declarations more.
+# Runs of a core: what is brought is taken, doubled, foreign and stale, and two requests wait for it. After the change the file has two declarations more.
 DECLARED = "message One {}|message Two {}|"
 CHANGED = json.dumps(PROTO3 + DECLARED.replace("|", "\n"))
 CHANGE = notification("textDocument/didChange", f'{{"textDocument":{{"uri":"{A}","version":2}},"contentChanges":[{{"text":{CHANGED}}}]}}')
@@ -62,8 +62,23 @@ CORE_EVENTS = (
     "made 1 a.proto S|#|",
     f"made 3 a.proto S|{DECLARED}",
 )
-CORE = " :: ".join(["run", *(f"> {event}" for event in CORE_EVENTS)])
-CORE_DONE = f"6 processed Taken Doubled Foreign Taken Stale Taken: {INITIALIZED} {REPORT} {report('3')}"
+# The same messages, but between what is brought; one piece is of another text than the one of its stamp.
+MIXED_EVENTS = (
+    INITIALIZE,
+    OPEN,
+    "made 1 z.proto S|",
+    opening(B, PROTO3),
+    ASK,
+    "made 2 b.proto S|",
+    "made 1 a.proto S|",
+    CHANGE,
+    "made 2 b.proto S|",
+    asking("3", A),
+    "made 1 a.proto S|#|",
+    "made 1 a.proto S|#|",
+    f"made 3 a.proto S|{DECLARED}",
+)
+CORE_RUNS = {CORE_EVENTS: "Taken Doubled Foreign Taken Stale Taken", MIXED_EVENTS: "Foreign Taken Foreign Doubled Taken Stale Taken"}
 
 
 def run_within(program, line, megabytes):
@@ -126,8 +141,11 @@ class EachAllocation(unittest.TestCase):
     def test_events_of_a_board(self):
         self.check_line(BOARD, BOARD_DONE, BOARD_REFUSED)
 
-    def test_a_run_of_a_core(self):
-        self.check_line(CORE, CORE_DONE, [" fault 803"])
+    def test_runs_of_a_core(self):
+        for events, verdicts in CORE_RUNS.items():
+            with self.subTest(verdicts):
+                line = " :: ".join(["run", *(f"> {event}" for event in events)])
+                self.check_line(line, f"6 processed {verdicts}: {INITIALIZED} {REPORT} {report('3')}", [" fault 803"])
 
 
 if __name__ == "__main__":

@@ -258,10 +258,11 @@ class Judged(unittest.TestCase):
         self.assertEqual(self.judged(said, "low", "high"), set())
 
     def test_a_name_that_is_gone(self):
-        gone = "./proofs/high/Answers.antt:3:4: error: `returns`: record `Rattle.planted.proofs.high.Lts.After` has no field `low`\nfn planted::high: not proved"
         group = edits_of("low", "high")
-        said = wrong_bodies.judge(wrong_bodies.Said(f"{gone}\nlogic=not-proved", "planted"), group, {it: it.function for it in group})
-        self.assertEqual([wrong_bodies.verdict_of(it) for it in said.values()], ["NAMES ONLY"])
+        for lacks in ("has no field `low`", "(nearest: .low-n)"):
+            gone = f"./proofs/high/Answers.antt:3:4: error: `returns`: record `Rattle.planted.proofs.high.Lts.After` {lacks}\nfn planted::high: not proved"
+            said = wrong_bodies.judge(wrong_bodies.Said(f"{gone}\nlogic=not-proved", "planted"), group, {it: it.function for it in group})
+            self.assertEqual([wrong_bodies.verdict_of(it) for it in said.values()], ["NAMES ONLY"])
         self.assertEqual(wrong_bodies.verdict_of("with 3 others: `search` did not prove `returns`"), "REFUSED")
 
     def test_what_is_a_failure(self):

@@ -21,17 +21,16 @@ BEGIN, END = "<!-- begin: written by tools/definitions.py -->", "<!-- end -->"
 ORDER = {
     "lsp_frame": "Header Grammar Stream StreamLaws Counts Devices FrameReader Reading Writing Fault".split(),
     "proto_lex": "Bytes Numbers NumberForms Forms Trivia Kinds Tokens Rest Laws Characters".split(),
-    "syntax_tree": "Lexeme Cut Parts Forms Grammar Read Names Identifiers".split(),
-    "file_facts": "Text FullNames Numbers Tree Members Decls Problems Diags Order Checks Facts IdentifierLaws Nesting".split(),
+    "proto_tree": "Lexeme Cut Parts Forms Grammar Read Names Identifiers".split(),
+    "proto_decls": "Text FullNames Numbers Tree Members Decls Problems Diags Order Checks Facts IdentifierLaws Nesting".split(),
     "import_graph": "Paths Imports Walks Views Closures Outlooks Laws".split(),
     "proto_names": "Files Outlines Packages Holders Hashed Entries Buckets".split(),
     "proto_resolve": "Sites Names Uses Finding FindingLaws ViewDiagnostics Resolved Laws DiagnosticLaws Seen Outlines".split(),
     "doc_text": "Lines Positions Edits Laws".split(),
     "piece_collector": "Events History Views Board Runs Fault Laws".split(),
     "work_index": "Workspace Unchecked Pieces Changes Fault".split(),
-    "lsp_workspace": "Files Roots Texts Recorded Disk View".split(),
+    "work_files": "Files Roots Texts Disk View".split(),
     "lsp_answers": "Context Questions Answers Reports Diagnostics Ranges Views".split(),
-    "lsp_check": "Lines Listing Sarif".split(),
     "lsp_session": "Session Stream Core Run View".split(),
 }
 

@@ -3,9 +3,9 @@
 
 usage: dist.py [--program FILE] [--into FOLDER]
 
-Both hold the program, its manual page, completions for bash, zsh and fish, README.md, DIAGNOSTICS.md, the licence, and what is in editors/. The same
-sources and program give the same bytes: names are sorted, the owner is root, and every time is that of the last commit, or SOURCE_DATE_EPOCH. The
-program has to be that of these sources: its version and the options that it shows are compared with them.
+Both hold the program, its manual page, completions for bash, zsh and fish, README.md, DIAGNOSTICS.md, SECURITY.md, the licence, the small tree of
+examples/, and what is in editors/. The same sources and program give the same bytes: names are sorted, the owner is root, and every time is that of the
+last commit, or SOURCE_DATE_EPOCH. The program has to be that of these sources: its version and the options that it shows are compared with them.
 """
 import argparse
 import email.utils
@@ -14,6 +14,7 @@ import hashlib
 import io
 import os
 import pathlib
+import posixpath
 import re
 import shutil
 import subprocess
@@ -71,21 +72,29 @@ def packed(data):
 
 
 def documents():
-    """What stands in the folder of documents of both packages, by its path there. Links to what isn't packed become plain words."""
-    found = {path: ROOT / path for path in ("README.md", "docs/DIAGNOSTICS.md")}
+    """What stands in the folder of documents of both packages, by its path there. A link to what isn't packed becomes words that say where it is."""
     # (what tries the set-ups isn't one)
-    set_ups = [path for path in sorted((ROOT / "editors").rglob("*")) if path.is_file() and not path.relative_to(ROOT / "editors").parts[0].startswith("try")]
-    found.update({path.relative_to(ROOT).as_posix(): path for path in set_ups})
+    set_ups = [path for path in (ROOT / "editors").rglob("*") if not path.relative_to(ROOT / "editors").parts[0].startswith("try")]
+    packed_files = [ROOT / "README.md", ROOT / "docs/DIAGNOSTICS.md", ROOT / "docs/SECURITY.md", *set_ups, *(ROOT / "examples/protos").rglob("*")]
+    found = {path.relative_to(ROOT).as_posix(): path for path in sorted(packed_files) if path.is_file()}
     placed = {path: path.removeprefix("docs/") for path in found}
 
-    def link(one):
-        path, mark, place = one[2].partition("#")
-        return f"[{one[1]}]({placed.get(path, path)}{mark}{place})" if not path or path in placed or ":" in path else one[1]
+    def text(path):
+        def link(one):
+            named, mark, place = one[2].partition("#")
+            if not named or ":" in named:
+                return one[0]
+            target = posixpath.normpath(posixpath.join(posixpath.dirname(path), named))
+            if target in placed:
+                return f"[{one[1]}]({posixpath.relpath(placed[target], posixpath.dirname(placed[path]) or '.')}{mark}{place})"
+            where = f"{target} of the sources"
+            alone = one.string[one.start() - 1] == "(" and one.string[one.end()] == ")"
+            return where if one[1] in target else f"{one[1]}: {where}" if alone else f"{one[1]} ({where})"
 
-    def text(file):
-        return re.sub(r"\[([^\]]*)\]\(([^)\s]+)\)", link, file.read_text(encoding="utf-8")).encode() if file.suffix == ".md" else file.read_bytes()
+        data = found[path].read_bytes()
+        return re.sub(r"\[([^\]]*)\]\(([^)\s]+)\)", link, data.decode()).encode() if path.endswith(".md") else data
 
-    return {placed[path]: text(file) for path, file in found.items()}
+    return {placed[path]: text(path) for path in found}
 
 
 def written(epoch):
@@ -125,24 +134,17 @@ def of_package(program, epoch, version):
 
 
 def mode(path):
-    return 0o755 if path.endswith("bin/protols") else 0o644
+    return 0o755 if path.endswith(("bin/protols", "editors/pre-commit")) else 0o644
 
 
 def archive(files, top, epoch):
-    """The bytes of an archive with these files below a folder."""
+    """The bytes of an archive with these files below a folder. Folders have no entries, so that those which are there keep their owners and modes."""
     held = io.BytesIO()
     with tarfile.open(fileobj=held, mode="w", format=tarfile.USTAR_FORMAT) as tar:
-        folders = {parent.as_posix() for path in files for parent in pathlib.PurePosixPath(top, path).parents} - {"."}
-        for path in sorted(folders | {f"{top}/{path}" for path in files}):
-            entry = tarfile.TarInfo(path)
-            entry.mtime, entry.uname, entry.gname = epoch, "root", "root"
-            if path in folders:
-                entry.type, entry.mode = tarfile.DIRTYPE, 0o755
-                tar.addfile(entry)
-            else:
-                data = files[path.partition("/")[2]]
-                entry.size, entry.mode = len(data), mode(path)
-                tar.addfile(entry, io.BytesIO(data))
+        for path, data in sorted(files.items()):
+            entry = tarfile.TarInfo(f"{top}/{path}")
+            entry.size, entry.mode, entry.mtime, entry.uname, entry.gname = len(data), mode(path), epoch, "root", "root"
+            tar.addfile(entry, io.BytesIO(data))
     return gzip.compress(held.getvalue(), 9, mtime=epoch)
 
 
@@ -173,9 +175,10 @@ def control_of(files, version, depends):
     return text
 
 
-def pack(program, into, epoch):
+def pack(program, into, epoch, version=None):
     """Writes the archive, the package and their sums into a folder. Gives the sums, and the packages that the program needs."""
-    version, depends, data = manual.version(manual.SOURCE.read_text(encoding="utf-8")), dependencies(program), stripped(program)
+    version = version or manual.version(manual.SOURCE.read_text(encoding="utf-8"))
+    depends, data = dependencies(program), stripped(program)
     into.mkdir(parents=True, exist_ok=True)
     name = f"protols-{version}-linux-x86_64"
     made = [into / f"{name}.tar.gz", into / f"protols_{version}_amd64.deb"]

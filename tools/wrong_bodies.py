@@ -66,7 +66,7 @@ LOCATED = re.compile(r"(note: )?(?:\./)?((?:src|specs|proofs)/\S+?):(\d+):\d+: (
 STATUS = re.compile(r"(fn|struct|enum|union|impl|trait|const|static) (\S+): (.*)")
 # What is said where another declaration or file failed, and not this one.
 SECOND_HAND = re.compile(r"was rejected|was not admitted|were not checked|was not checked|is not proved|are not proved|could not be read")
-NAMES_ONLY = re.compile(r"has no field|is not in scope|has no `|was not admitted")
+NAMES_ONLY = re.compile(r"has no field|\(nearest: |is not in scope|has no `|was not admitted")
 # What the verdict says of a refusal that shows nothing of a contract, here and where the kit has tried an edit.
 # It is a failure if this is true, which it is to be as soon as no edit has that verdict.
 FAILS_ON_NAMES = False

@@ -37,6 +37,14 @@ impl Text {
         self.text.as_str()
     }
 
+    /// The whole text, which is moved out. Takes no memory.
+    pub fn into_string(self) -> String
+        ensures { string_bytes result ≡ self }
+    {
+        let Text { text: whole } = self;
+        whole
+    }
+
     /// The byte offset of a position, from 0 to the text's length, between two characters. A character past the
     /// line's length means the line's end, before its line end; a line past the last one means the text's end;
     /// a place inside a character goes back to the character's start. Takes no memory, and reads the text once,

@@ -7,10 +7,10 @@ use Rattle.std.proofs.lemmas.List.{length-map, map-append, take-map, drop-map}
 use Rattle.std.proofs.lemmas.List.Edits.{length-insert}
 use Rattle.std.proofs.lemmas.List.Elements.{All-head, All-tail}
 use Rattle.std.proofs.lemmas.Slice.Eq.{bytes_eq-Decides}
-use Rattle.file_facts.specs.declared.fact.ImportFact.{ImportFact}
+use Rattle.proto_decls.specs.declared.fact.ImportFact.{ImportFact}
 use Rattle.import_graph.specs.declared.imports.ImportEdge.{ImportEdge}
 use Rattle.import_graph.specs.declared.imports.FileImports.{FileImports}
-use Rattle.file_facts.specs.declared.named_facts.NamedFacts.{NamedFacts}
+use Rattle.proto_decls.specs.declared.named_facts.NamedFacts.{NamedFacts}
 use Rattle.import_graph.specs.Arrivals.{ArrivalLaw, MakesRoom, NobodyImports}
 use Rattle.import_graph.specs.Imports.{edge_of, edges_at, graph_of, imports_of, is_opaque}
 use Rattle.import_graph.specs.Paths.{file_named, slash}

@@ -10,7 +10,7 @@ use Rattle.std.proofs.lemmas.List.Folds.{list_all-map}
 use Rattle.std.proofs.lemmas.Simd.{map-map}
 use Rattle.import_graph.specs.declared.imports.ImportEdge.{ImportEdge}
 use Rattle.import_graph.specs.declared.imports.FileImports.{FileImports}
-use Rattle.file_facts.specs.declared.named_facts.NamedFacts.{NamedFacts}
+use Rattle.proto_decls.specs.declared.named_facts.NamedFacts.{NamedFacts}
 use Rattle.import_graph.specs.Arrivals.{NobodyImports}
 use Rattle.import_graph.specs.Coming.{edge_after, file_after, number_after, rows_with}
 use Rattle.import_graph.specs.Imports.{edge_of, graph_of, imports_of, is_analysed, is_complete_in, is_opaque, public_targets, targets}

@@ -16,7 +16,7 @@ use Rattle.import_graph.specs.Ties.{IsTied}
 use Rattle.import_graph.specs.Imports.{graph_of, imports_of, is_complete_in, public_targets, targets}
 use Rattle.import_graph.specs.Kept.{IsGraph}
 use Rattle.import_graph.specs.Arrivals.{HasArrived}
-use Rattle.file_facts.specs.declared.named_facts.NamedFacts.{NamedFacts}
+use Rattle.proto_decls.specs.declared.named_facts.NamedFacts.{NamedFacts}
 use Rattle.import_graph.proofs.ImportEdges.{graph_within}
 use Rattle.import_graph.specs.Walks.{AllWithin}
 use Rattle.import_graph.proofs.GraphInserted.{flags_moved, graph_inserted, one_more_file, own_there, public_moved, targets_moved, with_own}

@@ -8,7 +8,7 @@ use Rattle.std.proofs.lemmas.List.Elements.{All-nil, All-cons, All-map}
 use Rattle.std.proofs.lemmas.List.Quantifiers.{position-Some}
 use Rattle.import_graph.specs.declared.imports.ImportEdge.{ImportEdge}
 use Rattle.import_graph.specs.declared.imports.FileImports.{FileImports}
-use Rattle.file_facts.specs.declared.named_facts.NamedFacts.{NamedFacts}
+use Rattle.proto_decls.specs.declared.named_facts.NamedFacts.{NamedFacts}
 use Rattle.import_graph.specs.Paths.{file_named, slash}
 use Rattle.import_graph.specs.Imports.{graph_of, imports_of, edges_at, edge_of, targets, public_targets, is_analysed, is_complete_in}
 use Rattle.import_graph.specs.Views.{Imports, ImportsPublicly}

@@ -6,7 +6,7 @@ use Rattle.std.specs.declared.cmp.Ordering.TheVariants.{Less}
 use Rattle.std.proofs.lemmas.Cmp.{nat_list_cmp_total}
 use Rattle.std.proofs.lemmas.Bool.{cases_eq}
 use Rattle.import_graph.specs.Paths.{IsInPathOrder}
-use Rattle.file_facts.specs.declared.named_facts.NamedFacts.{NamedFacts}
+use Rattle.proto_decls.specs.declared.named_facts.NamedFacts.{NamedFacts}
 
 abbrev pub Rises : List NamedFacts → ℕ → NamedFacts → Type 0
 Rises files k other = slice_cmp nat_cmp (let a = get_or files k other in a.path) (let b = get_or files (suc k) other in b.path) ≡ Less

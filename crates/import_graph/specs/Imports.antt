@@ -1,11 +1,11 @@
 -- What the imports of files name.
 use Rattle.std.specs.Prelude.{ℕ, List, [], Bool, true, false, Option, Some, None, slice_index_or, map, filter, not}
 use Rattle.std.specs.List.{filter_map, list_all}
-use Rattle.file_facts.specs.declared.fact.FileFacts.{FileFacts}
-use Rattle.file_facts.specs.declared.fact.ImportFact.{ImportFact}
-use Rattle.file_facts.specs.declared.fact.SyntaxFact.{SyntaxFact}
-use Rattle.file_facts.specs.declared.fact.SyntaxFact.TheVariants.{Proto3, Opaque}
-use Rattle.file_facts.specs.declared.named_facts.NamedFacts.{NamedFacts}
+use Rattle.proto_decls.specs.declared.fact.FileFacts.{FileFacts}
+use Rattle.proto_decls.specs.declared.fact.ImportFact.{ImportFact}
+use Rattle.proto_decls.specs.declared.fact.SyntaxFact.{SyntaxFact}
+use Rattle.proto_decls.specs.declared.fact.SyntaxFact.TheVariants.{Proto3, Opaque}
+use Rattle.proto_decls.specs.declared.named_facts.NamedFacts.{NamedFacts}
 use Rattle.import_graph.specs.declared.imports.ImportEdge.{ImportEdge}
 use Rattle.import_graph.specs.declared.imports.FileImports.{FileImports}
 use Rattle.import_graph.specs.Paths.{file_named}

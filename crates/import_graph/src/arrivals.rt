@@ -3,7 +3,7 @@
 ghost use Rattle.std.specs.Prelude.{◌≡◌, ◌↔◌, IsFalse, All, bytes_eq, false};
 ghost use Rattle.import_graph.specs.Arrivals.{ArrivalLaw};
 
-use file_facts::ImportFact;
+use proto_decls::ImportFact;
 
 // Whether one of the imports has the path.
 pub fn have_path(imports: &[ImportFact], path: &str) -> bool

@@ -12,7 +12,7 @@ ghost use Rattle.import_graph.specs.Walks.{AllWithin};
 use crate::components::Components;
 use crate::imports::{FileImports, ImportEdge, imports_of, is_complete};
 use crate::paths::FileNo;
-use file_facts::NamedFacts;
+use proto_decls::NamedFacts;
 use sqlite_items::Items;
 use std::alloc::{AllocError, Global};
 
@@ -29,7 +29,7 @@ fn renumber(at: FileNo, row: &mut Items<FileNo>)
     }
 }
 
-// The same for each row.
+// Gives the files of all rows their numbers after another file comes to the place `at`.
 fn renumber_rows(at: FileNo, rows: &mut Vec<Items<FileNo>>)
     requires { All (AllWithin 18446744073709551615) rows.old.items }
     ensures { rows.new.items ≡ map (map (number_after at)) rows.old.items }
@@ -39,7 +39,8 @@ fn renumber_rows(at: FileNo, rows: &mut Vec<Items<FileNo>>)
     }
 }
 
-// The same where the rows have numbers of so many files. If the other file comes behind all of these, no number changes.
+// Gives the files of all rows, which are among so many, their numbers after another file comes to the place `at`: if that is behind them all, no
+// number changes.
 pub fn make_way(at: FileNo, count: usize, rows: &mut Vec<Items<FileNo>>)
     requires { All (AllWithin count) rows.old.items }
     ensures { rows.new.items ≡ map (map (number_after at)) rows.old.items }
@@ -80,7 +81,7 @@ fn edge_after(at: FileNo, edge: ImportEdge) -> ImportEdge
     }
 }
 
-// The same for each of the imports. Those that stay the same are not written.
+// What each of the imports names, after another file comes to the place `at`. Those that stay the same are not written.
 fn renumber_edges(at: FileNo, edges: &mut Items<ImportEdge>)
     requires { AllWithin 18446744073709551615 (filter_map (λ l. l.target) edges.old) }
     ensures { edges.new ≡ map (edge_after at) edges.old }

@@ -14,7 +14,7 @@ use crate::imports::{FileImports, completeness, imports_of, is_analysed};
 use crate::paths::FileNo;
 use crate::seen_by::{importing, leading_to};
 use crate::shared::{SharedLists, shared_lists};
-use file_facts::NamedFacts;
+use proto_decls::NamedFacts;
 use sqlite_items::Items;
 use std::alloc::{AllocError, Global};
 use std::marker::Model;
@@ -178,7 +178,7 @@ impl Graph {
         Ok(view)
     }
 
-    // The same from the list that the file shares, if there is one, or by a search.
+    // The files that a file sees, as `visible` gives them: from the list that it shares, if there is one, or by a search.
     fn seen(&self, file: FileNo) -> Result<Vec<FileNo>, AllocError>
         requires { file < length self.now }
         ensures ascending { IfOk result (λ v. IsStrictlyIncreasing v.items) }

@@ -5,7 +5,7 @@ ghost use Rattle.import_graph.specs.Paths.{IsInPathOrder};
 ghost use Rattle.import_graph.specs.Imports.{targets, public_targets, imports_of, edge_of, is_analysed, is_complete_in};
 
 use crate::paths::{FileNo, file_named};
-use file_facts::{FileFacts, ImportFact, NamedFacts, SyntaxFact};
+use proto_decls::{FileFacts, ImportFact, NamedFacts, SyntaxFact};
 use sqlite_items::Items;
 use std::alloc::{AllocError, Global};
 

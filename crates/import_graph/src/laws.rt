@@ -2,7 +2,7 @@
 
 ghost use Rattle.import_graph.specs.Laws.{ClosureLaw, ViewLaw, OneView};
 
-use file_facts::NamedFacts;
+use proto_decls::NamedFacts;
 
 /// Marks that spread step by step, once for each number below a limit, reach exactly what walks lead to.
 pub fn closure_law()

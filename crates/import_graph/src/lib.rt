@@ -32,10 +32,10 @@ mod ties;
 mod tour;
 
 pub use arrivals::arrival_law;
-pub use file_facts::{NamedFacts, SharedFacts};
 pub use graph::Graph;
 pub use imports::{FileImports, ImportEdge};
 pub use laws::{closure_law, one_view, view_law};
 pub use moves::moved_outlook;
 pub use outlook::same_outlook;
 pub use paths::{FileNo, are_in_path_order, number_of, place_for};
+pub use proto_decls::{NamedFacts, SharedFacts};

@@ -6,7 +6,7 @@ ghost use Rattle.std.specs.Cmp.Lexicographic.{slice_cmp};
 ghost use Rattle.std.specs.Ordering.{nat_cmp};
 ghost use Rattle.import_graph.specs.Paths.{IsInPathOrder, slash, file_named};
 
-use file_facts::NamedFacts;
+use proto_decls::NamedFacts;
 use std::cmp::Ordering;
 
 /// The number of a file: its place, counted from 0, in the list of files in the order of their paths.

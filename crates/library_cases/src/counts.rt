@@ -1,14 +1,18 @@
 // How much calls find. A test refuses each of their allocations.
+ghost use Rattle.piece_collector.specs.Board.{Ascends};
+
 use crate::line::Line;
 use crate::marks::plain;
-use crate::pieces::pieces_of;
+use crate::pieces::{pieces_of, texts_of};
+use crate::shares::write_found;
 use crate::words::{field, number};
 use lsp_queries::{references, rename, symbols};
+use piece_collector::Piece;
 use proto_facts::facts;
 use proto_lex::lex;
 use proto_syntax::{parse, parse_text};
 use std::alloc::{AllocError, Global};
-use work_index::{Analysis, analyse_here};
+use work_index::{Analysis, FileWork, analyse_here, analyse_texts};
 
 // How many statements stand at the top of a text.
 fn statements(alloc: Global, text: &str) -> Result<usize, AllocError> {
@@ -44,11 +48,40 @@ fn analysis_of(alloc: Global, given: &str, behind: usize) -> Result<Analysis, Al
     analyse_here(alloc, lent.pieces())
 }
 
-/// Writes how many files an analysis has.
-pub fn write_files(alloc: Global, line: &mut Line, given: &str) -> Result<(), AllocError> {
-    let analysis = analysis_of(alloc, given, 1)?;
-    line.put_number(analysis.file_count() as u64);
+// Writes what is wrong in the files of some pieces, how many declarations there are, and how many parts of each file's names mean something.
+fn write_known(line: &mut Line, found: &Analysis, pieces: &[Piece<FileWork>]) {
+    write_found(line, found, pieces);
+    line.put(" ");
+    line.put_number(found.decls().len() as u64);
+    line.put(" declarations, uses");
+    for file in 0..found.file_count() {
+        line.put(" ");
+        line.put_number(found.links(file).uses.as_slice().len() as u64);
+    }
+}
+
+// Writes what an analysis by the texts of some pieces alone finds, if it isn't what is written already.
+fn write_by_texts(
+    alloc: Global,
+    line: &mut Line,
+    pieces: &[Piece<FileWork>],
+) -> Result<(), AllocError>
+    requires { Ascends pieces.now }
+{
+    let files = texts_of(alloc, pieces)?;
+    let found = analyse_texts(alloc, files.as_slice())?;
+    let mut own = Line::new(alloc);
+    write_known(&mut own, &found, pieces);
+    line.put_once("texts", own.as_str());
     Ok(())
+}
+
+/// Files: writes what an analysis finds, by their pieces and by their texts alone.
+pub fn write_analysis(alloc: Global, line: &mut Line, given: &str) -> Result<(), AllocError> {
+    let lent = pieces_of(alloc, given, 1)?;
+    let found = analyse_here(alloc, lent.pieces())?;
+    write_known(line, &found, lent.pieces());
+    write_by_texts(alloc, line, lent.pieces())
 }
 
 /// A query, and files: writes how many declarations match it.

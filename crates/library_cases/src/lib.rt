@@ -12,6 +12,7 @@ mod marks;
 mod names;
 mod pieces;
 mod shares;
+mod tables;
 mod texts;
 mod uris;
 mod visited;

@@ -1,11 +1,11 @@
 // The pieces of files, and what is written of any piece. What stands here for any work is proved without what a file's work makes.
-ghost use Rattle.std.specs.Prelude.{◌≡◌, false};
+ghost use Rattle.std.specs.Prelude.{◌≡◌, false, map, string_bytes, IfOk};
 
 use crate::marks::plain;
 use crate::words::first_word;
 use piece_collector::{Board, Job, Lent, Piece, Work};
 use std::alloc::{AllocError, Global};
-use work_index::FileWork;
+use work_index::{FileWork, NamedText};
 
 /// A text with its path and its stamp.
 #[derive(Clone, Copy)]
@@ -95,4 +95,18 @@ fn made<W: Work>(
 pub fn pieces_of(alloc: Global, given: &str, behind: usize) -> Result<Lent<FileWork>, AllocError> {
     let work = FileWork::new(alloc);
     made(alloc, work, &work, given, behind)
+}
+
+/// The files of pieces, by their paths and texts alone.
+pub fn texts_of<W: Work>(alloc: Global, pieces: &[Piece<W>]) -> Result<Vec<NamedText>, AllocError>
+    ensures { IfOk result (λ files. map (λ f. string_bytes f.path) files.items ≡ map (λ p. p.path) pieces.now) }
+{
+    let mut files = Vec::new(alloc);
+    for piece in pieces {
+        files.push(NamedText {
+            path: String::from_str(alloc, piece.path())?,
+            text: String::from_str(alloc, piece.text())?,
+        })?;
+    }
+    Ok(files)
 }

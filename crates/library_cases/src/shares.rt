@@ -3,8 +3,8 @@ use crate::line::Line;
 use crate::pieces::{pieces_of, text_of};
 use crate::visited::Visited;
 use crate::words::{field, number};
-use file_facts::Diag;
 use piece_collector::{Lent, Piece};
+use proto_decls::Diag;
 use std::alloc::{AllocError, Global};
 use std::sync::Wait;
 use std::thread::Threads;
@@ -62,8 +62,8 @@ fn write_file(line: &mut Line, found: &Analysis, piece: &Piece<FileWork>) {
     line.put(";");
 }
 
-fn write_found(line: &mut Line, found: &Analysis, pieces: &[Piece<FileWork>]) {
-    line.put("; ");
+/// Writes what is wrong in the files of these pieces.
+pub fn write_found(line: &mut Line, found: &Analysis, pieces: &[Piece<FileWork>]) {
     line.put_number(found.file_count() as u64);
     line.put(" files: ");
     for piece in pieces {
@@ -86,6 +86,7 @@ fn write_analysis<R: Threads + Wait>(
         Ok((lent, found)) => {
             write_pieces(line, lent.pieces());
             gate.write(line);
+            line.put("; ");
             write_found(line, &found, lent.pieces());
         }
         Err(fault) => {

@@ -4,8 +4,8 @@ use Rattle.std.proofs.Math.Seq.{take-add}
 use Rattle.std.proofs.lemmas.Grind.{flat_map-append}
 use Rattle.std.proofs.lemmas.List.{take_all, get_or-map, length-map, map-append, take_more}
 use Rattle.doc_text.specs.declared.position.Range.{Range}
-use Rattle.file_facts.specs.FullNames.{last_of, scope_of}
-use Rattle.file_facts.specs.declared.fact.Decl.{Decl}
+use Rattle.proto_decls.specs.FullNames.{last_of, scope_of}
+use Rattle.proto_decls.specs.declared.fact.Decl.{Decl}
 use Rattle.lsp_rpc.specs.Location.{LocationData, locations_at, document_locations, all_locations}
 use Rattle.lsp_rpc.specs.Symbol.{symbol_view}
 use Rattle.lsp_rpc.specs.declared.location.DocumentRanges.{DocumentRanges}

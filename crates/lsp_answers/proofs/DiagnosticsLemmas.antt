@@ -3,7 +3,7 @@ use Rattle.std.proofs.Common.{◌≡◌, ℕ, ◌+◌, ◌<◌, List, [], ◌∷
 use Rattle.std.proofs.lemmas.List.{get_or-map, map-append, take_more}
 use Rattle.doc_text.specs.declared.encoding.Encoding.{Encoding}
 use Rattle.doc_text.specs.declared.position.Range.{Range}
-use Rattle.file_facts.specs.declared.diagnostic.Diag.{Diag}
+use Rattle.proto_decls.specs.declared.diagnostic.Diag.{Diag}
 use Rattle.lsp_rpc.specs.Diagnostic.{DiagnosticData}
 use Rattle.lsp_answers.specs.Diagnostics.{diag_range, diagnostic_at, diagnostic_in}
 

@@ -6,11 +6,11 @@ use Rattle.std.proofs.lemmas.List.{map-append}
 use Rattle.std.proofs.lemmas.List.Elements.{filter-append}
 use Rattle.serde_json.specs.Data.{Data}
 use Rattle.serde_json.specs.Written.{compact_text}
-use Rattle.file_facts.specs.declared.diagnostic.Diag.{Diag}
+use Rattle.proto_decls.specs.declared.diagnostic.Diag.{Diag}
 use Rattle.lsp_rpc.specs.Notification.{publication_value}
 use Rattle.lsp_rpc.specs.Workspace.{DocumentData}
-use Rattle.lsp_workspace.specs.Files.{OpenDocument, File, Files, file_at, text_of, workspace}
-use Rattle.lsp_workspace.proofs.PathOrder.{Ascend, ascend-workspace}
+use Rattle.work_files.specs.Files.{OpenDocument, File, Files, file_at, text_of, workspace}
+use Rattle.work_files.proofs.PathOrder.{Ascend, ascend-workspace}
 use Rattle.work_index.specs.Workspace.{analysis, diags_at}
 use Rattle.lsp_answers.specs.Context.{Context}
 use Rattle.lsp_answers.specs.Diagnostics.{placed}

@@ -13,12 +13,12 @@ use Rattle.std.proofs.lemmas.Iterator.Adapters.{position_from-zero}
 use Rattle.std.proofs.lemmas.List.{map-append}
 use Rattle.std.proofs.lemmas.Map.Text.{is_eq-slice_cmp}
 use Rattle.std.proofs.lemmas.Simd.{map-map}
-use Rattle.file_facts.specs.declared.diagnostic.Diag.{Diag}
+use Rattle.proto_decls.specs.declared.diagnostic.Diag.{Diag}
 use Rattle.lsp_rpc.specs.Diagnostic.{DiagnosticData}
 use Rattle.lsp_rpc.specs.Workspace.{DocumentData}
-use Rattle.lsp_workspace.specs.Files.{text_at}
-use Rattle.lsp_workspace.proofs.PathOrder.{AreBehind, Ascend, paths, ascend-workspace, order-apart}
-use Rattle.lsp_workspace.proofs.WorkspaceLemmas.{text_of_workspace}
+use Rattle.work_files.specs.Files.{text_at}
+use Rattle.work_files.proofs.PathOrder.{AreBehind, Ascend, paths, ascend-workspace, order-apart}
+use Rattle.work_files.proofs.WorkspaceLemmas.{text_of_workspace}
 use Rattle.work_index.specs.Workspace.{Workspace, AnalysisData, analysis, diags_at}
 use Rattle.lsp_answers.specs.Diagnostics.{placed}
 use Rattle.lsp_answers.specs.Reports.{ReportsAgreeWithDocuments, numbered_report}

@@ -5,10 +5,10 @@ use Rattle.std.specs.Option.{option_map_or}
 use Rattle.serde_json.specs.Data.{Data}
 use Rattle.doc_text.specs.declared.encoding.Encoding.{Encoding}
 use Rattle.doc_text.specs.declared.position.Range.{Range}
-use Rattle.file_facts.specs.FullNames.{last_of, scope_of}
-use Rattle.file_facts.specs.declared.fact.Decl.{Decl}
-use Rattle.file_facts.specs.declared.fact.DeclKind.{DeclKind}
-use Rattle.file_facts.specs.declared.fact.DeclKind.TheVariants as decl
+use Rattle.proto_decls.specs.FullNames.{last_of, scope_of}
+use Rattle.proto_decls.specs.declared.fact.Decl.{Decl}
+use Rattle.proto_decls.specs.declared.fact.DeclKind.{DeclKind}
+use Rattle.proto_decls.specs.declared.fact.DeclKind.TheVariants as decl
 use Rattle.lsp_queries.specs.Answers as answers
 use Rattle.lsp_queries.specs.ByFile.{by_file}
 use Rattle.lsp_queries.specs.Files.{place, decl_of}
@@ -26,7 +26,7 @@ use Rattle.lsp_rpc.specs.declared.error_code.RenameRefusal.{RenameRefusal}
 use Rattle.lsp_rpc.specs.declared.error_code.RenameRefusal.TheVariants as refusal
 use Rattle.lsp_rpc.specs.declared.symbol.SymbolKind.{SymbolKind}
 use Rattle.lsp_rpc.specs.declared.symbol.SymbolKind.TheVariants as kind
-use Rattle.lsp_workspace.specs.Files.{file_at}
+use Rattle.work_files.specs.Files.{file_at}
 use Rattle.proto_names.specs.declared.decl_ref.DeclRef.{DeclRef}
 use Rattle.work_index.specs.Workspace.{Workspace, AnalysisData, analysis}
 use Rattle.lsp_answers.specs.Context.{Context}

@@ -5,9 +5,9 @@ use Rattle.doc_text.specs.declared.position.Range.{Range}
 use Rattle.lsp_rpc.specs.Diagnostic.{DiagnosticData}
 use Rattle.lsp_rpc.specs.declared.diagnostic.Severity.{Severity}
 use Rattle.lsp_rpc.specs.declared.diagnostic.Severity.TheVariants as severity
-use Rattle.file_facts.specs.Problems as message
-use Rattle.file_facts.specs.declared.diagnostic.Diag.{Diag}
-use Rattle.file_facts.specs.declared.problem.Problem.{Problem}
+use Rattle.proto_decls.specs.Problems as message
+use Rattle.proto_decls.specs.declared.diagnostic.Diag.{Diag}
+use Rattle.proto_decls.specs.declared.problem.Problem.{Problem}
 use Rattle.lsp_answers.specs.Ranges.{range_of}
 
 -- the protocol's name of a severity

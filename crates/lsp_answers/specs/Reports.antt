@@ -5,10 +5,10 @@ use Rattle.serde_json.specs.Data.{Data}
 use Rattle.lsp_rpc.specs.Diagnostic.{DiagnosticData}
 use Rattle.lsp_rpc.specs.Notification.{publication_value}
 use Rattle.lsp_rpc.specs.Workspace.{DocumentData}
-use Rattle.file_facts.specs.declared.diagnostic.Diag.{Diag}
+use Rattle.proto_decls.specs.declared.diagnostic.Diag.{Diag}
 use Rattle.work_index.specs.Workspace.{analysis, diags_at}
 use Rattle.workspace_uri.specs.Uri.{file_uri, root_text_at}
-use Rattle.lsp_workspace.specs.Files.{File, Files, file_at, text_at, workspace, AreInPathOrder}
+use Rattle.work_files.specs.Files.{File, Files, file_at, text_at, workspace, AreInPathOrder}
 use Rattle.lsp_answers.specs.Context.{Context}
 use Rattle.lsp_answers.specs.Diagnostics.{placed}
 

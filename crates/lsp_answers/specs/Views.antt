@@ -1,6 +1,6 @@
 -- Questions, and what is kept of declarations, as the definitions see them.
 use Rattle.std.specs.Prelude.{string_bytes}
-use Rattle.file_facts.specs.declared.fact.Decl.{Decl}
+use Rattle.proto_decls.specs.declared.fact.Decl.{Decl}
 use Rattle.lsp_queries.specs.declared.place.Place.{Place}
 use Rattle.lsp_answers.specs.Answers.{DocumentPlaceData}
 use Rattle.lsp_answers.specs.Questions.{QuestionData, Diagnostics, AllDiagnostics, Symbols, Definition, References, Rename}

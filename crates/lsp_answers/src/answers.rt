@@ -9,9 +9,9 @@ use crate::names::{places_reply, refused_reply};
 use crate::question::{DocumentPlace, Question};
 use doc_text::Encoding;
 use lsp_rpc::{Id, rename_reply, report_reply, symbols_reply, workspace_reply};
-use lsp_workspace::{Files, Snapshot};
 use std::alloc::{AllocError, Global};
 use std::marker::Model;
+use work_files::{Files, Snapshot};
 use workspace_uri::Roots;
 
 /// The files of a session with their analysis, about which questions are answered. Contracts see the texts of the roots, the
@@ -32,7 +32,7 @@ pub struct Answers<'s> {
 
 impl<'s> Model for Answers<'s> {
     ghost use Rattle.workspace_uri.specs.View.{roots_texts};
-    ghost use Rattle.lsp_workspace.specs.View.{files_view};
+    ghost use Rattle.work_files.specs.View.{files_view};
     ghost use Rattle.lsp_answers.specs.Context.{Context};
 
     ghost Value = { Context };

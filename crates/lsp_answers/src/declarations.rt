@@ -1,6 +1,6 @@
 // Declarations with their names and places, as the editor gets them.
 ghost use Rattle.std.specs.Prelude.{◌≡◌, length, map, option_map, IfOk};
-ghost use Rattle.file_facts.specs.FullNames.{last_of, scope_of};
+ghost use Rattle.proto_decls.specs.FullNames.{last_of, scope_of};
 ghost use Rattle.lsp_queries.specs.Files.{place, decl_of};
 ghost use Rattle.lsp_rpc.specs.Location.{document_locations, all_locations};
 ghost use Rattle.lsp_rpc.specs.Symbol.{document_symbols, all_symbols};
@@ -9,9 +9,9 @@ ghost use Rattle.lsp_answers.specs.Views.{found_view};
 
 use crate::answers::Answers;
 use doc_text::Range;
-use file_facts::{Decl, DeclKind};
 use lsp_queries::{Place, decl_of, symbols};
 use lsp_rpc::{DocumentRanges, DocumentSymbols, Symbol, SymbolKind};
+use proto_decls::{Decl, DeclKind};
 use proto_resolve::DeclRef;
 use std::alloc::{AllocError, Global};
 use work_index::Analysis;

@@ -5,8 +5,8 @@ ghost use Rattle.lsp_answers.specs.Diagnostics as spec;
 
 use crate::ranges::ranges_of;
 use doc_text::{Encoding, Range};
-use file_facts::Diag;
 use lsp_rpc::{Diagnostic, Severity};
+use proto_decls::Diag;
 use std::alloc::{AllocError, Global};
 
 fn severity_of(number: u32) -> Severity

@@ -2,14 +2,14 @@
 ghost use Rattle.std.specs.Prelude.{◌≡◌, ◌++◌, ◌∷◌, [], map, IfOk, OnOk};
 ghost use Rattle.serde_json.specs.Written.{compact_text};
 ghost use Rattle.lsp_rpc.specs.Workspace.{document_view};
-ghost use Rattle.lsp_workspace.specs.View.{file_view};
+ghost use Rattle.work_files.specs.View.{file_view};
 ghost use Rattle.lsp_answers.specs.Reports as spec;
 
 use crate::answers::Answers;
 use crate::reports::version_of;
 use lsp_rpc::{DocumentReport, publication};
-use lsp_workspace::FileEntry;
 use std::alloc::AllocError;
+use work_files::FileEntry;
 
 impl<'s> Answers<'s> {
     /// The bodies of the notifications that publish what is wrong in each open document, in the order of the paths, each with the

@@ -4,17 +4,17 @@ ghost use Rattle.std.specs.List.{enumerate_from};
 ghost use Rattle.lsp_rpc.specs.Diagnostic.{diagnostic_view};
 ghost use Rattle.lsp_rpc.specs.Workspace.{document_view};
 ghost use Rattle.work_index.specs.Workspace.{analysis, diags_at};
-ghost use Rattle.lsp_workspace.specs.Files.{file_at};
-ghost use Rattle.lsp_workspace.specs.View.{file_view};
+ghost use Rattle.work_files.specs.Files.{file_at};
+ghost use Rattle.work_files.specs.View.{file_view};
 ghost use Rattle.lsp_answers.specs.Reports as spec;
 
 use crate::answers::Answers;
 use crate::diagnostics::placed;
-use file_facts::Diag;
 use lsp_queries::report;
 use lsp_rpc::{Diagnostic, DocumentReport};
-use lsp_workspace::{self as files, FileEntry, Snapshot};
+use proto_decls::Diag;
 use std::alloc::AllocError;
+use work_files::{self as files, FileEntry, Snapshot};
 
 // What is wrong in the file with a path; nothing where there is none.
 fn diagnostics_at<'s>(snapshot: &Snapshot<'s>, path: &str) -> &'s [Diag]
@@ -87,7 +87,7 @@ impl<'s> Answers<'s> {
         }
     }
 
-    // The same for the file at a path.
+    // The URI of the last open of the file at a path, or else that of the path below the root under which it was found.
     pub(crate) fn uri_of(&self, path: &str) -> Result<String, AllocError>
         ensures { IfOk result (λ uri. string_bytes uri ≡ spec.uri_of self.now.roots path.now (file_at path.now self.now.files)) }
     {

@@ -28,7 +28,7 @@ fn one_more(count: u64) -> u64
 }
 
 impl Counts {
-    /// Those of a device that hasn't been called yet.
+    /// The counts of a device that hasn't been called yet.
     pub fn new() -> Self
         ensures { result ≡ no_counts }
     {

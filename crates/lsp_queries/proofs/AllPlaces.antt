@@ -6,7 +6,7 @@ use Rattle.std.proofs.lemmas.Bool.{and_from, and_parts, eq-eqb, eqb-true, cases_
 use Rattle.std.proofs.lemmas.List.{length-map}
 use Rattle.std.proofs.lemmas.List.Elements.{Contains-append_cases, Contains-append_left, Contains-append_right}
 use Rattle.std.proofs.lemmas.Option.{slice_get-get_or}
-use Rattle.file_facts.specs.declared.fact.Decl.{Decl}
+use Rattle.proto_decls.specs.declared.fact.Decl.{Decl}
 use Rattle.proto_laws.proofs.Holders.{cases_in, either, first_in, inside, later_in}
 use Rattle.proto_laws.proofs.Lists.{filter-has, flat_map-has, in_filter, in_flat_map, in_map, in_numbered, map-has}
 use Rattle.proto_names.specs.declared.decl_ref.DeclRef.{DeclRef}

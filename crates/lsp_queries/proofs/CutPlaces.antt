@@ -2,8 +2,8 @@
 use Rattle.std.proofs.Common.{◌≡◌, ◌∙◌, inl, inr, ℕ, ◌<◌, true, List, [], Option, length, get_or, map, sym, ap, subst, arith, IsUtf8}
 use Rattle.std.specs.Prelude.{All}
 use Rattle.std.proofs.lemmas.List.{get_or-map, length-map}
-use Rattle.syntax_tree.specs.Identifiers.{IsIdentifierAt, NamesAreIdentifiers}
-use Rattle.syntax_tree.specs.Read.{empty_tree, read, value_tree}
+use Rattle.proto_tree.specs.Identifiers.{IsIdentifierAt, NamesAreIdentifiers}
+use Rattle.proto_tree.specs.Read.{empty_tree, read, value_tree}
 use Rattle.proto_laws.specs.OrderLaws.{UsesAscend}
 use Rattle.proto_names.specs.declared.decl_ref.DeclRef.{DeclRef}
 use Rattle.work_index.specs.Workspace.{AnalysisData, IsKnown, Workspace, workspace_in}

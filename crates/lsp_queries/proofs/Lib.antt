@@ -1,10 +1,8 @@
 pub mod AfterEdits
-pub mod Alike
 pub mod AllPlaces
 pub mod ByFile
 pub mod CutPlaces
 pub mod Cuts
-pub mod FileByFile
 pub mod FirstByteLemmas
 pub mod Groups
 pub mod MatchingLemmas

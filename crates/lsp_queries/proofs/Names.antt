@@ -3,11 +3,11 @@ use Rattle.std.proofs.Common.{◌≡◌, ◌⊎◌, inl, inr, ℕ, ◌<◌, Bool
 use Rattle.std.specs.Prelude.{All, Contains, nat_lt, ◌≢◌}
 use Rattle.std.specs.List.{AllPairs}
 use Rattle.std.proofs.lemmas.List.Sorted.{All-permutation}
-use Rattle.syntax_tree.specs.declared.node.FileTree.{FileTree}
-use Rattle.syntax_tree.specs.declared.node.Node.{Node}
-use Rattle.syntax_tree.specs.declared.node.Span.{Span}
-use Rattle.syntax_tree.specs.Names.{names_in, type_components_in, package_components_in}
-use Rattle.syntax_tree.specs.Read.{read, value_tree}
+use Rattle.proto_tree.specs.declared.node.FileTree.{FileTree}
+use Rattle.proto_tree.specs.declared.node.Node.{Node}
+use Rattle.proto_tree.specs.declared.node.Span.{Span}
+use Rattle.proto_tree.specs.Names.{names_in, type_components_in, package_components_in}
+use Rattle.proto_tree.specs.Read.{read, value_tree}
 use Rattle.proto_laws.specs.Apart.{NamesAreApart}
 use Rattle.proto_laws.proofs.Nesting.{all_left, all_right}
 use Rattle.lsp_queries.proofs.Pairs.{both_in, pairs-across, pairs-left, pairs-permuted, pairs-right, pairs-with}

@@ -3,13 +3,13 @@ use Rattle.std.proofs.Common.{◌≡◌, ℕ, zero, suc, ◌+◌, ◌<◌, List,
 use Rattle.std.specs.Prelude.{All, slice_get}
 use Rattle.std.specs.Option.{option_map_or}
 use Rattle.std.proofs.lemmas.Option.{slice_get_cases}
-use Rattle.file_facts.specs.declared.fact.Decl.{Decl}
+use Rattle.proto_decls.specs.declared.fact.Decl.{Decl}
 use Rattle.std.proofs.Math.ListN.{get_or}
 use Rattle.std.proofs.lemmas.Bool.{false_from_ne_true, false≢true, or_cases}
 use Rattle.std.proofs.lemmas.List.{get_or-map, get_or-take, length-map}
 use Rattle.std.proofs.lemmas.Slice.Eq.{bytes_eq-Decides}
 use Rattle.std.specs.Char.{to_ascii_lowercase}
-use Rattle.file_facts.specs.BytePairs.{HasNeighbours}
+use Rattle.proto_decls.specs.BytePairs.{HasNeighbours}
 use Rattle.lsp_queries.specs.Matching.{begins, contains}
 
 begins-neighbours : (query text : List ℕ) → begins query text ≡ true → HasNeighbours text query

@@ -6,13 +6,13 @@ use Rattle.std.specs.Option.{option_or}
 use Rattle.std.proofs.lemmas.Bool.{and_from, and_parts, cases_eq, leb-true}
 use Rattle.std.proofs.lemmas.List.Elements.{All-contains, All-contains_itself}
 use Rattle.std.proofs.lemmas.Option.{get_or_from_slice_get, slice_get-get_or, slice_get_within}
-use Rattle.syntax_tree.specs.declared.node.Node.{Node}
-use Rattle.syntax_tree.specs.declared.node.Span.{Span}
-use Rattle.syntax_tree.specs.Names.{package_components_in, type_components_in}
-use Rattle.syntax_tree.specs.Read.{value_tree}
-use Rattle.file_facts.specs.declared.fact.Decl.{Decl}
-use Rattle.file_facts.specs.declared.fact.PackageFact.{PackageFact}
-use Rattle.file_facts.specs.Facts.{facts_of}
+use Rattle.proto_tree.specs.declared.node.Node.{Node}
+use Rattle.proto_tree.specs.declared.node.Span.{Span}
+use Rattle.proto_tree.specs.Names.{package_components_in, type_components_in}
+use Rattle.proto_tree.specs.Read.{value_tree}
+use Rattle.proto_decls.specs.declared.fact.Decl.{Decl}
+use Rattle.proto_decls.specs.declared.fact.PackageFact.{PackageFact}
+use Rattle.proto_decls.specs.Facts.{facts_of}
 use Rattle.proto_laws.proofs.Holders.{inside}
 use Rattle.proto_laws.proofs.Lists.{list_any-has, list_any-is}
 use Rattle.import_graph.specs.Closures.{view_of}

@@ -7,11 +7,11 @@ use Rattle.std.proofs.lemmas.Iterator.Adapters.{position_from-zero}
 use Rattle.std.proofs.lemmas.List.{length-map}
 use Rattle.std.proofs.lemmas.List.FromFn.{get_or-enumerate_from, length-enumerate_from}
 use Rattle.std.proofs.lemmas.Option.{slice_get-get_or, slice_get-map, slice_get_within}
-use Rattle.syntax_tree.specs.declared.node.Span.{Span}
-use Rattle.file_facts.specs.declared.fact.Decl.{Decl}
-use Rattle.file_facts.specs.declared.fact.FileFacts.{FileFacts}
-use Rattle.file_facts.specs.declared.fact.PackageFact.{PackageFact}
-use Rattle.file_facts.specs.Facts.{facts_of}
+use Rattle.proto_tree.specs.declared.node.Span.{Span}
+use Rattle.proto_decls.specs.declared.fact.Decl.{Decl}
+use Rattle.proto_decls.specs.declared.fact.FileFacts.{FileFacts}
+use Rattle.proto_decls.specs.declared.fact.PackageFact.{PackageFact}
+use Rattle.proto_decls.specs.Facts.{facts_of}
 use Rattle.proto_laws.proofs.Holders.{inside}
 use Rattle.proto_laws.proofs.Holders.{first_in, later_in, none_in, cases_in}
 use Rattle.proto_resolve.specs.declared.resolve.Links.{Links}

@@ -12,8 +12,8 @@ use Rattle.proto_lex.specs.declared.bytes.Class.TheVariants as class
 use Rattle.proto_lex.specs.declared.token.Kind.TheVariants.{Ident}
 use Rattle.proto_lex.specs.Bytes.{class_of, is_letter, is_name_byte, is_quote, is_space, is_symbol}
 use Rattle.proto_lex.specs.Forms.{IsForm}
-use Rattle.file_facts.specs.FullNames.{dot}
-use Rattle.file_facts.proofs.ApartNames.{scope_joined}
+use Rattle.proto_decls.specs.FullNames.{dot}
+use Rattle.proto_decls.proofs.ApartNames.{scope_joined}
 use Rattle.lsp_queries.specs.Renaming.{is_identifier}
 use Rattle.lsp_queries.specs.RenamingLaws.{IdentifierFormLaw, FullNameScopeLaw}
 

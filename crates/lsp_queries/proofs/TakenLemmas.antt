@@ -6,11 +6,11 @@ use Rattle.std.proofs.lemmas.Bool.{and_parts, and_from, cases_Bool, cases_eq, eq
 use Rattle.std.proofs.lemmas.Bool.Decides.{nat_tests}
 use Rattle.std.proofs.lemmas.List.Folds.{Any-from_list_any, list_any-from_Any}
 use Rattle.std.proofs.lemmas.Slice.Eq.{bytes_eq-Decides}
-use Rattle.file_facts.specs.declared.fact.PackageFact.{PackageFact}
-use Rattle.file_facts.specs.Nesting.{IsWithin}
+use Rattle.proto_decls.specs.declared.fact.PackageFact.{PackageFact}
+use Rattle.proto_decls.specs.Nesting.{IsWithin}
 use Rattle.proto_names.specs.declared.decl_ref.DeclRef.{DeclRef}
 use Rattle.proto_names.specs.Files.{begins, is_within}
-use Rattle.file_facts.specs.FullNames.{dot}
+use Rattle.proto_decls.specs.FullNames.{dot}
 use Rattle.proto_resolve.proofs.Meets.{begins_so}
 use Rattle.work_index.specs.Workspace.{AnalysisData, decl_in}
 use Rattle.lsp_queries.specs.Files.{package_in}

@@ -8,7 +8,6 @@ pub mod Standing
 pub mod Edited
 pub mod ByFile
 pub mod Cutting
-pub mod Bindings
 pub mod Fault
 pub mod Renaming
 pub mod RenamingLaws

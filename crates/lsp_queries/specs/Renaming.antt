@@ -3,13 +3,13 @@ use Rattle.std.specs.Prelude.{◌≡◌, ℕ, ◌==◌, ◌&&◌, ◌||◌, not,
 use Rattle.std.specs.List.{enumerate_from, list_all, list_any}
 use Rattle.std.specs.Option.{option_map_or}
 use Rattle.proto_lex.specs.Bytes.{is_letter, is_name_byte}
-use Rattle.file_facts.specs.Text.{joined}
+use Rattle.proto_decls.specs.Text.{joined}
 use Rattle.proto_names.specs.declared.decl_ref.DeclRef.{DeclRef}
 use Rattle.proto_names.specs.Files.{is_within}
-use Rattle.file_facts.specs.FullNames.{scope_of}
+use Rattle.proto_decls.specs.FullNames.{scope_of}
 use Rattle.work_index.specs.Workspace.{AnalysisData, analysis, decls_named, workspace_in}
 use Rattle.lsp_queries.specs.Answers.{sites_of}
-use Rattle.lsp_queries.specs.Bindings.{SameMeaning, same_meaning}
+use Rattle.work_index.specs.Bindings.{SameMeaning, same_meaning}
 use Rattle.lsp_queries.specs.Edited.{edited}
 use Rattle.lsp_queries.specs.Files.{decl_of, package_in, place_of}
 use Rattle.lsp_queries.specs.Offsets.{declaration_at, symbol_at}

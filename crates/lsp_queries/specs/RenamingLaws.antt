@@ -2,10 +2,10 @@
 use Rattle.std.specs.Prelude.{◌≡◌, ◌≢◌, ◌↔◌, ◌⊎◌, ℕ, ◌<◌, List, true, Ok, Err, length, Contains}
 use Rattle.proto_lex.specs.declared.token.Kind.TheVariants.{Ident}
 use Rattle.proto_lex.specs.Forms.{IsForm}
-use Rattle.file_facts.specs.Nesting.{IsWithin}
-use Rattle.file_facts.specs.Text.{joined}
+use Rattle.proto_decls.specs.Nesting.{IsWithin}
+use Rattle.proto_decls.specs.Text.{joined}
 use Rattle.proto_names.specs.declared.decl_ref.DeclRef.{DeclRef}
-use Rattle.file_facts.specs.FullNames.{dot, scope_of}
+use Rattle.proto_decls.specs.FullNames.{dot, scope_of}
 use Rattle.work_index.specs.Workspace.{AnalysisData, decl_in}
 use Rattle.lsp_queries.specs.Files.{package_in}
 use Rattle.lsp_queries.specs.Renaming.{ChangesMeaningAt, KeepsMeaning, is_identifier, is_taken, renamed}

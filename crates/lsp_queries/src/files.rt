@@ -3,10 +3,10 @@ ghost use Rattle.std.specs.Prelude.{◌≡◌, option_map};
 ghost use Rattle.lsp_queries.specs.Files.{components_in, components_of, decl_of, decls_in, facts_in, links_in, place_of, uses_in};
 
 use crate::place::Place;
-use file_facts::{Decl, FileFacts, PackageFact};
 use import_graph::FileNo;
+use proto_decls::{Decl, FileFacts, PackageFact};
 use proto_resolve::{DeclRef, Links, NameUse};
-use syntax_tree::Span;
+use proto_tree::Span;
 use work_index::Analysis;
 
 // What a file says by itself.

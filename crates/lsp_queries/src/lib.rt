@@ -4,10 +4,9 @@
 //! [`symbols`], [`definition`], [`references`] and [`rename`] answer by declarations and [`Place`]s in bytes; nothing here knows
 //! of positions, URIs or the protocol. What stands at an offset is said in specs/Offsets.antt, which names match a query in
 //! specs/Matching.antt, the answers in specs/Answers.antt, what a new name changes in specs/Renaming.antt, and when it changes the
-//! meaning of a name in specs/Bindings.antt. [`report`] gives the diagnostics of a file.
+//! meaning of a name in specs/Bindings.antt of `work_index`. [`report`] gives the diagnostics of a file.
 #![tactic(auto)]
 
-mod comparing;
 mod defining;
 mod edited;
 mod fault;
@@ -22,10 +21,8 @@ mod renaming;
 mod reporting;
 mod searching;
 
-pub use comparing::same_meaning;
 pub use defining::definition;
 pub use fault::RenameFault;
-pub use file_facts::Diag;
 pub use files::decl_of;
 pub use laws::{
     contains_law, full_name_scope_law, identifier_form_law, meaning_law, same_meaning_law,
@@ -33,7 +30,9 @@ pub use laws::{
 };
 pub use place::Place;
 pub use place_laws::{one_symbol, places_apart, places_are_all, places_in_order};
+pub use proto_decls::Diag;
 pub use referring::references;
 pub use renaming::{Edits, rename};
 pub use reporting::report;
 pub use searching::symbols;
+pub use work_index::same_meaning;

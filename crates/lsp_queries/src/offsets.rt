@@ -4,10 +4,10 @@ ghost use Rattle.std.specs.List.{list_any};
 ghost use Rattle.lsp_queries.specs.Offsets.{holds, declared_at, used_at, package_at, symbol_of, symbol_at, declaration_at};
 
 use crate::files::{components_in, decls_in, uses_in};
-use file_facts::Decl;
 use import_graph::FileNo;
+use proto_decls::Decl;
 use proto_resolve::{DeclRef, Target};
-use syntax_tree::Span;
+use proto_tree::Span;
 use work_index::Analysis;
 
 // What a name in a text stands for.

@@ -54,7 +54,7 @@ fn places_before(alloc: Global, places: &[Place], start: usize) -> Result<Vec<Pl
     Ok(found)
 }
 
-// The others.
+// The places that start at an offset or behind it.
 fn places_from(alloc: Global, places: &[Place], start: usize) -> Result<Vec<Place>, AllocError>
     ensures { IfOk result (λ found. found.items ≡ filter (λ p. not (nat_lt p.start start)) places.now) }
 {

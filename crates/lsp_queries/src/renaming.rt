@@ -6,7 +6,6 @@ ghost use Rattle.lsp_queries.specs.Cutting.{AreCutOut};
 ghost use Rattle.lsp_queries.specs.Files.{package_in, place_of};
 ghost use Rattle.lsp_queries.specs.Renaming.{is_identifier, is_other, new_full_name, is_declared, is_package, is_taken, renamed_decl, renamed, ChangesMeaning, ChangesMeaningAt, KeepsMeaning, TakesMemory};
 
-use crate::comparing::same_meaning;
 use crate::edited::edited_texts;
 use crate::fault::RenameFault;
 use crate::files::{decl_of, facts_in, place_of};
@@ -14,11 +13,11 @@ use crate::offsets::{Symbol, symbol_at};
 use crate::place::Place;
 use crate::place_laws::places_cut_out;
 use crate::referring::sites_of;
-use file_facts::{Name, joined};
 use import_graph::FileNo;
+use proto_decls::{Name, joined};
 use proto_resolve::DeclRef;
 use std::alloc::{AllocError, Global};
-use work_index::{Analysis, analyse_edited};
+use work_index::{Analysis, edits_keep_meaning};
 
 /// The edits that give a declaration another name: what stands at each of the places becomes the new name.
 #[derive(Debug, Drop)]
@@ -133,27 +132,28 @@ fn all_places(alloc: Global, analysis: &Analysis, decl: DeclRef) -> Result<Vec<P
     sites_of(alloc, analysis, decl, place_of(analysis, decl))
 }
 
-// Whether all meanings stay if the new name stands at each of the places: the workspace is analysed with it.
+// Whether all meanings stay if the new name stands at each of the places, which are those of a declaration of this file.
 fn keeps_meaning(
     alloc: Global,
     analysis: &Analysis,
     places: &[Place],
     new_name: &str,
+    file: FileNo,
 ) -> Result<bool, AllocError>
     requires { AreCutOut analysis.now places.now }
     ensures { IfOk result (λ keeps. IsTrue keeps ↔ KeepsMeaning analysis.now places.now new_name.now) }
 {
     let edits = edited_texts(alloc, analysis, places, new_name)?;
-    let after = analyse_edited(alloc, analysis, edits)?;
-    Ok(same_meaning(analysis, &after))
+    edits_keep_meaning(alloc, analysis, edits, file)
 }
 
-// The edits that put the new name at the places, unless a meaning changes.
+// The edits that put the new name at the places, which are those of a declaration of this file, unless a meaning changes.
 fn checked(
     alloc: Global,
     analysis: &Analysis,
     places: Vec<Place>,
     new_name: &str,
+    file: FileNo,
 ) -> Result<Edits, RenameFault>
     requires { AreCutOut analysis.now places.items }
     ensures places { IfOk result (λ edits. edits.places.items ≡ places.items) }
@@ -162,7 +162,7 @@ fn checked(
     ensures refused { IfErr result (λ fault. fault ≢ RenameFault.Memory → fault ≡ RenameFault.MeaningChanges) }
     ensures changes { IfErr result (λ fault. fault ≡ RenameFault.MeaningChanges → KeepsMeaning analysis.now places.items new_name.now → ⊥) }
 {
-    if !keeps_meaning(alloc, analysis, places.as_slice(), new_name)? {
+    if !keeps_meaning(alloc, analysis, places.as_slice(), new_name, file)? {
         return Err(RenameFault::MeaningChanges);
     }
     Ok(Edits {
@@ -192,7 +192,7 @@ fn rename_decl(
         return Err(RenameFault::NameTaken);
     }
     let places = all_places(alloc, analysis, decl)?;
-    checked(alloc, analysis, places, new_name)
+    checked(alloc, analysis, places, new_name, decl.file)
 }
 
 /// The edits that give a new name to the declaration that the name at a byte offset of a file stands for: they change the
@@ -201,8 +201,8 @@ fn rename_decl(
 ///
 /// # Errors
 ///
-/// The first that fits of `NoSymbol`, `NotRenamable`, `BadName`, `NameTaken` and `MeaningChanges`, which is found by an analysis of
-/// the edited texts. `Memory` comes only where memory was refused, and none is asked for where one of the first three fits.
+/// The first that fits of `NoSymbol`, `NotRenamable`, `BadName`, `NameTaken` and `MeaningChanges`, which is found in the edited
+/// texts. `Memory` comes only where memory was refused, and none is asked for where one of the first three fits.
 pub fn rename(
     alloc: Global,
     analysis: &Analysis,

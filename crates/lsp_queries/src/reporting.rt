@@ -2,8 +2,8 @@
 ghost use Rattle.std.specs.Prelude.{◌≡◌, ◌<◌, Some, length};
 ghost use Rattle.std.specs.List.{slice_get};
 
-use file_facts::Diag;
 use import_graph::FileNo;
+use proto_decls::Diag;
 use work_index::Analysis;
 
 /// The diagnostics 201 to 406 of a file, each once, by start, end, number and words. Takes no memory.

@@ -49,7 +49,7 @@ fn is_match(
     }
 }
 
-// The same, without a look at the name where the file isn't searched.
+// Whether the full name of a declaration contains the query. It isn't looked at if the file isn't searched.
 fn is_found(
     alloc: Global,
     analysis: &Analysis,

@@ -5,7 +5,7 @@ use Rattle.lsp_rpc.specs.Message.{IdData, MessageData, parse_error, invalid_requ
 use Rattle.lsp_rpc.specs.Params.{OpenedDocument, ChangedDocument, opened_of, changed_of}
 use Rattle.lsp_rpc.specs.declared.method.Method.{Method}
 use Rattle.lsp_rpc.specs.declared.method.Method.TheVariants.{Initialize, Shutdown, Exit, DidOpen, DidChange, DidSave, DidClose, DocumentDiagnostic, WorkspaceDiagnostic, WorkspaceSymbol, Definition, References, Rename}
-use Rattle.lsp_workspace.specs.Files.{OpenDocument, Files, opened_files, changed_files, saved_files, closed_files}
+use Rattle.work_files.specs.Files.{OpenDocument, Files, opened_files, changed_files, saved_files, closed_files}
 use Rattle.lsp_session.specs.Session.{State, Run, at_path, path_of, path_in, opened, changed, running_request, requested, exits, running_notification, notified, received, turn_in, next, session, ClientStays}
 use Rattle.lsp_session.specs.declared.phase.Phase.{Phase}
 use Rattle.lsp_session.specs.declared.phase.Phase.TheVariants.{Uninitialized, Running, Shut, Exited}

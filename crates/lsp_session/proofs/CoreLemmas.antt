@@ -20,16 +20,17 @@ use Rattle.lsp_rpc.specs.declared.method.Method.{Method}
 use Rattle.lsp_rpc.specs.declared.method.Method.TheVariants.{DidOpen, DidChange, DidClose}
 use Rattle.work_index.specs.declared.done.Done.{Done}
 use Rattle.work_index.specs.declared.done.Done.TheVariants as job
-use Rattle.lsp_workspace.specs.Files.{Files, text_at, workspace}
+use Rattle.work_files.specs.Files.{Files, text_at, workspace}
 use Rattle.work_index.specs.Workspace.{Workspace}
-use Rattle.lsp_workspace.specs.View.{WorkspaceData}
-use Rattle.lsp_workspace.specs.Texts.{text_event, event_at, is_open, events_at}
-use Rattle.lsp_config.specs.Configuration.{Configuration, files_of}
+use Rattle.work_files.specs.View.{WorkspaceData}
+use Rattle.work_files.specs.Texts.{text_event, event_at, is_open, events_at}
+use Rattle.work_config.specs.Configuration.{Configuration, files_of}
 use Rattle.work_dispatch.specs.Dispatch as dispatch
-use Rattle.lsp_session.specs.Core.{Event, Arrive, Advance, Give, Offer, Fail, messages, processed, has_begun, begun, done, waiting, next_body, state_after, beginning, pending_after, board_events, MayBegin, MayFinish, IsLegal, IsSettled, CoreState, IsAfter, ComesToAnAnalysis, Replied, Steps, Advances}
-use Rattle.lsp_session.specs.Run.{event_of}
+use Rattle.work_pool.specs.declared.sent_jobs.SentJob.{SentJob}
+use Rattle.lsp_session.specs.Core.{Event, Arrive, Advance, Give, Offer, Fail, messages, processed, has_begun, begun, done, waiting, next_body, state_after, beginning, pending_after, board_events, MayBegin, MayFinish, MayStep, IsLegal, IsSettled, CoreState, IsAfter, ComesToAnAnalysis, Replied, Steps, Advances}
+use Rattle.lsp_session.specs.Run.{event_of, right_work, with_round, with_rounds, IsWorked}
 use Rattle.lsp_session.specs.Session.{State, Pending, start, turn, path_of, path_in, replies_of, replies_to, waits, needs_analysis, next, session}
-use Rattle.lsp_session.specs.Steps.{NeedsAnalysis, unprocessed, right_work, with_round, with_rounds, IsWorked, HasWorked, Knows, Awaits, WorksOn, Progresses, replies_after}
+use Rattle.lsp_session.specs.Steps.{CanStep, NeedsAnalysis, unprocessed, HasWorked, Knows, Awaits, WorksOn, Progresses, replies_after}
 use Rattle.lsp_session.specs.View.{roots_of, state_of}
 use Rattle.lsp_session.specs.BoardEvents.{events_for_path, events_by_method, events_in_phase, events_of, board_events_of}
 use Rattle.lsp_session.specs.declared.phase.Phase.{Phase}
@@ -477,9 +478,9 @@ module _ (o : ℕ) (config : Configuration) (old new : CoreState) (h : List Even
   board-gives zero = refl
   board-gives (suc n) = ap (λ es. work.NextJob ∷ es) (board-gives n)
 
-  pub hands-out : (no_room : Type 0) → dispatch.HandsOut old.board new.board no_room → WorksOn o config new h
-  hands-out no_room hands =
-      let n = hands.jobs in
+  pub hands-out : (before sent : List SentJob) → dispatch.HandsOut old.board new.board before sent → WorksOn o config new h
+  hands-out before sent hands =
+      let n = hands.asked in
       record {
         after = replicate n Give ++ h;
         is_after = record {
@@ -507,8 +508,8 @@ module _ (o : ℕ) (config : Configuration) (old new : CoreState) (h : List Even
     count = refl;
   }
 
-  pub brings-result : dispatch.BringsResult old.board new.board → WorksOn o config new h
-  brings-result brings = brought brings.done (brings.records o (board_events config h) after.board)
+  pub brings-result : (before sent : List SentJob) → dispatch.BringsResult old.board new.board before sent → WorksOn o config new h
+  brings-result before sent brings = brought brings.done (brings.records o (board_events config h) after.board)
 
 pub knows-on : (config : Configuration) (old new : CoreState) (bodies : List (List ℕ)) → Knows config old bodies → ((h : List Event) → IsAfter 0 config old h → WorksOn 0 config new h) → Knows config new bodies
 knows-on config old new bodies k works =
@@ -580,11 +581,9 @@ module _ (config : Configuration) (core : CoreState) (bodies : List (List ℕ)) 
 
 -- ---- what is left to be answered is that of a message of the history
 
-pub comes_to_analysis : (o : ℕ) (config : Configuration) (core : CoreState) (h : List Event) (steps : List Step) → IsAfter o config core (map Advance steps ++ h) → NeedsAnalysis core → ComesToAnAnalysis o config h
-comes_to_analysis o config core h steps after needs = by (has_begun (map Advance steps ++ h)) refl (sym needs.1 ∙ after.pending)
-  where
-    by : (b : Bool) → has_begun (map Advance steps ++ h) ≡ b → Some needs.0 ≡ (if b then Some (beginning config (map Advance steps ++ h)).pending else None) → ComesToAnAnalysis o config h
-    by true is same =
-        let left : needs.0 ≡ (beginning config (map Advance steps ++ h)).pending = cc in
-        record { steps = steps; legal = after.legal; begun = is; needs = ap needs_analysis (sym left) ∙ needs.2 }
-    by false is same = cc
+pub comes_to_analysis : (o : ℕ) (config : Configuration) (core : CoreState) (h : List Event) (steps : List Step) (step : Step) → IsAfter o config core (map Advance steps ++ h) → CanStep core step → MayStep o config (map Advance steps ++ h) step → NeedsAnalysis core
+    → ComesToAnAnalysis o config h
+comes_to_analysis o config core h steps Begin after can may needs = let no : None ≡ Some needs.0 = sym can.0 ∙ needs.1 in cc
+comes_to_analysis o config core h steps Finish after can may needs =
+    let left = pending-is o config core (map Advance steps ++ h) needs.0 after may.begun needs.1 in
+    record { steps = steps; legal = after.legal; ready = may; needs = ap needs_analysis (sym left) ∙ needs.2 }

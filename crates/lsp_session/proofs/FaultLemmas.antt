@@ -5,13 +5,13 @@ use Rattle.piece_collector.specs.declared.fault.BoardFault.{BoardFault}
 use Rattle.piece_collector.specs.declared.fault.BoardFault.TheVariants as board
 use Rattle.work_index.specs.declared.fault.AnalyseFault.{AnalyseFault}
 use Rattle.work_index.specs.declared.fault.AnalyseFault.TheVariants as analysis
-use Rattle.worker_pool.specs.declared.fault.PoolFault.{PoolFault}
-use Rattle.worker_pool.specs.declared.fault.PoolFault.TheVariants as pool
-use Rattle.lsp_config.specs.Fault.{core_fault_of, fault_of_analysis, fault_of_pool, serve_fault_of, ComesWithoutThreads, IsOfCore, IsOfWorkers}
-use Rattle.lsp_config.specs.declared.fault.CoreFault.{CoreFault}
-use Rattle.lsp_config.specs.declared.fault.CoreFault.TheVariants as core
-use Rattle.lsp_config.specs.declared.fault.ServeFault.{ServeFault}
-use Rattle.lsp_config.specs.declared.fault.ServeFault.TheVariants as serve
+use Rattle.work_pool.specs.declared.fault.PoolFault.{PoolFault}
+use Rattle.work_pool.specs.declared.fault.PoolFault.TheVariants as pool
+use Rattle.work_config.specs.Fault.{core_fault_of, fault_of_analysis, fault_of_pool, serve_fault_of, ComesWithoutThreads, IsOfCore, IsOfWorkers}
+use Rattle.work_config.specs.declared.fault.CoreFault.{CoreFault}
+use Rattle.work_config.specs.declared.fault.CoreFault.TheVariants as core
+use Rattle.work_config.specs.declared.fault.ServeFault.{ServeFault}
+use Rattle.work_config.specs.declared.fault.ServeFault.TheVariants as serve
 
 -- a board asks for no thread
 pub without_threads : (fault : BoardFault) → ComesWithoutThreads (core_fault_of fault)

@@ -2,7 +2,7 @@
 use Rattle.std.proofs.Common.{◌≡◌, ℕ, suc, Bool, true, false, cond, ◌+◌, ◌≤◌, List, [], ◌∷◌, ◌++◌, length, map, filter, refl, sym, ap, subst, ◌∙◌, arith, append-nil, append_assoc, length-append, take, ap₂}
 use Rattle.piece_collector.specs.declared.verdict.Verdict.{Verdict}
 use Rattle.std.proofs.lemmas.List.{take-append-le}
-use Rattle.lsp_config.specs.Configuration.{Configuration}
+use Rattle.work_config.specs.Configuration.{Configuration}
 use Rattle.lsp_session.specs.Core.{Event, Advance, messages, processed, done, CoreState, IsAfter, ExhaustsStamps, Advances}
 use Rattle.lsp_session.specs.Run.{Incoming, Message, Made, Failed, Work, incoming_of, is_message, verdicts_of, Extends, Follows, Runs, HasRun, HasCome, HasFollowed}
 use Rattle.lsp_session.specs.Session.{session}

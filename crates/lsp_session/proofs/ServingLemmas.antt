@@ -23,16 +23,16 @@ use Rattle.lsp_frame.proofs.CountsLemmas.{NoneFell-refl, NoneFell-trans, HasFail
 use Rattle.lsp_frame.proofs.Splits.{begins_with}
 use Rattle.lsp_frame.proofs.StreamLemmas.{frames-whole, frames-end}
 use Rattle.lsp_rpc.specs.Message.{message_of}
-use Rattle.lsp_workspace.specs.Files.{workspace}
-use Rattle.lsp_workspace.specs.Texts.{StampsRunOut}
-use Rattle.lsp_config.specs.Configuration.{Configuration, files_of}
-use Rattle.lsp_config.specs.Fault.{ComesWhileServing, IsOfCore, IsOfWorkers, IsWriteOrCore, serve_fault_of}
-use Rattle.lsp_config.specs.Sending.{SendsPrefix}
-use Rattle.lsp_config.proofs.SendingLemmas.{front-of, front-behind, nothing_sent}
-use Rattle.lsp_config.specs.declared.fault.CoreFault.{CoreFault}
-use Rattle.lsp_config.specs.declared.fault.CoreFault.TheVariants as core_fault
-use Rattle.lsp_config.specs.declared.fault.ServeFault.{ServeFault}
-use Rattle.lsp_config.specs.declared.fault.ServeFault.TheVariants as served
+use Rattle.work_files.specs.Files.{workspace}
+use Rattle.work_files.specs.Texts.{StampsRunOut}
+use Rattle.work_config.specs.Configuration.{Configuration, files_of}
+use Rattle.work_config.specs.Fault.{ComesWhileServing, IsOfCore, IsOfWorkers, IsWriteOrCore, serve_fault_of}
+use Rattle.work_config.specs.Sending.{SendsPrefix}
+use Rattle.work_config.proofs.SendingLemmas.{front-of, front-behind, nothing_sent}
+use Rattle.work_config.specs.declared.fault.CoreFault.{CoreFault}
+use Rattle.work_config.specs.declared.fault.CoreFault.TheVariants as core_fault
+use Rattle.work_config.specs.declared.fault.ServeFault.{ServeFault}
+use Rattle.work_config.specs.declared.fault.ServeFault.TheVariants as served
 use Rattle.lsp_session.specs.Core.{Event, CoreState, IsAfter, ExhaustsStamps}
 use Rattle.lsp_session.specs.Session.{State, Run, turn, turn_in, replies_of, replies_to, next, start, session}
 use Rattle.lsp_session.specs.Serving.{Calls, IsCaused, Serves, Serving, Ends, Finishes, Fails, Served, Comes, exit_in, end_by}

@@ -8,10 +8,10 @@ use Rattle.serde_json.specs.Data.{Data}
 use Rattle.lsp_rpc.specs.Message.{MessageData, parse_error, invalid_request, response, request, notification, message_of}
 use Rattle.lsp_rpc.specs.declared.method.Method.{Method}
 use Rattle.lsp_rpc.specs.declared.method.Method.TheVariants.{DidOpen, DidChange, DidClose}
-use Rattle.lsp_workspace.specs.Files.{Files, workspace}
-use Rattle.lsp_workspace.specs.Texts.{StampsRunOut, is_open, event_at, events_at}
-use Rattle.lsp_workspace.proofs.FirstEvents.{sets-first}
-use Rattle.lsp_config.specs.Configuration.{Configuration, files_of}
+use Rattle.work_files.specs.Files.{Files, workspace}
+use Rattle.work_files.specs.Texts.{StampsRunOut, is_open, event_at, events_at}
+use Rattle.work_files.proofs.FirstEvents.{sets-first}
+use Rattle.work_config.specs.Configuration.{Configuration, files_of}
 use Rattle.lsp_session.specs.Core.{Event, Arrive, Advance, Give, Offer, Fail, messages, begun, processed, done, next_body, waiting, board_events, IsLegal, CoreState, IsAfter, ExhaustsStamps}
 use Rattle.lsp_session.specs.Session.{State, turn, path_in, opened_path, changed_path, session}
 use Rattle.lsp_session.specs.View.{IsExhausted}

@@ -5,8 +5,8 @@ use Rattle.serde_json.specs.Data.{Data}
 use Rattle.lsp_rpc.specs.Message.{MessageData, notification}
 use Rattle.lsp_rpc.specs.declared.method.Method.{Method}
 use Rattle.lsp_rpc.specs.declared.method.Method.TheVariants.{DidOpen, DidChange, DidClose}
-use Rattle.lsp_workspace.specs.Files.{Files}
-use Rattle.lsp_workspace.specs.Texts.{event_at, events_at}
+use Rattle.work_files.specs.Files.{Files}
+use Rattle.work_files.specs.Texts.{event_at, events_at}
 use Rattle.lsp_session.specs.Session.{State, turn, path_in, opened_path, changed_path}
 use Rattle.lsp_session.specs.declared.phase.Phase.{Phase}
 use Rattle.lsp_session.specs.declared.phase.Phase.TheVariants.{Running}

@@ -5,9 +5,9 @@ use Rattle.piece_collector.specs.Board as board
 use Rattle.piece_collector.specs.Events as work
 use Rattle.piece_collector.specs.Views.{BoardView}
 use Rattle.lsp_rpc.specs.Message.{MessageData, message_of}
-use Rattle.lsp_config.specs.Configuration.{Configuration, files_of}
-use Rattle.lsp_workspace.specs.Files.{workspace}
-use Rattle.lsp_workspace.specs.Texts.{StampsRunOut, first_events}
+use Rattle.work_config.specs.Configuration.{Configuration, files_of}
+use Rattle.work_files.specs.Files.{workspace}
+use Rattle.work_files.specs.Texts.{StampsRunOut, first_events}
 use Rattle.lsp_session.specs.Session.{State, Pending, Turn, turn, waits, needs_analysis, session}
 use Rattle.lsp_session.specs.BoardEvents.{board_events_of}
 use Rattle.lsp_session.specs.declared.step.Step.{Step}
@@ -148,11 +148,11 @@ WhateverCame core says = (opening : ℕ) (config : Configuration) (h : List Even
 abbrev pub Records : CoreState → CoreState → List Event → Type 0
 Records old new later = WhateverCame old (λ opening config h. IsAfter opening config new (later ++ h))
 
--- after some steps that may come, a message has begun that is answered from an analysis
+-- after some steps that may come, the message that has begun may finish, and it is answered from an analysis
 pub record ComesToAnAnalysis (opening : ℕ) (config : Configuration) (h : List Event) : Type 0 where
   pub steps : List Step
   pub legal : IsLegal opening config (map Advance steps ++ h)
-  pub begun : has_begun (map Advance steps ++ h) ≡ true
+  pub ready : MayFinish opening config (map Advance steps ++ h)
   pub needs : needs_analysis (beginning config (map Advance steps ++ h)).pending ≡ true
 
 -- the files on disk and so many messages with one text each are more than there are stamps behind the opening one

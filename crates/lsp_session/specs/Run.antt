@@ -1,14 +1,15 @@
 -- A core over a list of events, each followed by an advance.
-use Rattle.std.specs.Prelude.{◌≡◌, ℕ, List, [], ◌∷◌, ◌++◌, Bool, true, false, map, string_bytes}
-use Rattle.piece_collector.specs.History.{answer}
+use Rattle.std.specs.Prelude.{◌≡◌, ℕ, zero, suc, List, [], ◌∷◌, ◌++◌, Bool, true, false, Option, None, map, option_map, option_and_then, string_bytes}
+use Rattle.std.specs.Option.{option_to_list}
+use Rattle.piece_collector.specs.Board.{IsFirstWanted}
+use Rattle.piece_collector.specs.History.{answer, first_wanted, history, stands_at}
 use Rattle.piece_collector.specs.Events as work
 use Rattle.piece_collector.specs.declared.verdict.Verdict.{Verdict}
 use Rattle.work_index.specs.declared.done.Done.{Done}
 use Rattle.work_index.specs.declared.done.Done.TheVariants as job
-use Rattle.lsp_config.specs.Configuration.{Configuration}
-use Rattle.lsp_session.specs.Core.{Event, Arrive, Advance, Offer, Fail, processed, done, board_events, CoreState, IsAfter, IsLegal, IsSettled}
+use Rattle.work_config.specs.Configuration.{Configuration}
+use Rattle.lsp_session.specs.Core.{Event, Arrive, Advance, Give, Offer, Fail, processed, done, board_events, CoreState, IsAfter, IsLegal, IsSettled}
 use Rattle.lsp_session.specs.Session.{session}
-use Rattle.lsp_session.specs.Steps.{IsWorked}
 use Rattle.lsp_session.specs.declared.step.Step.{Step}
 use Rattle.lsp_session.specs.declared.run.CoreEvent.{CoreEvent}
 use Rattle.lsp_session.specs.declared.run.CoreEvent.TheVariants as listed
@@ -33,6 +34,28 @@ abbrev pub incoming_of : CoreEvent → Incoming
 incoming_of (listed.Message body) = Message body.items
 incoming_of (listed.Offer sent) = incoming_of_done sent
 incoming_of listed.Work = Work
+
+-- ---- all work
+
+-- the offer of the right work for a path
+abbrev pub right_work : ℕ → Configuration → List Event → List ℕ → Option Event
+right_work opening config h path = option_map (λ x. Offer path x.stamp x.text) (stands_at opening (board_events config h) path)
+
+-- a job is asked for, and the work on it is brought, where one was given
+abbrev pub with_round : ℕ → Configuration → List Event → List Event
+with_round opening config h = option_to_list (option_and_then (right_work opening config h) (first_wanted opening (history opening (board_events config h)))) ++ Give ∷ h
+
+abbrev pub with_rounds : ℕ → ℕ → Configuration → List Event → List Event
+with_rounds zero opening config h = h
+with_rounds (suc n) opening config h = with_rounds n opening config (with_round opening config h)
+
+-- so many rounds were done that no job is left
+pub record IsWorked (opening : ℕ) (config : Configuration) (h after : List Event) : Type 0 where
+  pub rounds : ℕ
+  pub is : after ≡ with_rounds rounds opening config h
+  pub finished : IsFirstWanted opening (board_events config after) None
+
+-- ---- one event and then the next
 
 -- the history behind it
 abbrev pub Extends : ℕ → Configuration → Incoming → List Event → List Event → Type 0

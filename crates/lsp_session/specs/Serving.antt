@@ -8,11 +8,11 @@ use Rattle.lsp_frame.specs.declared.counts.Counts.{Counts}
 use Rattle.lsp_frame.specs.declared.fault.FrameFault.{FrameFault}
 use Rattle.lsp_frame.specs.declared.fault.FrameFault.TheVariants as frame
 use Rattle.lsp_frame.specs.declared.reader.LastAnswer.{LastAnswer}
-use Rattle.lsp_config.specs.Configuration.{Configuration}
-use Rattle.lsp_config.specs.Fault.{ComesWhileServing, NoErrorUnless}
-use Rattle.lsp_config.specs.Sending.{SendsPrefix}
-use Rattle.lsp_config.specs.declared.fault.ServeFault.{ServeFault}
-use Rattle.lsp_config.specs.declared.fault.ServeFault.TheVariants as fault
+use Rattle.work_config.specs.Configuration.{Configuration}
+use Rattle.work_config.specs.Fault.{ComesWhileServing, NoErrorUnless}
+use Rattle.work_config.specs.Sending.{SendsPrefix}
+use Rattle.work_config.specs.declared.fault.ServeFault.{ServeFault}
+use Rattle.work_config.specs.declared.fault.ServeFault.TheVariants as fault
 use Rattle.lsp_session.specs.Core.{CoreState, ExhaustsStamps}
 use Rattle.lsp_session.specs.Session.{start, session}
 use Rattle.lsp_session.specs.Steps.{Knows}

@@ -15,9 +15,9 @@ use Rattle.lsp_rpc.specs.declared.error_code.ErrorCode.TheVariants.{ParseError, 
 use Rattle.lsp_rpc.specs.declared.method.Method.{Method}
 use Rattle.lsp_rpc.specs.declared.method.Method.TheVariants.{Initialize, Shutdown, Exit, DidOpen, DidChange, DidSave, DidClose, DocumentDiagnostic, WorkspaceDiagnostic, WorkspaceSymbol, Definition, References, Rename}
 use Rattle.workspace_uri.specs.Uri as uri
-use Rattle.lsp_config.specs.Configuration.{Configuration, files_of}
-use Rattle.lsp_workspace.specs.Files.{Files, workspace, opened_files, changed_files, saved_files, closed_files, root_at, file_at, text_at, AreInPathOrder, HasTextsOfWorkspace}
-use Rattle.lsp_workspace.specs.Texts.{is_open}
+use Rattle.work_config.specs.Configuration.{Configuration, files_of}
+use Rattle.work_files.specs.Files.{Files, workspace, opened_files, changed_files, saved_files, closed_files, root_at, file_at, text_at, AreInPathOrder, HasTextsOfWorkspace}
+use Rattle.work_files.specs.Texts.{is_open}
 use Rattle.lsp_answers.specs.Context.{Context}
 use Rattle.lsp_answers.specs.Questions as questions
 use Rattle.lsp_answers.specs.Questions.{DocumentPlaceData, QuestionData}

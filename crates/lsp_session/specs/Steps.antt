@@ -1,12 +1,11 @@
--- What a core does in steps: the steps of messages, rounds of work, and the messages of a stream.
-use Rattle.std.specs.Prelude.{◌≡◌, ◌⊎◌, ℕ, zero, suc, ◌+◌, ◌<◌, ◌++◌, List, [], ◌∷◌, Bool, true, if◌then◌else◌, Option, None, Some, IsSome, IfSome, is_some, option_map, option_and_then, length, map}
-use Rattle.std.specs.Option.{option_to_list}
+-- What a core does in steps: the steps of messages, all work, and the messages of a stream.
+use Rattle.std.specs.Prelude.{◌≡◌, ◌⊎◌, ℕ, ◌+◌, ◌<◌, ◌++◌, List, [], ◌∷◌, Bool, true, if◌then◌else◌, None, Some, IsSome, IfSome, is_some, length, map}
 use Rattle.serde_json.specs.Written.{compact_text}
-use Rattle.piece_collector.specs.Board.{IsFull, IsFirstWanted}
-use Rattle.piece_collector.specs.History.{first_wanted, history, stands_at}
+use Rattle.piece_collector.specs.Board.{IsFull}
 use Rattle.lsp_rpc.specs.Message.{message_of}
-use Rattle.lsp_config.specs.Configuration.{Configuration}
-use Rattle.lsp_session.specs.Core.{Event, Give, Offer, messages, processed, CoreState, IsAfter, board_events}
+use Rattle.work_config.specs.Configuration.{Configuration}
+use Rattle.lsp_session.specs.Core.{Event, messages, processed, CoreState, IsAfter}
+use Rattle.lsp_session.specs.Run.{IsWorked}
 use Rattle.lsp_session.specs.Session.{Pending, replies_to, waits, needs_analysis, session}
 use Rattle.lsp_session.specs.declared.step.Step.{Step}
 use Rattle.lsp_session.specs.declared.step.Step.TheVariants.{Begin, Finish}
@@ -35,25 +34,7 @@ unprocessed core = length core.queue + (if is_some core.pending then 1 else 0)
 abbrev pub steps_left : CoreState → ℕ
 steps_left core = length core.queue + unprocessed core
 
--- ---- rounds of work
-
--- the offer of the right work for a path
-abbrev pub right_work : ℕ → Configuration → List Event → List ℕ → Option Event
-right_work opening config h path = option_map (λ x. Offer path x.stamp x.text) (stands_at opening (board_events config h) path)
-
--- a job is asked for, and the work on it is brought, where one was given
-abbrev pub with_round : ℕ → Configuration → List Event → List Event
-with_round opening config h = option_to_list (option_and_then (right_work opening config h) (first_wanted opening (history opening (board_events config h)))) ++ Give ∷ h
-
-abbrev pub with_rounds : ℕ → ℕ → Configuration → List Event → List Event
-with_rounds zero opening config h = h
-with_rounds (suc n) opening config h = with_rounds n opening config (with_round opening config h)
-
--- so many rounds were done that no job is left
-pub record IsWorked (opening : ℕ) (config : Configuration) (h after : List Event) : Type 0 where
-  pub rounds : ℕ
-  pub is : after ≡ with_rounds rounds opening config h
-  pub finished : IsFirstWanted opening (board_events config after) None
+-- ---- work
 
 -- the core is as after this history and all work that it had to give
 pub record HasWorked (opening : ℕ) (config : Configuration) (core : CoreState) (h : List Event) : Type 0 where
@@ -77,7 +58,7 @@ pub record Awaits (config : Configuration) (core : CoreState) (bodies : List (Li
   pub came : messages history ≡ bodies ++ body ∷ []
   pub count : processed history ≡ length bodies
 
--- the core is as after some history with the messages of this one, as many of them processed: only jobs and work may differ
+-- the core is as after some history with the messages of this one, as many of them processed
 pub record WorksOn (opening : ℕ) (config : Configuration) (core : CoreState) (h : List Event) : Type 0 where
   pub after : List Event
   pub is_after : IsAfter opening config core after

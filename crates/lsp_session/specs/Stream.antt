@@ -10,7 +10,7 @@ use Rattle.lsp_frame.specs.declared.fault.FrameFault.{FrameFault}
 use Rattle.lsp_frame.specs.declared.reader.LastAnswer.{LastAnswer}
 use Rattle.lsp_frame.specs.declared.reader.LastAnswer.TheVariants.{AtEnd, Failed}
 use Rattle.lsp_rpc.specs.Message.{message_of}
-use Rattle.lsp_config.specs.Configuration.{Configuration}
+use Rattle.work_config.specs.Configuration.{Configuration}
 use Rattle.lsp_session.specs.Session.{State, start, turn, session}
 use Rattle.lsp_session.specs.declared.phase.Phase.{Phase}
 use Rattle.lsp_session.specs.declared.phase.Phase.TheVariants.{Exited}

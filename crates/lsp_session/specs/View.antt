@@ -7,11 +7,11 @@ use Rattle.lsp_rpc.specs.Initialize.{initialize_result}
 use Rattle.lsp_rpc.specs.Message.{id_view, message_view}
 use Rattle.lsp_rpc.specs.Reply.{result_reply, error_reply}
 use Rattle.workspace_uri.specs.View.{roots_texts}
-use Rattle.lsp_workspace.specs.View.{WorkspaceData}
+use Rattle.work_files.specs.View.{WorkspaceData}
 use Rattle.lsp_answers.specs.Views.{question_view}
 use Rattle.lsp_session.specs.Core.{CoreState}
 use Rattle.lsp_session.specs.Session.{State, Pending, Now, Ask, Publish, Clear}
-use Rattle.lsp_config.specs.declared.fault.CoreFault.{CoreFault}
+use Rattle.work_config.specs.declared.fault.CoreFault.{CoreFault}
 use Rattle.lsp_session.specs.declared.pending.Pending as kept
 use Rattle.lsp_session.specs.declared.pending.Pending.TheVariants as left
 use Rattle.lsp_session.specs.declared.phase.Phase.{Phase}

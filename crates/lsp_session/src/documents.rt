@@ -2,21 +2,20 @@
 ghost use Rattle.std.specs.Prelude.{◌≡◌, ◌∷◌, [], Err, IfOk, OnOk, OnErr, option_map, string_bytes};
 ghost use Rattle.serde_json.specs.View.{view};
 ghost use Rattle.lsp_rpc.specs.Params.{opened_of, changed_of};
-ghost use Rattle.lsp_workspace.specs.Files.{root_at};
-ghost use Rattle.lsp_workspace.specs.Recorded.{Records};
-ghost use Rattle.lsp_workspace.specs.Texts.{event_at, events_at};
-ghost use Rattle.lsp_workspace.specs.View.{files_view};
+ghost use Rattle.work_files.specs.Files.{root_at};
+ghost use Rattle.piece_collector.specs.Board.{Records};
+ghost use Rattle.work_files.specs.Texts.{event_at, events_at};
+ghost use Rattle.work_files.specs.View.{files_view};
 ghost use Rattle.lsp_session.specs.Session as spec;
 ghost use Rattle.lsp_session.specs.BoardEvents as on_board;
 
 use crate::pending::Pending;
 use crate::session::Session;
-use doc_text::Text;
 use lsp_rpc::{DidChangeParams, DidOpenParams, document_uri};
-use lsp_workspace::{self as files, Document, Edits, Files, Workspace, is_open};
-use piece_collector::BoardFault;
+use piece_collector::{BoardFault, SharedText};
 use serde_json::Value;
 use std::alloc::{AllocError, Global};
+use work_files::{self as files, Document, Files, VersionedChanges, Workspace, is_open};
 
 // The number of the root under which the file at a path was found on disk.
 fn root_at(workspace: &Workspace, path: &str) -> Option<usize>
@@ -96,7 +95,7 @@ impl Session {
         };
         let document = Document {
             version: opened.version,
-            text: Text::new(opened.text),
+            text: SharedText::shared(self.alloc, opened.text)?,
         };
         workspace.open(path.as_str(), opened.uri, document)?;
         Ok(Pending::Publish)
@@ -121,7 +120,7 @@ impl Session {
             return Ok(Pending::Nothing);
         };
         let encoding = self.client.encoding;
-        let edits = Edits {
+        let edits = VersionedChanges {
             version: changed.document.version,
             encoding,
             changes: changed.changes,

@@ -31,11 +31,11 @@ pub use laws::{
     publications_agree, reports_agree,
 };
 pub use lsp_answers::reports_agree_with_documents;
-pub use lsp_check::check;
-pub use lsp_config::{Config, CoreFault, DiskFile, ServeFault};
 pub use piece_collector::{Job, Piece, Verdict};
 pub use reply::Reply;
 pub use run::{CoreEvent, CoreRun, run_core};
 pub use serving::serve;
 pub use session_core::Core;
+pub use work_check::check;
+pub use work_config::{Config, CoreFault, DiskFile, ServeFault};
 pub use work_index::{Done, FileWork, Gate, OpenGate};

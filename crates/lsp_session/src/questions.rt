@@ -3,7 +3,7 @@ ghost use Rattle.std.specs.Prelude.{◌≡◌, IfOk, option_map};
 ghost use Rattle.serde_json.specs.View.{view};
 ghost use Rattle.lsp_rpc.specs.RequestParams as wire;
 ghost use Rattle.lsp_rpc.specs.declared.method.Method.TheVariants as method;
-ghost use Rattle.lsp_workspace.specs.Files.{text_at};
+ghost use Rattle.work_files.specs.Files.{text_at};
 ghost use Rattle.lsp_answers.specs.Questions.{Symbols};
 ghost use Rattle.lsp_answers.specs.Views.{place_view, question_view};
 ghost use Rattle.lsp_session.specs.Session as spec;
@@ -12,9 +12,9 @@ use crate::session::Session;
 use doc_text::offset_of;
 use lsp_answers::{DocumentPlace, Question};
 use lsp_rpc::{DocumentPosition, ReferenceParams, RenameParams, symbol_query};
-use lsp_workspace::{self as files, Workspace};
 use serde_json::Value;
 use std::alloc::AllocError;
+use work_files::{self as files, Workspace};
 
 // The text at a path, if it is one of the workspace.
 fn text_at<'w>(workspace: &'w Workspace, path: &str) -> Option<&'w str>

@@ -1,7 +1,7 @@
 // A core over a list of events.
 ghost use Rattle.std.specs.Prelude.{◌≡◌, ◌+◌, [], ◌∷◌, ◌++◌, filter, length, map, None, Err, IfOk, IfErr, OnOk};
 ghost use Rattle.std.specs.Option.{option_to_list};
-ghost use Rattle.lsp_config.specs.Fault.{ComesWithoutThreads};
+ghost use Rattle.work_config.specs.Fault.{ComesWithoutThreads};
 ghost use Rattle.lsp_session.specs.Core.{messages, WhateverCame, ExhaustsStamps};
 ghost use Rattle.lsp_session.specs.Run.{incoming_of, is_message, verdicts_of, HasCome, HasFollowed, HasRun};
 ghost use Rattle.lsp_session.specs.View.{core_state, last_fault};
@@ -9,9 +9,9 @@ ghost use Rattle.lsp_session.specs.View.{core_state, last_fault};
 use crate::reply::Reply;
 use crate::session_core::Core;
 use crate::working::do_all;
-use lsp_config::{Config, CoreFault};
 use piece_collector::Verdict;
 use std::alloc::{AllocError, Global};
+use work_config::{Config, CoreFault};
 use work_index::Done;
 
 /// What happens to a core. An advance follows each event.

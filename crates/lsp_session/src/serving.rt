@@ -4,9 +4,9 @@ ghost use Rattle.std.specs.Io.KnownBytes.{Appends};
 ghost use Rattle.lsp_frame.specs.Counts.{NoError, HasFailed};
 ghost use Rattle.lsp_frame.specs.FrameReader.{source_of, last_answer, IsOpen};
 ghost use Rattle.lsp_frame.specs.Stream.{frames};
-ghost use Rattle.lsp_config.specs.Configuration.{Configuration};
-ghost use Rattle.lsp_config.specs.Fault.{ComesWhileServing, IsOfWorkers, NoErrorUnless};
-ghost use Rattle.lsp_config.specs.Sending.{SendsPrefix};
+ghost use Rattle.work_config.specs.Configuration.{Configuration};
+ghost use Rattle.work_config.specs.Fault.{ComesWhileServing, IsOfWorkers, NoErrorUnless};
+ghost use Rattle.work_config.specs.Sending.{SendsPrefix};
 ghost use Rattle.lsp_session.specs.Core.{ExhaustsStamps};
 ghost use Rattle.lsp_session.specs.Serving.{Calls, IsCaused, Served};
 ghost use Rattle.lsp_session.specs.Steps.{Knows};
@@ -17,14 +17,14 @@ use crate::ended::Ended;
 use crate::session_core::Core;
 use crate::taking::take_turn;
 use crate::threading::Threading;
-use lsp_config::{Config, ServeFault};
 use lsp_frame::{ByteSink, ByteSource, FrameReader};
 use std::alloc::Global;
 use std::marker::Send;
 use std::sync::{Arc, Wait};
 use std::thread::Threads;
+use work_config::{Config, ServeFault};
 use work_index::{FileWork, Gate};
-use worker_pool::Pool;
+use work_pool::Pool;
 
 // What a session is started with: the files, how many workers there are, and the gate that they pass.
 struct Start<'g, G: Gate> {

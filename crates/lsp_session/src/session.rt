@@ -5,8 +5,8 @@ ghost use Rattle.serde_json.specs.Written.{compact_text};
 ghost use Rattle.lsp_rpc.specs.ClientCapabilities.{default_client};
 ghost use Rattle.lsp_rpc.specs.Message.{id_view, message_view};
 ghost use Rattle.workspace_uri.specs.View.{roots_texts};
-ghost use Rattle.lsp_workspace.specs.Recorded.{Records};
-ghost use Rattle.lsp_workspace.specs.View.{WorkspaceData};
+ghost use Rattle.piece_collector.specs.Board.{Records};
+ghost use Rattle.work_files.specs.View.{WorkspaceData};
 ghost use Rattle.lsp_answers.specs.Questions.{answer};
 ghost use Rattle.lsp_answers.specs.Reports.{publications};
 ghost use Rattle.lsp_answers.specs.Views.{question_view};
@@ -22,10 +22,10 @@ use lsp_rpc::{
     ClientCapabilities, DocumentReport, ErrorCode, Id, Message, Method, error_reply,
     initialize_reply, null_reply, publication,
 };
-use lsp_workspace::Workspace;
 use piece_collector::BoardFault;
 use serde_json::Value;
 use std::alloc::{AllocError, Global};
+use work_files::Workspace;
 use workspace_uri::Roots;
 
 /// A session with an editor, without its files.

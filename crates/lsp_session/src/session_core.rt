@@ -2,10 +2,10 @@
 ghost use Rattle.std.specs.Prelude.{◌≡◌, ◌↔◌, ◌<◌, ℕ, List, [], ◌∷◌, length, option_map, Some, None, Err, IfOk, IfErr, IfSome, OnOk, OnErr, IsTrue, false};
 ghost use Rattle.piece_collector.specs.Board.{IsFirstWanted, IsFull, current_text};
 ghost use Rattle.piece_collector.specs.History.{stands_at};
-ghost use Rattle.lsp_config.specs.Configuration.{Configuration, files_of};
-ghost use Rattle.lsp_config.specs.Fault.{ComesWithoutThreads};
-ghost use Rattle.lsp_workspace.specs.Files.{workspace};
-ghost use Rattle.lsp_workspace.specs.Texts.{StampsRunOut};
+ghost use Rattle.work_config.specs.Configuration.{Configuration, files_of};
+ghost use Rattle.work_config.specs.Fault.{ComesWithoutThreads};
+ghost use Rattle.work_files.specs.Files.{workspace};
+ghost use Rattle.work_files.specs.Texts.{StampsRunOut};
 ghost use Rattle.lsp_session.specs.Core.{Event, Arrive, Advance, Give, messages, processed, board_events, IsAfter, WhateverCame, Records, MayStep, IsSettled, ComesToAnAnalysis, ExhaustsStamps, Replied, Advances};
 ghost use Rattle.lsp_session.specs.Run.{event_of, incoming_of_done, verdicts_of};
 ghost use Rattle.lsp_session.specs.Steps.{CanStep, IsPrepared, IsReady, NeedsAnalysis, steps_left, unprocessed};
@@ -17,14 +17,14 @@ use crate::phase::Phase;
 use crate::reply::Reply;
 use crate::session::Session;
 use crate::step::Step;
-use lsp_config::{Config, CoreFault};
 use lsp_rpc::Message;
-use lsp_workspace::Workspace;
 use piece_collector::{BoardFault, Job, Verdict};
 use std::alloc::{AllocError, Global};
 use std::collections::VecDeque;
 use std::sync::Wait;
 use std::thread::Threads;
+use work_config::{Config, CoreFault};
+use work_files::Workspace;
 use work_index::{AnalyseFault, Done, Gate};
 
 /// A session that takes the bodies of messages and gives the bodies of replies. The work on the texts is done outside: the core
@@ -225,7 +225,7 @@ impl Core {
         // No stamp is left only where the files on disk and the messages that came are more than the stamps.
         ensures stamps { last_fault self.old ≡ None → result ≡ Err CoreFault.Exhausted → WhateverCame (core_state self.old) (λ opening config h. ExhaustsStamps opening config (length (messages h))) }
 
-        // A thread is refused only where a message comes to be answered from an analysis.
+        // A thread is refused only where a message may finish that is answered from an analysis.
         ensures threads { last_fault self.old ≡ None → result ≡ Err CoreFault.ThreadRefused → WhateverCame (core_state self.old) ComesToAnAnalysis }
         ensures open { OnOk result (last_fault self.new ≡ None) }
 
@@ -385,7 +385,8 @@ impl Core {
 
     /// Whether a message came that isn't processed.
     pub fn waits(&self) -> bool
-        ensures { WhateverCame (core_state self.now) (λ opening config h. IsTrue result ↔ (processed h < length (messages h))) }
+        ensures came { WhateverCame (core_state self.now) (λ opening config h. IsTrue result ↔ (processed h < length (messages h))) }
+        ensures counted { IsTrue result ↔ (0 < unprocessed (core_state self.now)) }
     {
         self.unprocessed() > 0
     }

@@ -4,9 +4,9 @@ ghost use Rattle.std.specs.Io.KnownBytes.{Appends};
 ghost use Rattle.lsp_frame.specs.Counts.{HasFailed};
 ghost use Rattle.lsp_frame.specs.FrameReader.{source_of, last_answer, IsOpen};
 ghost use Rattle.lsp_frame.specs.Reading.{TakesFrame};
-ghost use Rattle.lsp_config.specs.Configuration.{Configuration};
-ghost use Rattle.lsp_config.specs.Fault.{IsWriteOrCore};
-ghost use Rattle.lsp_config.specs.Sending.{SendsPrefix};
+ghost use Rattle.work_config.specs.Configuration.{Configuration};
+ghost use Rattle.work_config.specs.Fault.{IsWriteOrCore};
+ghost use Rattle.work_config.specs.Sending.{SendsPrefix};
 ghost use Rattle.lsp_session.specs.Core.{ExhaustsStamps};
 ghost use Rattle.lsp_session.specs.Serving.{Calls, IsCaused, Serving, Comes, exit_in, end_by};
 ghost use Rattle.lsp_session.specs.Steps.{Knows, replies_after};
@@ -18,12 +18,12 @@ use crate::ended::Ended;
 use crate::reply::Reply;
 use crate::session_core::Core;
 use crate::threading::Threading;
-use lsp_config::ServeFault;
 use lsp_frame::{ByteSink, ByteSource, Frame, FrameFault, FrameReader, write_frame};
 use std::sync::Wait;
 use std::thread::Threads;
+use work_config::ServeFault;
 use work_index::Gate;
-use worker_pool::Pool;
+use work_pool::Pool;
 
 // Writes a frame for each reply, in order.
 fn write_all<K: ByteSink>(writer: &mut K, replies: &[Reply]) -> Result<(), ServeFault>

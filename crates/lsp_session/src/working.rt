@@ -2,15 +2,15 @@
 ghost use Rattle.std.specs.Prelude.{◌≡◌, false, None, IfOk, IfErr, OnOk};
 ghost use Rattle.piece_collector.specs.Board.{IsFirstWanted};
 ghost use Rattle.lsp_session.specs.Core.{Offer, IsAfter, WhateverCame, board_events};
-ghost use Rattle.lsp_session.specs.Run.{event_of};
-ghost use Rattle.lsp_session.specs.Steps.{with_round, HasWorked};
+ghost use Rattle.lsp_session.specs.Run.{event_of, with_round};
+ghost use Rattle.lsp_session.specs.Steps.{HasWorked};
 ghost use Rattle.lsp_session.specs.View.{core_state, last_fault};
 
 use crate::session_core::Core;
 use collector_laws::{jobs_and_pieces, rounds_of_work};
-use lsp_config::CoreFault;
 use piece_collector::{Job, Piece, next_jobs};
 use std::alloc::Global;
+use work_config::CoreFault;
 use work_index::{Done, FileWork};
 
 // Does a job.

@@ -1,5 +1,5 @@
 -- What a board holds after some events, the latest first.
-use Rattle.std.specs.Prelude.{◌≡◌, ℕ, ◌+◌, Bool, true, false, cond, List, Option, Some, None, option_map, IsSome, IsTrue, IfSome, map, bytes_eq}
+use Rattle.std.specs.Prelude.{◌≡◌, ℕ, ◌+◌, ◌++◌, Bool, true, false, cond, List, Option, Some, None, option_map, IsSome, IsTrue, IfSome, map, bytes_eq}
 use Rattle.std.specs.Ordering.{nat_cmp}
 use Rattle.std.specs.Cmp.Lexicographic.{slice_cmp}
 use Rattle.std.specs.List.Sorted.{IsStrictlySortedBy}
@@ -59,3 +59,11 @@ pub record IsTextsOf (o : ℕ) (es : List Event) (ts : List TextAt) : Type 0 whe
 pub record IsTextsIn (b : BoardView) (ts : List TextAt) : Type 0 where
   pub ascends : Ascends ts
   pub each : (p : List ℕ) → text_for p ts ≡ option_map (text_in p) (slot_of p b)
+
+-- this is so of all events that the board stands for, with the stamp from which it counted
+abbrev pub WhateverCame : BoardView → (ℕ → List Event → Type 0) → Type 0
+WhateverCame board says = (opening : ℕ) (events : List Event) → IsAfter opening board events → says opening events
+
+-- whatever events the old board stands for, the new one stands for them and then these, the latest first
+abbrev pub Records : BoardView → BoardView → List Event → Type 0
+Records old new later = WhateverCame old (λ opening events. IsAfter opening new (later ++ events))

@@ -2,7 +2,7 @@
 ghost use Rattle.std.specs.Prelude.{◌≡◌, ℕ, ◌+◌, ◌↔◌, List, [], ◌∷◌, Bool, true, false, IfOk, OnOk, OnErr, Err, Some, None, option_map, string_bytes, is_some, IsTrue, IfSome, bytes_eq};
 ghost use Rattle.piece_collector.specs.Events.{Event, SetText, Remove, NextJob, Offer, Fail};
 ghost use Rattle.piece_collector.specs.History.{verdict_on, failure_on, stands_at, first_wanted, history};
-ghost use Rattle.piece_collector.specs.Board.{IsAfter, IsFirstWanted, IsComplete, IsFull, IsTextsOf, IsTextsIn, current_text};
+ghost use Rattle.piece_collector.specs.Board.{IsAfter, Records, WhateverCame, IsFirstWanted, IsComplete, IsFull, IsTextsOf, IsTextsIn, current_text};
 ghost use Rattle.std.specs.Map.{update};
 ghost use Rattle.piece_collector.specs.Views.{slot_of, known_text, text_in};
 ghost use Rattle.piece_collector.specs.Lending.{piece_in};
@@ -96,7 +96,7 @@ impl<W: Work> Board<W> {
     /// Refused with 502 where the last stamp was `u64::MAX`, and with 501 where memory was; the board is as before.
     pub fn set_text(&mut self, path: String, text: String) -> Result<u64, BoardFault>
         requires { self.old.is_lent ≡ false }
-        ensures is_after { OnOk result ((opening : ℕ) (events : List Event) → IsAfter opening self.old events → IsAfter opening self.new (SetText (string_bytes path) (string_bytes text) ∷ events)) }
+        ensures is_after { OnOk result (Records self.old self.new (SetText (string_bytes path) (string_bytes text) ∷ [])) }
         ensures texts { OnOk result ((q : List ℕ) → known_text q self.new ≡ update bytes_eq (λ p. known_text p self.old) (string_bytes path) (Some (string_bytes text)) q) }
         ensures stamp { IfOk result (λ stamp. (stamp ≡ self.old.last + 1) × (stamp ≡ self.new.last)) }
         ensures here { self.new.is_lent ≡ false }
@@ -116,7 +116,7 @@ impl<W: Work> Board<W> {
     /// with its other owners.
     pub fn set_shared_text(&mut self, path: String, text: SharedText) -> Result<u64, BoardFault>
         requires { self.old.is_lent ≡ false }
-        ensures is_after { OnOk result ((opening : ℕ) (events : List Event) → IsAfter opening self.old events → IsAfter opening self.new (SetText (string_bytes path) text ∷ events)) }
+        ensures is_after { OnOk result (Records self.old self.new (SetText (string_bytes path) text ∷ [])) }
         ensures texts { OnOk result ((q : List ℕ) → known_text q self.new ≡ update bytes_eq (λ p. known_text p self.old) (string_bytes path) (Some text) q) }
         ensures stamp { IfOk result (λ stamp. (stamp ≡ self.old.last + 1) × (stamp ≡ self.new.last)) }
         ensures here { self.new.is_lent ≡ false }
@@ -139,7 +139,7 @@ impl<W: Work> Board<W> {
     /// Forgets a path, with its text and its piece. Answers whether it was known; where it wasn't, nothing changes.
     pub fn remove(&mut self, path: &str) -> bool
         requires { self.old.is_lent ≡ false }
-        ensures is_after { (opening : ℕ) (events : List Event) → IsAfter opening self.old events → IsAfter opening self.new (Remove path.now ∷ events) }
+        ensures is_after { Records self.old self.new (Remove path.now ∷ []) }
         ensures texts { (q : List ℕ) → known_text q self.new ≡ update bytes_eq (λ p. known_text p self.old) path.now None q }
         ensures known { result ≡ is_some (slot_of path.now self.old) }
         ensures here { self.new.is_lent ≡ false }
@@ -152,11 +152,11 @@ impl<W: Work> Board<W> {
     /// wanted. Where memory is refused the board is as before.
     pub fn next_job(&mut self) -> Result<Option<Job>, AllocError>
         requires { self.old.is_lent ≡ false }
-        ensures is_after { OnOk result ((opening : ℕ) (events : List Event) → IsAfter opening self.old events → IsAfter opening self.new (NextJob ∷ events)) }
-        ensures first { IfOk result (λ job. (opening : ℕ) (events : List Event) → IsAfter opening self.old events → IsFirstWanted opening events (option_map (λ j. j.path) job)) }
+        ensures is_after { OnOk result (Records self.old self.new (NextJob ∷ [])) }
+        ensures first { IfOk result (λ job. WhateverCame self.old (λ opening events. IsFirstWanted opening events (option_map (λ j. j.path) job))) }
 
         // The job has the path's current stamp and text.
-        ensures text { IfOk result (λ job. (opening : ℕ) (events : List Event) → IsAfter opening self.old events → IfSome job (λ j. option_map (current_text j.path) (stands_at opening events j.path) ≡ Some j)) }
+        ensures text { IfOk result (λ job. WhateverCame self.old (λ opening events. IfSome job (λ j. option_map (current_text j.path) (stands_at opening events j.path) ≡ Some j))) }
         ensures texts { (q : List ℕ) → known_text q self.new ≡ known_text q self.old }
         ensures here { self.new.is_lent ≡ false }
         ensures err { OnErr result (self.new ≡ self.old) }
@@ -177,9 +177,9 @@ impl<W: Work> Board<W> {
     /// the verdict says why.
     pub fn offer(&mut self, piece: Piece<W>) -> Verdict
         requires { self.old.is_lent ≡ false }
-        ensures is_after { (opening : ℕ) (events : List Event) → IsAfter opening self.old events → IsAfter opening self.new (Offer piece.path piece.stamp piece.text ∷ events) }
+        ensures is_after { Records self.old self.new (Offer piece.path piece.stamp piece.text ∷ []) }
         ensures texts { (q : List ℕ) → known_text q self.new ≡ known_text q self.old }
-        ensures verdict { (opening : ℕ) (events : List Event) → IsAfter opening self.old events → result ≡ verdict_on piece.stamp piece.text (stands_at opening events piece.path) }
+        ensures verdict { WhateverCame self.old (λ opening events. result ≡ verdict_on piece.stamp piece.text (stands_at opening events piece.path)) }
         ensures here { self.new.is_lent ≡ false }
     {
         let verdict = slots::judge_piece(&self.slots, &piece);
@@ -195,9 +195,9 @@ impl<W: Work> Board<W> {
     /// is known and has no piece yet, and the stamp is the current one; the path is wanted from then on.
     pub fn fail(&mut self, path: &str, stamp: u64) -> Verdict
         requires { self.old.is_lent ≡ false }
-        ensures is_after { (opening : ℕ) (events : List Event) → IsAfter opening self.old events → IsAfter opening self.new (Fail path.now stamp ∷ events) }
+        ensures is_after { Records self.old self.new (Fail path.now stamp ∷ []) }
         ensures texts { (q : List ℕ) → known_text q self.new ≡ known_text q self.old }
-        ensures verdict { (opening : ℕ) (events : List Event) → IsAfter opening self.old events → result ≡ failure_on stamp (stands_at opening events path.now) }
+        ensures verdict { WhateverCame self.old (λ opening events. result ≡ failure_on stamp (stands_at opening events path.now)) }
         ensures here { self.new.is_lent ≡ false }
     {
         let verdict = slots::judge(&self.slots, path, stamp);
@@ -213,7 +213,7 @@ impl<W: Work> Board<W> {
     pub fn is_complete(&self) -> bool
         requires { self.now.is_lent ≡ false }
         ensures full { IsTrue result ↔ IsFull self.now }
-        ensures complete { (opening : ℕ) (events : List Event) → IsAfter opening self.now events → (IsTrue result ↔ IsComplete opening events) }
+        ensures complete { WhateverCame self.now (λ opening events. IsTrue result ↔ IsComplete opening events) }
     {
         slots::are_held(&self.slots, &self.unheld)
     }
@@ -246,13 +246,13 @@ impl<W: Work> Board<W> {
     pub fn lend_all(&mut self) -> Result<Lent<W>, AllocError>
         requires here { self.old.is_lent ≡ false }
         requires full { IsFull self.old }
-        ensures texts { IfOk result (λ lent. (opening : ℕ) (events : List Event) → IsAfter opening self.old events → IsTextsOf opening events lent) }
+        ensures texts { IfOk result (λ lent. WhateverCame self.old (λ opening events. IsTextsOf opening events lent)) }
 
         // These are what `take_back` asks for.
         ensures back { IfOk result (λ lent. IsTextsIn self.new lent) }
 
         // Lending is no event.
-        ensures is_after { OnOk result ((opening : ℕ) (events : List Event) → IsAfter opening self.old events → IsAfter opening self.new events) }
+        ensures is_after { OnOk result (Records self.old self.new []) }
         ensures lent { OnOk result (self.new ≡ record self.old { is_lent = true }) }
         ensures err { OnErr result (self.new ≡ self.old) }
     {
@@ -268,7 +268,7 @@ impl<W: Work> Board<W> {
     pub fn take_back(&mut self, lent: Lent<W>)
         requires lent { self.old.is_lent ≡ true }
         requires texts { IsTextsIn self.old lent }
-        ensures is_after { (opening : ℕ) (events : List Event) → IsAfter opening self.old events → IsAfter opening self.new events }
+        ensures is_after { Records self.old self.new [] }
         ensures here { self.new ≡ record self.old { is_lent = false } }
     {
         slots::restore_all(&mut self.slots, lent.into_pieces());

@@ -1,8 +1,8 @@
 // A list of events, done on a board one after the other.
-ghost use Rattle.std.specs.Prelude.{◌≡◌, ℕ, List, ◌∷◌, ◌++◌, false, map, IfOk, IfErr, OnOk, OnErr, Err};
+ghost use Rattle.std.specs.Prelude.{◌≡◌, ℕ, List, [], ◌∷◌, ◌++◌, false, map, IfOk, IfErr, OnOk, OnErr, Err};
 ghost use Rattle.piece_collector.specs.Events.{Event};
 ghost use Rattle.piece_collector.specs.History.{answer};
-ghost use Rattle.piece_collector.specs.Board.{IsAfter};
+ghost use Rattle.piece_collector.specs.Board.{IsAfter, Records, WhateverCame};
 ghost use Rattle.piece_collector.specs.Runs.{event_of, IsRefusedWith, Ran, Stopped};
 ghost use Rattle.piece_collector.specs.declared.fault.BoardFault.TheVariants.{Exhausted};
 
@@ -48,8 +48,8 @@ pub fn run_events<W: Work>(
     events: Vec<BoardEvent<W>>,
 ) -> Result<Vec<Verdict>, BoardFault>
     requires { board.old.is_lent ≡ false }
-    ensures ok { IfOk result (λ verdicts. (opening : ℕ) (earlier : List Event) → IsAfter opening board.old earlier → Ran opening earlier (map event_of events.items) board.new verdicts.items) }
-    ensures err { IfErr result (λ fault. (opening : ℕ) (earlier : List Event) → IsAfter opening board.old earlier → Stopped opening earlier (map event_of events.items) board.new fault) }
+    ensures ok { IfOk result (λ verdicts. WhateverCame board.old (λ opening earlier. Ran opening earlier (map event_of events.items) board.new verdicts.items)) }
+    ensures err { IfErr result (λ fault. WhateverCame board.old (λ opening earlier. Stopped opening earlier (map event_of events.items) board.new fault)) }
     ensures exhausted { (result ≡ Err BoardFault.Exhausted) → (board.new.last ≡ 18446744073709551615) }
     ensures here { board.new.is_lent ≡ false }
 {
@@ -67,8 +67,8 @@ fn step<W: Work>(
     verdicts: &mut Vec<Verdict>,
 ) -> Result<(), BoardFault>
     requires { board.old.is_lent ≡ false }
-    ensures is_after { OnOk result ((opening : ℕ) (earlier : List Event) → IsAfter opening board.old earlier → IsAfter opening board.new (event_of event ∷ earlier)) }
-    ensures answer { OnOk result ((opening : ℕ) (earlier : List Event) → IsAfter opening board.old earlier → verdicts.new.items ≡ verdicts.old.items ++ answer opening earlier (event_of event)) }
+    ensures is_after { OnOk result (Records board.old board.new (event_of event ∷ [])) }
+    ensures answer { OnOk result (WhateverCame board.old (λ opening earlier. verdicts.new.items ≡ verdicts.old.items ++ answer opening earlier (event_of event))) }
     ensures err { OnErr result (board.new ≡ board.old) }
     ensures refused { IfErr result (IsRefusedWith board.old.last (event_of event)) }
     ensures here { board.new.is_lent ≡ false }

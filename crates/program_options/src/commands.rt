@@ -4,9 +4,9 @@ use clap::builder::ValueParser;
 use clap::{Arg, ArgAction, Command};
 use std::alloc::{AllocError, Global};
 
-// What `protols --version` writes behind the program's name: its version, as `initialize` tells it, and the kit that it is
-// proved with, by the line of `rt version`.
-const VERSION: &str = "1 (rattle-kit-13f logic dac8208d650f15bf)";
+// What `protols --version` writes behind the program's name: its version, as `initialize` tells it, and the logic that it is proved in, by the last words
+// of `rt version`, which kits that prove the same share.
+const VERSION: &str = "1 (logic dac8208d650f15bf)";
 
 // How the program is called. Each message on a wrong command line shows it.
 const USAGE: &str = "\

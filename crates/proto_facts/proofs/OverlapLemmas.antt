@@ -5,8 +5,8 @@ use Rattle.std.proofs.lemmas.List.Folds.{list_any-append}
 use Rattle.std.proofs.lemmas.List.{drop_all, take_more}
 use Rattle.std.proofs.Math.Seq.{drop-cons}
 use Rattle.proto_facts.specs.Reach.{met_after, met_also}
-use Rattle.file_facts.specs.Checks.{overlap}
-use Rattle.file_facts.specs.declared.part.Interval.{Interval}
+use Rattle.proto_decls.specs.Checks.{overlap}
+use Rattle.proto_decls.specs.declared.part.Interval.{Interval}
 
 -- the answer at a place
 pub met-at : (before xs : List Interval) (i : ℕ) (d : Interval) → i < length xs → get_or (met_after before xs) i false ≡ list_any (overlap (get_or xs i d)) (before ++ take i xs)

@@ -8,11 +8,11 @@ use Rattle.std.proofs.lemmas.List.Folds.{list_any-append}
 use Rattle.std.proofs.Math.Seq.{drop-cons}
 use Rattle.std.specs.BTreeSet.{BTreeSet, contains}
 use Rattle.std.specs.Ordering.{nat_cmp}
-use Rattle.file_facts.specs.declared.diagnostic.Diag.{Diag}
-use Rattle.file_facts.specs.declared.part.Member.{Member}
-use Rattle.syntax_tree.specs.declared.node.Span.{Span}
+use Rattle.proto_decls.specs.declared.diagnostic.Diag.{Diag}
+use Rattle.proto_decls.specs.declared.part.Member.{Member}
+use Rattle.proto_tree.specs.declared.node.Span.{Span}
 use Rattle.proto_facts.specs.Seen.{has}
-use Rattle.file_facts.specs.Checks.{judged, judged_at, is_value, has_value, name_diags}
+use Rattle.proto_decls.specs.Checks.{judged, judged_at, is_value, has_value, name_diags}
 
 cons : {Y : Type 0} (o : Option Y) (ys : List Y) → cons_option o ys ≡ option_to_list o ++ ys
 cons None ys = refl

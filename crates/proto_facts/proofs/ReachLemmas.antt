@@ -7,8 +7,8 @@ use Rattle.std.proofs.lemmas.List.Sorted.{IsPermutation-sym}
 use Rattle.std.proofs.lemmas.Map.Keys.{IsDistinct-head, IsDistinct-tail, IsDistinct-IsPermutation}
 use Rattle.std.proofs.Math.Seq.{drop-cons}
 use Rattle.proto_facts.specs.Reach.{between, holds, reach_of, is_held, Rise, AreApart}
-use Rattle.file_facts.specs.Checks.{lies_in, overlap}
-use Rattle.file_facts.specs.declared.part.Interval.{Interval}
+use Rattle.proto_decls.specs.Checks.{lies_in, overlap}
+use Rattle.proto_decls.specs.declared.part.Interval.{Interval}
 use Rattle.proto_facts.specs.declared.reach.Reach.{Reach}
 
 tail : (P : Reach → Type 0) (x : Reach) (xs : List Reach) (low high : ℕ) → AllWithin P (x ∷ xs) (suc low) (suc high) → AllWithin P xs low high

@@ -3,12 +3,12 @@ use Rattle.std.specs.List.{flat_map}
 use Rattle.std.proofs.lemmas.Grind.{flat_map-append}
 use Rattle.std.proofs.Math.Seq.{drop-cons}
 use Rattle.std.proofs.Common.{Option, length-append, ◌≡◌, ℕ, ◌+◌, ◌<◌, length, get_or, drop, append_assoc, add-one, List, ◌∷◌, ◌++◌, sym, ap, ◌∙◌}
-use Rattle.syntax_tree.specs.declared.node.Node.{Node}
-use Rattle.file_facts.specs.Decls.{decls_of, decls_in}
-use Rattle.file_facts.specs.declared.fact.Decl.{Decl}
-use Rattle.file_facts.specs.declared.fact.DeclKind.{DeclKind}
-use Rattle.file_facts.specs.Tree.{inside, all_statements}
-use Rattle.file_facts.proofs.Statements.{all_statements-cons}
+use Rattle.proto_tree.specs.declared.node.Node.{Node}
+use Rattle.proto_decls.specs.Decls.{decls_of, decls_in}
+use Rattle.proto_decls.specs.declared.fact.Decl.{Decl}
+use Rattle.proto_decls.specs.declared.fact.DeclKind.{DeclKind}
+use Rattle.proto_decls.specs.Tree.{inside, all_statements}
+use Rattle.proto_decls.proofs.Statements.{all_statements-cons}
 
 -- one more statement, with those inside it
 pub diags-next : {Y : Type 0} (said : Node → List Y) (nodes : List Node) (i : ℕ) (n : Node) (found own new whole : List Y) → i < length nodes → n ≡ get_or nodes i n

@@ -13,10 +13,10 @@ use Rattle.std.proofs.lemmas.Bool.{cases_Bool}
 use Rattle.std.proofs.lemmas.Bool.Decides.{Decides-ltb}
 use Rattle.std.proofs.lemmas.Map.Keys.{sorted_from_all_adjacent, IsDistinct-from_sorted, IsDistinct-IsPermutation, IsDistinct-head, IsDistinct-tail}
 use Rattle.std.proofs.lemmas.List.Sorted.{IsPermutation-sym}
-use Rattle.file_facts.specs.declared.diagnostic.Diag.{Diag}
-use Rattle.file_facts.specs.Checks.{judged, judged_at}
-use Rattle.file_facts.specs.FullNames.{hash_of, last_of, scope_of}
-use Rattle.file_facts.proofs.ApartNames.{same_parts}
+use Rattle.proto_decls.specs.declared.diagnostic.Diag.{Diag}
+use Rattle.proto_decls.specs.Checks.{judged, judged_at}
+use Rattle.proto_decls.specs.FullNames.{hash_of, last_of, scope_of}
+use Rattle.proto_decls.proofs.ApartNames.{same_parts}
 use Rattle.proto_facts.specs.Twice.{AreDistinct}
 use Rattle.proto_facts.proofs.Places.{diags-next, judged-end}
 

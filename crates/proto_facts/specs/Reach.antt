@@ -1,9 +1,9 @@
 -- Intervals by their lower bounds.
 use Rattle.std.specs.Prelude.{◌≡◌, ℕ, ◌+◌, ◌<◌, ◌≤◌, max, ⊤, Bool, false, ◌&&◌, ◌||◌, List, [], ◌∷◌, ◌++◌, Option, Some, None, length, take, slice_index, nat_le, nat_lt}
 use Rattle.std.specs.List.{list_any, IsDistinct}
-use Rattle.file_facts.specs.declared.part.Interval.{Interval}
+use Rattle.proto_decls.specs.declared.part.Interval.{Interval}
 use Rattle.proto_facts.specs.declared.reach.Reach.{Reach}
-use Rattle.file_facts.specs.Checks.{overlap}
+use Rattle.proto_decls.specs.Checks.{overlap}
 
 abbrev pub reach_of : Interval → Reach
 reach_of r = record { low = r.low; high = r.high }

@@ -6,10 +6,10 @@ use Rattle.std.specs.BTreeSet.{BTreeSet, contains, contains_by, contains_text}
 use Rattle.std.specs.Ordering.{nat_cmp, ordering_then}
 use Rattle.std.specs.Cmp.Lexicographic.{slice_cmp}
 use Rattle.std.specs.declared.alloc.Global.{Global}
-use Rattle.file_facts.specs.declared.part.Member.{Member}
-use Rattle.file_facts.specs.declared.part.ReservedName.{ReservedName}
-use Rattle.file_facts.specs.Checks.{is_value, has_value}
-use Rattle.file_facts.specs.FullNames.{hash_of, last_of, scope_of}
+use Rattle.proto_decls.specs.declared.part.Member.{Member}
+use Rattle.proto_decls.specs.declared.part.ReservedName.{ReservedName}
+use Rattle.proto_decls.specs.Checks.{is_value, has_value}
+use Rattle.proto_decls.specs.FullNames.{hash_of, last_of, scope_of}
 use denote.Ref.{Bor}
 
 abbrev pub has : BTreeSet ℕ → Option ℕ → Bool

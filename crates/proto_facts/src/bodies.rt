@@ -2,9 +2,9 @@
 
 ghost use Rattle.std.specs.Prelude.{◌≡◌, ◌++◌, [], ◌∷◌, OnOk, IfOk, length, filter, List, if◌then◌else◌};
 ghost use Rattle.std.specs.List.{flat_map};
-ghost use Rattle.syntax_tree.specs.declared.node.Node.{out-Node};
-ghost use Rattle.file_facts.specs.Members as body;
-ghost use Rattle.file_facts.specs.Checks as spec;
+ghost use Rattle.proto_tree.specs.declared.node.Node.{out-Node};
+ghost use Rattle.proto_decls.specs.Members as body;
+ghost use Rattle.proto_decls.specs.Checks as spec;
 
 use crate::checks::{
     add_backwards, add_bounds, add_kept_free, add_labels, add_name_reserved, add_name_twice,
@@ -17,11 +17,11 @@ use crate::numbers::ZERO_VALUE;
 use crate::overlaps::add_range_twice;
 use crate::reach::add_number_reserved;
 use crate::text::Source;
-use file_facts::{Diag, Interval, Member, Numbering, Problem, text_at};
+use proto_decls::{Diag, Interval, Member, Numbering, Problem, text_at};
+use proto_tree::{MapField, Node, Span, TypeName};
 use sqlite_items::Items;
 use std::alloc::{AllocError, Global};
 use std::collections::BTreeSet;
-use syntax_tree::{MapField, Node, Span, TypeName};
 
 fn good_intervals(alloc: Global, found: &[Interval]) -> Result<Vec<Interval>, AllocError>
     ensures { IfOk result (λ v. v.items ≡ filter spec.runs_forwards found.now) }

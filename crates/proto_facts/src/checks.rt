@@ -4,24 +4,24 @@ ghost use Rattle.std.specs.Prelude.{◌≡◌, ◌++◌, ◌∷◌, [], IfOk, If
 ghost use Rattle.std.specs.List.{list_any, flat_map, filter_map};
 ghost use Rattle.std.specs.Option.{option_to_list};
 ghost use Rattle.std.specs.Str.{bytes_eq};
-ghost use Rattle.syntax_tree.specs.declared.node.Node.{out-Node};
-ghost use Rattle.file_facts.specs.Diags as diags;
-ghost use Rattle.file_facts.specs.Members as body;
-ghost use Rattle.file_facts.specs.Numbers as numbers;
-ghost use Rattle.file_facts.specs.Checks as spec;
+ghost use Rattle.proto_tree.specs.declared.node.Node.{out-Node};
+ghost use Rattle.proto_decls.specs.Diags as diags;
+ghost use Rattle.proto_decls.specs.Members as body;
+ghost use Rattle.proto_decls.specs.Numbers as numbers;
+ghost use Rattle.proto_decls.specs.Checks as spec;
 ghost use Rattle.std.specs.Prelude.{List};
-ghost use Rattle.file_facts.specs.declared.part.ReservedName.{ReservedName};
-ghost use Rattle.file_facts.specs.declared.part.Numbering.{Numbering};
+ghost use Rattle.proto_decls.specs.declared.part.ReservedName.{ReservedName};
+ghost use Rattle.proto_decls.specs.declared.part.Numbering.{Numbering};
 ghost use Rattle.proto_facts.specs.Seen as spec_seen;
 
 use crate::members::ranges_in;
 use crate::numbers::value_of;
 use crate::seen::{note_text, note_value};
-use file_facts::{Diag, Interval, Member, Numbering, Problem, ReservedName, text_at};
+use proto_decls::{Diag, Interval, Member, Numbering, Problem, ReservedName, text_at};
+use proto_tree::{Node, Number, RangeEnd, ReservedRange, Span};
 use sqlite_items::Items;
 use std::alloc::{AllocError, Global};
 use std::collections::BTreeSet;
-use syntax_tree::{Node, Number, RangeEnd, ReservedRange, Span};
 
 pub fn diag(message: Problem, span: Span) -> Diag
     ensures { result ≡ diags.diag message span }

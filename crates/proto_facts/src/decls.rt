@@ -1,14 +1,14 @@
 // The declarations of a tree.
 
 ghost use Rattle.std.specs.Prelude.{◌≡◌, ◌++◌, ◌∷◌, [], length, OnOk, IfOk, None};
-ghost use Rattle.file_facts.specs.Decls as spec;
-ghost use Rattle.file_facts.specs.declared.fact.DeclKind.TheVariants as kinds;
+ghost use Rattle.proto_decls.specs.Decls as spec;
+ghost use Rattle.proto_decls.specs.declared.fact.DeclKind.TheVariants as kinds;
 
 use crate::text::Source;
-use file_facts::{Decl, DeclKind, FullName, ScopeName, text_at};
+use proto_decls::{Decl, DeclKind, FullName, ScopeName, text_at};
+use proto_tree::{Node, Span, make_room};
 use sqlite_items::Items;
 use std::alloc::AllocError;
-use syntax_tree::{Node, Span, make_room};
 
 // Where a statement stands, and so what it declares there.
 #[derive(Clone, Copy)]

@@ -3,20 +3,20 @@
 ghost use Rattle.std.specs.Prelude.{◌≡◌, ◌<◌, ◌^◌, ◌++◌, [], ◌∷◌, OnOk, IfOk, ℕ, List, map, nat_lt, ◌||◌};
 ghost use Rattle.std.specs.List.{list_any, filter_map};
 ghost use Rattle.std.specs.Option.{option_to_list};
-ghost use Rattle.syntax_tree.specs.declared.node.Node.{out-Node};
-ghost use Rattle.file_facts.specs.Diags as said;
-ghost use Rattle.file_facts.specs.Facts as spec;
-ghost use Rattle.file_facts.specs.Starts as statement;
-ghost use Rattle.file_facts.specs.Checks as checks;
+ghost use Rattle.proto_tree.specs.declared.node.Node.{out-Node};
+ghost use Rattle.proto_decls.specs.Diags as said;
+ghost use Rattle.proto_decls.specs.Facts as spec;
+ghost use Rattle.proto_decls.specs.Starts as statement;
+ghost use Rattle.proto_decls.specs.Checks as checks;
 
 use crate::checks::{add, diag, diag_if};
 use crate::members::is;
 use crate::text::{dotted, literal_text};
-use file_facts::{Diag, ImportFact, PackageFact, Problem, StatedPackage, StatedSyntax};
+use proto_decls::{Diag, ImportFact, PackageFact, Problem, StatedPackage, StatedSyntax};
 use proto_lex::Reason;
+use proto_tree::{Fault, FileTree, Literal, Node, Span, SyntaxProblem, is_too_long};
 use sqlite_items::Items;
 use std::alloc::{AllocError, Global};
-use syntax_tree::{Fault, FileTree, Literal, Node, Span, SyntaxProblem, is_too_long};
 
 // ---- bad tokens and statements
 

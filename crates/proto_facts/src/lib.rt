@@ -2,7 +2,7 @@
 //!
 //! `facts` gives a file's language, package, imports and declarations, and what is wrong in it by itself: bad tokens and
 //! statements, numbers and names that are used, reserved or declared twice, and the like. The types of these facts, and which
-//! values they have, stand in `file_facts`; its public names are offered here again.
+//! values they have, stand in `proto_decls`; its public names are offered here again.
 #![tactic(auto)]
 
 mod bodies;
@@ -19,7 +19,7 @@ mod text;
 mod twice;
 mod walk;
 
-pub use file_facts::{
+pub use proto_decls::{
     Decl, DeclKind, Diag, FileFacts, FullName, ImportFact, Name, PackageFact, Problem, SyntaxFact,
     in_order, joined, text_at,
 };

@@ -4,15 +4,15 @@ ghost use Rattle.std.specs.Prelude.{◌≡◌, ◌++◌, IfOk, OnOk, map};
 ghost use Rattle.std.specs.List.{list_any, flat_map, filter_map};
 ghost use Rattle.std.specs.Option.{option_to_list};
 ghost use Rattle.std.specs.Str.{bytes_eq};
-ghost use Rattle.syntax_tree.specs.declared.node.Node.{out-Node};
-ghost use Rattle.file_facts.specs.Members as spec;
+ghost use Rattle.proto_tree.specs.declared.node.Node.{out-Node};
+ghost use Rattle.proto_decls.specs.Members as spec;
 
 use crate::numbers::{greatest, plain, value_of};
 use crate::text::literal_text;
-use file_facts::{Interval, Member, Numbering, ReservedName, text_at};
+use proto_decls::{Interval, Member, Numbering, ReservedName, text_at};
+use proto_tree::{Literal, Node, Number, RangeEnd, ReservedList, ReservedRange, Span};
 use sqlite_items::Items;
 use std::alloc::{AllocError, Global};
-use syntax_tree::{Literal, Node, Number, RangeEnd, ReservedList, ReservedRange, Span};
 
 // The labels of a plain field.
 pub fn labels(node: &Node) -> &[Span]

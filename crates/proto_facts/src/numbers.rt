@@ -1,10 +1,10 @@
 // The numbers of fields and of enum values.
 
 ghost use Rattle.std.specs.Prelude.{◌≡◌, ◌≤◌, ℕ, min};
-ghost use Rattle.file_facts.specs.Numbers as spec;
+ghost use Rattle.proto_decls.specs.Numbers as spec;
 
-use file_facts::{Numbering, text_at};
-use syntax_tree::{Number, Span};
+use proto_decls::{Numbering, text_at};
+use proto_tree::{Number, Span};
 
 // A value that is too large for every count. All greater ones are taken as this one.
 const TOO_LARGE: u64 = 4_294_967_296;

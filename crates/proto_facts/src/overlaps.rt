@@ -3,11 +3,11 @@ ghost use Rattle.std.specs.Prelude.{◌≡◌, ◌++◌, ◌||◌, [], IfOk, OnO
 ghost use Rattle.std.specs.List.{list_any};
 ghost use Rattle.std.specs.List.Sorted.{IsNonDecreasingBy};
 ghost use Rattle.proto_facts.specs.Reach as spec;
-ghost use Rattle.file_facts.specs.Checks as checks;
+ghost use Rattle.proto_decls.specs.Checks as checks;
 
 use crate::checks::{add, diag_if};
 use crate::reach::{FEW, Reach, are_apart, ends, is_between, sorted_reaches};
-use file_facts::{Diag, Interval, Problem};
+use proto_decls::{Diag, Interval, Problem};
 use sqlite_items::Items;
 use std::alloc::{AllocError, Global};
 

@@ -2,14 +2,14 @@
 
 ghost use Rattle.std.specs.Prelude.{◌≡◌, ◌+◌, ◌<◌, ℕ, List, IfOk, OnOk, IsTrue, ◌++◌, Some, length, map, take, slice_index, nat_lt, nat_le};
 ghost use Rattle.std.specs.List.{list_any, filter_map};
-ghost use Rattle.file_facts.specs.declared.problem.Problem.TheVariants as m;
+ghost use Rattle.proto_decls.specs.declared.problem.Problem.TheVariants as m;
 ghost use Rattle.std.specs.List.Sorted.{IsNonDecreasingBy};
 ghost use Rattle.proto_facts.specs.Reach as spec;
-ghost use Rattle.file_facts.specs.Checks as checks;
-ghost use Rattle.file_facts.specs.declared.part.Interval.{Interval};
+ghost use Rattle.proto_decls.specs.Checks as checks;
+ghost use Rattle.proto_decls.specs.declared.part.Interval.{Interval};
 
 use crate::checks::{add, diag_if};
-use file_facts::{Diag, Interval, Member, Problem};
+use proto_decls::{Diag, Interval, Member, Problem};
 use sqlite_items::Items;
 use std::alloc::{AllocError, Global};
 

@@ -1,8 +1,8 @@
 // The facts of a text and its tree.
 
 ghost use Rattle.std.specs.Prelude.{◌≡◌, ◌++◌, [], ◌∷◌, OnOk, IfOk, None, Some, List};
-ghost use Rattle.file_facts.specs.Facts as spec;
-ghost use Rattle.syntax_tree.specs.Read.{value_tree};
+ghost use Rattle.proto_decls.specs.Facts as spec;
+ghost use Rattle.proto_tree.specs.Read.{value_tree};
 
 use crate::file::{
     add_faults, add_imports, add_package_diags, add_packages, add_stated, add_syntax_late,
@@ -11,13 +11,13 @@ use crate::file::{
 use crate::text::Source;
 use crate::twice::{add_declared_twice, add_imported_twice};
 use crate::walk::add_statements;
-use file_facts::{
+use proto_decls::{
     Decl, Decls, Diag, FileFacts, ImportFact, ScopeName, StatedPackage, StatedSyntax, SyntaxFact,
     put_in_order,
 };
+use proto_tree::FileTree;
 use sqlite_items::Items;
 use std::alloc::{AllocError, Global};
-use syntax_tree::FileTree;
 
 // The statements that say what a file itself is and needs.
 #[derive(Clone, Copy)]

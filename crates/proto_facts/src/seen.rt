@@ -4,10 +4,10 @@ ghost use Rattle.std.specs.Prelude.{◌≡◌, ◌||◌, ℕ, List, IfOk, OnOk, 
 ghost use Rattle.std.specs.BTreeSet.{contains, contains_text};
 ghost use Rattle.std.specs.Ordering.{nat_cmp};
 ghost use Rattle.std.specs.Str.{bytes_eq};
-ghost use Rattle.file_facts.specs.Checks as checks;
+ghost use Rattle.proto_decls.specs.Checks as checks;
 ghost use Rattle.proto_facts.specs.Seen as spec;
 
-use file_facts::FullName;
+use proto_decls::FullName;
 use std::alloc::{AllocError, Global};
 use std::collections::BTreeSet;
 

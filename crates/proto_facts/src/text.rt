@@ -2,11 +2,11 @@
 
 ghost use Rattle.std.specs.Prelude.{◌≡◌, IfOk, OnOk, ◌++◌, string_bytes};
 ghost use Rattle.std.specs.List.{flat_map};
-ghost use Rattle.file_facts.specs.Text as spec;
+ghost use Rattle.proto_decls.specs.Text as spec;
 
-use file_facts::{Name, text_at};
+use proto_decls::{Name, text_at};
+use proto_tree::{Literal, Span};
 use std::alloc::{AllocError, Global};
-use syntax_tree::{Literal, Span};
 
 // A text, and the memory for what is found in it.
 #[derive(Clone, Copy)]

@@ -4,14 +4,14 @@
 // are put into an ordered set.
 
 ghost use Rattle.std.specs.Prelude.{◌≡◌, ◌++◌, IfOk, IsTrue, OnOk, map};
-ghost use Rattle.file_facts.specs.Checks as checks;
-ghost use Rattle.file_facts.specs.Facts as facts;
-ghost use Rattle.file_facts.specs.FullNames.{hash_of};
+ghost use Rattle.proto_decls.specs.Checks as checks;
+ghost use Rattle.proto_decls.specs.Facts as facts;
+ghost use Rattle.proto_decls.specs.FullNames.{hash_of};
 ghost use Rattle.proto_facts.specs.Twice as spec;
 
 use crate::checks::{add, diag_if};
 use crate::seen::{note_full_name, note_name};
-use file_facts::{Decl, Diag, ImportFact, Problem, hash_of};
+use proto_decls::{Decl, Diag, ImportFact, Problem, hash_of};
 use sqlite_items::Items;
 use std::alloc::{AllocError, Global};
 use std::collections::BTreeSet;

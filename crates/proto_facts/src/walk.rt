@@ -2,18 +2,18 @@
 
 ghost use Rattle.std.specs.Prelude.{◌≡◌, ◌++◌, OnOk, None, length};
 ghost use Rattle.std.specs.List.{flat_map};
-ghost use Rattle.file_facts.specs.Checks as checks;
-ghost use Rattle.file_facts.specs.Decls as declared;
-ghost use Rattle.file_facts.specs.declared.fact.DeclKind.TheVariants as kind;
-ghost use Rattle.file_facts.specs.Tree as spec;
+ghost use Rattle.proto_decls.specs.Checks as checks;
+ghost use Rattle.proto_decls.specs.Decls as declared;
+ghost use Rattle.proto_decls.specs.declared.fact.DeclKind.TheVariants as kind;
+ghost use Rattle.proto_decls.specs.Tree as spec;
 
 use crate::bodies::add_statement_diags;
 use crate::decls::{Enclosing, add_decl};
 use crate::text::Source;
-use file_facts::{Decl, DeclKind, Diag, ScopeName};
+use proto_decls::{Decl, DeclKind, Diag, ScopeName};
+use proto_tree::Node;
 use sqlite_items::Items;
 use std::alloc::AllocError;
-use syntax_tree::Node;
 
 // Adds what is wrong in each statement of a list, and in those inside it.
 #[cycle(statements)]

@@ -13,12 +13,12 @@ use Rattle.std.specs.Char.{is_ascii_digit}
 use Rattle.proto_lex.specs.Forms.{IsIdent as IsIdentForm}
 use Rattle.proto_lex.specs.Laws.{IsOrderedFrom}
 use Rattle.proto_lex.specs.Tokens.{IsTokenAt, AreTokens, AreTokensFrom, byte_order_mark_len, tokens}
-use Rattle.syntax_tree.specs.declared.lexeme.Lexeme.{Lexeme}
-use Rattle.syntax_tree.specs.declared.lexeme.Body.TheVariants as b
-use Rattle.syntax_tree.specs.declared.node.Span.{Span}
-use Rattle.syntax_tree.specs.Grammar.{IsIdent}
-use Rattle.syntax_tree.specs.Lexeme.{is_bad, lexeme_of, lexemes}
-use Rattle.syntax_tree.specs.Read.{max_blocks, read, tree_of}
+use Rattle.proto_tree.specs.declared.lexeme.Lexeme.{Lexeme}
+use Rattle.proto_tree.specs.declared.lexeme.Body.TheVariants as b
+use Rattle.proto_tree.specs.declared.node.Span.{Span}
+use Rattle.proto_tree.specs.Grammar.{IsIdent}
+use Rattle.proto_tree.specs.Lexeme.{is_bad, lexeme_of, lexemes}
+use Rattle.proto_tree.specs.Read.{max_blocks, read, tree_of}
 use Rattle.proto_laws.specs.Apart.{NamesAreApart}
 use Rattle.proto_laws.proofs.Identifiers.{identifiers-spelled, identifiers-same, identifiers_in}
 use Rattle.proto_laws.proofs.Spelled.{Spell}

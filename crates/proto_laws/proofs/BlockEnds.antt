@@ -4,21 +4,21 @@ use Rattle.std.specs.Prelude.{IsTrue, ◌&&◌, ◌||◌, count_by}
 use Rattle.std.proofs.lemmas.Bool.{eq-eqb, eqb-true, false≢true}
 use Rattle.std.proofs.lemmas.List.Sums.{sum_by-append}
 use denote.Enum.Bare.{same_true}
-use Rattle.syntax_tree.specs.contracts.lexeme.Word.{the_type}
-use Rattle.syntax_tree.specs.declared.lexeme.Lexeme.{Lexeme}
-use Rattle.syntax_tree.specs.declared.lexeme.Body.{Body}
-use Rattle.syntax_tree.specs.declared.lexeme.Word.{Word}
-use Rattle.syntax_tree.specs.declared.lexeme.Word.TheVariants as w
-use Rattle.syntax_tree.specs.declared.node.Header.{Header}
-use Rattle.syntax_tree.specs.declared.node.Header.TheVariants as header
-use Rattle.syntax_tree.specs.declared.node.Span.{Span}
-use Rattle.syntax_tree.specs.declared.node.TypeName.{TypeName}
-use Rattle.syntax_tree.specs.Lexeme.{is, is_block_word, is_identifier, same_word}
-use Rattle.syntax_tree.specs.Cut.{begins_block, ends_in, has_block_words, is_at_depth_0, is_finished, is_stray}
-use Rattle.syntax_tree.specs.Grammar.{◌⊳◌, IsWord, IsIdent, IsFlag, IsFull, IsType, IsInParentheses, IsHeader}
-use Rattle.syntax_tree.specs.Cut.{begins}
-use Rattle.proto_laws.specs.Trees.{BlocksEnd, first_word}
-use Rattle.proto_laws.proofs.PartsRead.{differs, is_word, is_same, starts_turn}
+use Rattle.proto_tree.specs.contracts.lexeme.Terminal.{the_type}
+use Rattle.proto_tree.specs.declared.lexeme.Lexeme.{Lexeme}
+use Rattle.proto_tree.specs.declared.lexeme.Body.{Body}
+use Rattle.proto_tree.specs.declared.lexeme.Terminal.{Terminal}
+use Rattle.proto_tree.specs.declared.lexeme.Terminal.TheVariants as w
+use Rattle.proto_tree.specs.declared.node.Header.{Header}
+use Rattle.proto_tree.specs.declared.node.Header.TheVariants as header
+use Rattle.proto_tree.specs.declared.node.Span.{Span}
+use Rattle.proto_tree.specs.declared.node.TypeName.{TypeName}
+use Rattle.proto_tree.specs.Lexeme.{is, is_block_word, is_identifier, same_terminal}
+use Rattle.proto_tree.specs.Cut.{begins_block, ends_in, has_block_words, is_at_depth_0, is_finished, is_stray}
+use Rattle.proto_tree.specs.Grammar.{◌⊳◌, IsTerminal, IsIdent, IsFlag, IsFull, IsType, IsInParentheses, IsHeader}
+use Rattle.proto_tree.specs.Cut.{begins}
+use Rattle.proto_laws.specs.Trees.{BlocksEnd, first_terminal}
+use Rattle.proto_laws.proofs.PartsRead.{differs, is_terminal, is_same, starts_turn}
 use Rattle.proto_laws.proofs.StatementsRead.{starts_header}
 
 -- ---- counts of braces
@@ -56,50 +56,50 @@ NoClose ts = closed ts ≡ 0
 close-turn : (P Q : List Lexeme → Type 0) (ts : List Lexeme) → ((front : List Lexeme) → P front → NoClose front) → ((back : List Lexeme) → Q back → NoClose back) → (P ⊳ Q) ts → NoClose ts
 close-turn P Q ts p q h = omega (arith, ap closed h.2, closed-append h.0 h.1, p h.0 h.3, q h.1 h.4)
 
-close-word : (it : Word) → same_word it w.CloseBrace ≡ false → (ts : List Lexeme) → IsWord it ts → NoClose ts
-close-word it e ts h = ap closed h.1 ∙ closed-no h.0 (ap (λ x. same_word x w.CloseBrace) h.2 ∙ e)
+close-terminal : (it : Terminal) → same_terminal it w.CloseBrace ≡ false → (ts : List Lexeme) → IsTerminal it ts → NoClose ts
+close-terminal it e ts h = ap closed h.1 ∙ closed-no h.0 (ap (λ x. same_terminal x w.CloseBrace) h.2 ∙ e)
 
 close-ident : (name : Span) (ts : List Lexeme) → IsIdent name ts → NoClose ts
-close-ident name ts h = ap closed h.1 ∙ closed-no h.0 (differs is_identifier h.0.word w.CloseBrace h.2 refl)
+close-ident name ts h = ap closed h.1 ∙ closed-no h.0 (differs is_identifier h.0.terminal w.CloseBrace h.2 refl)
 
-close-flag : (it : Word) → same_word it w.CloseBrace ≡ false → (flag : Bool) (ts : List Lexeme) → IsFlag it flag ts → NoClose ts
-close-flag it e true ts h = close-word it e ts h
+close-flag : (it : Terminal) → same_terminal it w.CloseBrace ≡ false → (flag : Bool) (ts : List Lexeme) → IsFlag it flag ts → NoClose ts
+close-flag it e true ts h = close-terminal it e ts h
 close-flag it e false ts h = ap closed h
 
 close-full : (names : List Span) (ts : List Lexeme) → IsFull names ts → NoClose ts
 close-full [] ts h = absurd h
 close-full (x ∷ []) ts h = close-ident x ts h
-close-full (x ∷ y ∷ more) ts h = omega (arith, ap closed h.2, closed-append h.0 h.1, close-ident x h.0 h.3, ap closed h.4.2, closed-append h.4.0 h.4.1, close-word w.Dot refl h.4.0 h.4.3, close-full (y ∷ more) h.4.1 h.4.4)
+close-full (x ∷ y ∷ more) ts h = omega (arith, ap closed h.2, closed-append h.0 h.1, close-ident x h.0 h.3, ap closed h.4.2, closed-append h.4.0 h.4.1, close-terminal w.Dot refl h.4.0 h.4.3, close-full (y ∷ more) h.4.1 h.4.4)
 
 close-type : (name : TypeName) (ts : List Lexeme) → IsType name ts → NoClose ts
 close-type name ts h = close-turn (IsFlag w.Dot name.is_absolute) (IsFull name.components) ts (close-flag w.Dot refl name.is_absolute) (close-full name.components) h.0
 
 close-parentheses : (name : TypeName) (ts : List Lexeme) → IsInParentheses name ts → NoClose ts
 close-parentheses name ts h =
-    close-turn (IsWord w.OpenParen) (λ inside. (IsFlag w.Stream (begins w.Stream inside) ⊳ (IsType name ⊳ IsWord w.CloseParen)) inside) ts (close-word w.OpenParen refl)
-    (λ inside p. close-turn (IsFlag w.Stream (begins w.Stream inside)) (IsType name ⊳ IsWord w.CloseParen) inside (close-flag w.Stream refl (begins w.Stream inside)) (λ back q. close-turn (IsType name) (IsWord w.CloseParen) back (close-type name) (close-word w.CloseParen refl) q) p) h
+    close-turn (IsTerminal w.OpenParen) (λ inside. (IsFlag w.Stream (begins w.Stream inside) ⊳ (IsType name ⊳ IsTerminal w.CloseParen)) inside) ts (close-terminal w.OpenParen refl)
+    (λ inside p. close-turn (IsFlag w.Stream (begins w.Stream inside)) (IsType name ⊳ IsTerminal w.CloseParen) inside (close-flag w.Stream refl (begins w.Stream inside)) (λ back q. close-turn (IsType name) (IsTerminal w.CloseParen) back (close-type name) (close-terminal w.CloseParen refl) q) p) h
 
-close-named : (it : Word) (name : Span) → same_word it w.CloseBrace ≡ false → (ts : List Lexeme) → (IsWord it ⊳ IsIdent name) ts → NoClose ts
-close-named it name e ts h = close-turn (IsWord it) (IsIdent name) ts (close-word it e) (close-ident name) h
+close-named : (it : Terminal) (name : Span) → same_terminal it w.CloseBrace ≡ false → (ts : List Lexeme) → (IsTerminal it ⊳ IsIdent name) ts → NoClose ts
+close-named it name e ts h = close-turn (IsTerminal it) (IsIdent name) ts (close-terminal it e) (close-ident name) h
 
 close-header : (head : Header) (ts : List Lexeme) → IsHeader head ts → NoClose ts
 close-header (header.Message name) ts h = close-named w.Message name refl ts h
 close-header (header.Enum name) ts h = close-named w.Enum name refl ts h
 close-header (header.Service name) ts h = close-named w.Service name refl ts h
 close-header (header.Oneof name) ts h = close-named w.Oneof name refl ts h
-close-header (header.Extend target) ts h = close-turn (IsWord w.Extend) (IsType target) ts (close-word w.Extend refl) (close-type target) h
+close-header (header.Extend target) ts h = close-turn (IsTerminal w.Extend) (IsType target) ts (close-terminal w.Extend refl) (close-type target) h
 close-header (header.Rpc name request response) ts h =
-    close-turn (IsWord w.Rpc) (IsIdent name ⊳ (IsInParentheses request ⊳ (IsWord w.Returns ⊳ IsInParentheses response))) ts (close-word w.Rpc refl)
-    (λ t1 h1. close-turn (IsIdent name) (IsInParentheses request ⊳ (IsWord w.Returns ⊳ IsInParentheses response)) t1 (close-ident name)
-    (λ t2 h2. close-turn (IsInParentheses request) (IsWord w.Returns ⊳ IsInParentheses response) t2 (close-parentheses request)
-    (λ t3 h3. close-turn (IsWord w.Returns) (IsInParentheses response) t3 (close-word w.Returns refl) (close-parentheses response) h3) h2) h1) h
+    close-turn (IsTerminal w.Rpc) (IsIdent name ⊳ (IsInParentheses request ⊳ (IsTerminal w.Returns ⊳ IsInParentheses response))) ts (close-terminal w.Rpc refl)
+    (λ t1 h1. close-turn (IsIdent name) (IsInParentheses request ⊳ (IsTerminal w.Returns ⊳ IsInParentheses response)) t1 (close-ident name)
+    (λ t2 h2. close-turn (IsInParentheses request) (IsTerminal w.Returns ⊳ IsInParentheses response) t2 (close-parentheses request)
+    (λ t3 h3. close-turn (IsTerminal w.Returns) (IsInParentheses response) t3 (close-terminal w.Returns refl) (close-parentheses response) h3) h2) h1) h
 
 -- behind a header and its `{` a brace is open
-one_open : (head : Header) (front : List Lexeme) → (IsHeader head ⊳ IsWord w.OpenBrace) front → closed front < opened front
+one_open : (head : Header) (front : List Lexeme) → (IsHeader head ⊳ IsTerminal w.OpenBrace) front → closed front < opened front
 one_open head front h =
     let brace = h.4 in
-    let shut : closed front ≡ 0 = close-turn (IsHeader head) (IsWord w.OpenBrace) front (close-header head) (close-word w.OpenBrace refl) h in
-    let open_one : opened h.1 ≡ 1 = ap opened brace.1 ∙ opened-yes brace.0 (ap (is_word w.OpenBrace) brace.2 ∙ is_same w.OpenBrace) in
+    let shut : closed front ≡ 0 = close-turn (IsHeader head) (IsTerminal w.OpenBrace) front (close-header head) (close-terminal w.OpenBrace refl) h in
+    let open_one : opened h.1 ≡ 1 = ap opened brace.1 ∙ opened-yes brace.0 (ap (is_terminal w.OpenBrace) brace.2 ∙ is_same w.OpenBrace) in
     omega (arith, shut, open_one, ap opened h.2, opened-append h.0 h.1)
 
 -- ---- where the depth is 0 again
@@ -108,12 +108,12 @@ begins-longer : (body : Body) (ts more : List Lexeme) → begins_block body ts �
 begins-longer body [] more e = absurd (false≢true e)
 begins-longer body (t ∷ ts) more e = e
 
-ends_in-snoc : (it : Word) (ts : List Lexeme) (t : Lexeme) → ends_in it (ts ++ t ∷ []) ≡ is it t
+ends_in-snoc : (it : Terminal) (ts : List Lexeme) (t : Lexeme) → ends_in it (ts ++ t ∷ []) ≡ is it t
 ends_in-snoc it [] t = refl
 ends_in-snoc it (u ∷ []) t = refl
 ends_in-snoc it (u ∷ v ∷ ts) t = ends_in-snoc it (v ∷ ts) t
 
-ends_in-behind : (it : Word) (front : List Lexeme) (t : Lexeme) (ts : List Lexeme) → ends_in it (front ++ t ∷ ts) ≡ ends_in it (t ∷ ts)
+ends_in-behind : (it : Terminal) (front : List Lexeme) (t : Lexeme) (ts : List Lexeme) → ends_in it (front ++ t ∷ ts) ≡ ends_in it (t ∷ ts)
 ends_in-behind it [] t ts = refl
 ends_in-behind it (u ∷ []) t ts = refl
 ends_in-behind it (u ∷ v ∷ front) t ts = ends_in-behind it (v ∷ front) t ts
@@ -142,7 +142,7 @@ FinishedFront body item = (front : List Lexeme) × (t : Lexeme) × (more : List 
 
 at_close : (body : Body) (front : List Lexeme) (t : Lexeme) (more : List Lexeme) → begins_block body front ≡ true → is w.CloseBrace t ≡ true → suc (closed front) ≡ opened front → FinishedFront body (front ++ t ∷ more)
 at_close body front t more begins_it e same =
-    let none : opened (t ∷ []) ≡ 0 = opened-no t (differs (is_word w.CloseBrace) t.word w.OpenBrace e refl) in
+    let none : opened (t ∷ []) ≡ 0 = opened-no t (differs (is_terminal w.CloseBrace) t.terminal w.OpenBrace e refl) in
     let counts : opened (front ++ t ∷ []) ≡ closed (front ++ t ∷ []) = omega (arith, none, closed-yes t e, same, opened-append front (t ∷ []), closed-append front (t ∷ [])) in
     let depth : is_at_depth_0 (front ++ t ∷ []) ≡ true = eq-eqb (opened (front ++ t ∷ [])) (closed (front ++ t ∷ [])) counts in
     let block = and_true (begins_block body (front ++ t ∷ [])) (ends_in w.CloseBrace (front ++ t ∷ [])) (begins-longer body front (t ∷ []) begins_it) (ends_in-snoc w.CloseBrace front t ∙ e) in
@@ -174,7 +174,7 @@ both true true e = (refl, refl)
 both true false e = absurd (false≢true e)
 both false y e = absurd (false≢true e)
 
-block_word : (head : Header) → is_block_word (first_word head) ≡ true
+block_word : (head : Header) → is_block_word (first_terminal head) ≡ true
 block_word (header.Message name) = refl
 block_word (header.Enum name) = refl
 block_word (header.Service name) = refl
@@ -182,11 +182,11 @@ block_word (header.Oneof name) = refl
 block_word (header.Extend target) = refl
 block_word (header.Rpc name request response) = refl
 
-header_begins : (body : Body) (head : Header) (front : List Lexeme) → IsTrue (has_block_words body) → (IsHeader head ⊳ IsWord w.OpenBrace) front → begins_block body front ≡ true
+header_begins : (body : Body) (head : Header) (front : List Lexeme) → IsTrue (has_block_words body) → (IsHeader head ⊳ IsTerminal w.OpenBrace) front → begins_block body front ≡ true
 header_begins body head front words h =
-    let s = starts_turn (IsHeader head) (IsWord w.OpenBrace) (starts_header head) h in
-    let first = same_true the_type (search refl) s.first.word (first_word head) s.passes in
-    ap (begins_block body) s.whole ∙ and_true (has_block_words body) (is_block_word s.first.word) words (ap is_block_word first ∙ block_word head)
+    let s = starts_turn (IsHeader head) (IsTerminal w.OpenBrace) (starts_header head) h in
+    let first = same_true the_type (search refl) s.first.terminal (first_terminal head) s.passes in
+    ap (begins_block body) s.whole ∙ and_true (has_block_words body) (is_block_word s.first.terminal) words (ap is_block_word first ∙ block_word head)
 
 or_first : (x y : Bool) → x ≡ true → (x || y) ≡ true
 or_first true y e = refl

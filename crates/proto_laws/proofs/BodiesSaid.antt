@@ -3,24 +3,24 @@ use Rattle.std.proofs.Common.{◌≡◌, ◌⊎◌, inl, inr, ℕ, Bool, true, f
 use Rattle.std.specs.Prelude.{Contains, pos, ◌≤ℤ◌}
 use Rattle.std.specs.List.{filter_map, flat_map}
 use Rattle.std.proofs.lemmas.List.Elements.{Contains-append_cases, Contains-append_left, Contains-append_right}
-use Rattle.syntax_tree.specs.declared.node.Field.{Field}
-use Rattle.syntax_tree.specs.declared.node.FileTree.{FileTree}
-use Rattle.syntax_tree.specs.declared.node.MapField.{MapField}
-use Rattle.syntax_tree.specs.declared.node.Number.{Number}
-use Rattle.syntax_tree.specs.declared.node.Span.{Span}
-use Rattle.syntax_tree.specs.declared.node.TypeName.{TypeName}
-use Rattle.syntax_tree.specs.declared.node.Node.{Node, out-Node}
-use Rattle.syntax_tree.specs.declared.node.Node.TheOpen.{Node-F}
-use Rattle.file_facts.specs.declared.diagnostic.Diag.{Diag}
-use Rattle.file_facts.specs.declared.part.Member.{Member}
-use Rattle.file_facts.specs.declared.part.Numbering.{Numbering}
-use Rattle.file_facts.specs.declared.part.Numbering.TheVariants.{Fields, Values}
-use Rattle.file_facts.specs.declared.problem.Problem.TheVariants as m
-use Rattle.file_facts.specs.Checks.{alias_diags, backwards, bound_diags, first_diags, interval_diags, judged, kept_free, key_diags, key_types, label_diags, map_diags, member_out_of_range, name_diags, name_reserved, name_twice, number_reserved, number_used, opened_diags, out_of_range, range_twice, reserved_diags, statement_diags}
-use Rattle.file_facts.specs.Diags.{diag}
-use Rattle.file_facts.specs.Members.{allows_alias, bounds, intervals, labels, later_labels, names, ranges, reserved_name}
-use Rattle.file_facts.specs.Text.{text_at}
-use Rattle.file_facts.specs.Tree.{all_statements}
+use Rattle.proto_tree.specs.declared.node.Field.{Field}
+use Rattle.proto_tree.specs.declared.node.FileTree.{FileTree}
+use Rattle.proto_tree.specs.declared.node.MapField.{MapField}
+use Rattle.proto_tree.specs.declared.node.Number.{Number}
+use Rattle.proto_tree.specs.declared.node.Span.{Span}
+use Rattle.proto_tree.specs.declared.node.TypeName.{TypeName}
+use Rattle.proto_tree.specs.declared.node.Node.{Node, out-Node}
+use Rattle.proto_tree.specs.declared.node.Node.TheOpen.{Node-F}
+use Rattle.proto_decls.specs.declared.diagnostic.Diag.{Diag}
+use Rattle.proto_decls.specs.declared.part.Member.{Member}
+use Rattle.proto_decls.specs.declared.part.Numbering.{Numbering}
+use Rattle.proto_decls.specs.declared.part.Numbering.TheVariants.{Fields, Values}
+use Rattle.proto_decls.specs.declared.problem.Problem.TheVariants as m
+use Rattle.proto_decls.specs.Checks.{alias_diags, backwards, bound_diags, first_diags, interval_diags, judged, kept_free, key_diags, key_types, label_diags, map_diags, member_out_of_range, name_diags, name_reserved, name_twice, number_reserved, number_used, opened_diags, out_of_range, range_twice, reserved_diags, statement_diags}
+use Rattle.proto_decls.specs.Diags.{diag}
+use Rattle.proto_decls.specs.Members.{allows_alias, bounds, intervals, labels, later_labels, names, ranges, reserved_name}
+use Rattle.proto_decls.specs.Text.{text_at}
+use Rattle.proto_decls.specs.Tree.{all_statements}
 use Rattle.proto_laws.specs.Bodies.{AllowsAlias, HasStatement, IsBody, IsBound, IsInRange, IsNumber, Numbered, Precedes, enum_values, message_fields, number_in, of_enum, of_extension, of_member, of_message, of_range, plain_fields, reserved_names}
 use Rattle.proto_laws.specs.FileDiagnostics.{IsLabelTooMany, IsProto3Diagnostic, enum_number_out_of_range, enum_number_used_twice, first_not_zero, label_not_allowed, map_key, name_reserved as name_is_reserved, name_reserved_twice, no_value, number_kept_free, number_out_of_range, number_reserved as number_is_reserved, number_used_twice, of_extend as label_of_extend, of_map as label_of_map, of_message as label_of_message, of_oneof as label_of_oneof, range_backwards, range_reserved_twice}
 use Rattle.proto_laws.proofs.BodyChecks.{backwards-has, bound-has, good, in_bound, in_out, in_twice, known, name-reserved, names-twice, out-has, reserved-has, shared-has, twice-has}

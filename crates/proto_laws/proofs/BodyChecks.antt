@@ -5,20 +5,20 @@ use Rattle.std.specs.List.{filter_map, list_any}
 use Rattle.std.specs.Str.{bytes_eq}
 use Rattle.std.proofs.lemmas.Bool.{and_from, and_parts, cases_lt, eq-eqb, eqb-true, leb-false, leb-true, lt-leb, not-true, not_from_false}
 use Rattle.std.proofs.lemmas.Slice.Eq.{bytes_eq-Decides}
-use Rattle.syntax_tree.specs.declared.node.Literal.{Literal}
-use Rattle.syntax_tree.specs.declared.node.Number.{Number}
-use Rattle.syntax_tree.specs.declared.node.ReservedRange.{ReservedRange}
-use Rattle.file_facts.specs.declared.diagnostic.Diag.{Diag}
-use Rattle.file_facts.specs.declared.part.Interval.{Interval}
-use Rattle.file_facts.specs.declared.part.Member.{Member}
-use Rattle.file_facts.specs.declared.part.Numbering.{Numbering}
-use Rattle.file_facts.specs.declared.part.ReservedName.{ReservedName}
-use Rattle.file_facts.specs.declared.problem.Problem.TheVariants as m
-use Rattle.file_facts.specs.Checks.{backwards, bound_out_of_range, has_value, is_value, judged, lies_in, member_out_of_range, name_reserved, name_twice, number_reserved, number_used, out_of_range, overlap, range_twice, runs_forwards, used_twice}
-use Rattle.file_facts.specs.Diags.{diag}
-use Rattle.file_facts.specs.Members.{bounds, interval, range_span, reserved_name}
-use Rattle.file_facts.specs.Numbers.{value_of}
-use Rattle.file_facts.specs.Text.{literal_text, text_at}
+use Rattle.proto_tree.specs.declared.node.Literal.{Literal}
+use Rattle.proto_tree.specs.declared.node.Number.{Number}
+use Rattle.proto_tree.specs.declared.node.ReservedRange.{ReservedRange}
+use Rattle.proto_decls.specs.declared.diagnostic.Diag.{Diag}
+use Rattle.proto_decls.specs.declared.part.Interval.{Interval}
+use Rattle.proto_decls.specs.declared.part.Member.{Member}
+use Rattle.proto_decls.specs.declared.part.Numbering.{Numbering}
+use Rattle.proto_decls.specs.declared.part.ReservedName.{ReservedName}
+use Rattle.proto_decls.specs.declared.problem.Problem.TheVariants as m
+use Rattle.proto_decls.specs.Checks.{backwards, bound_out_of_range, has_value, is_value, judged, lies_in, member_out_of_range, name_reserved, name_twice, number_reserved, number_used, out_of_range, overlap, range_twice, runs_forwards, used_twice}
+use Rattle.proto_decls.specs.Diags.{diag}
+use Rattle.proto_decls.specs.Members.{bounds, interval, range_span, reserved_name}
+use Rattle.proto_decls.specs.Numbers.{value_of}
+use Rattle.proto_decls.specs.Text.{literal_text, text_at}
 use Rattle.proto_laws.specs.Bodies.{HasBounds, IsInRange, Numbered, Precedes, Reserves, from_is, highest, lowest, number_in, to_is}
 use Rattle.proto_laws.proofs.BodyParts.{IsInterval, has-interval, in_range, interval-is, of, out_of_range-is, value-in, value-out}
 use Rattle.proto_laws.proofs.Counts.{below-number_of, number_in_range, number_of, number_of-below, number_of-order, number_of-same, order-number_of, through}

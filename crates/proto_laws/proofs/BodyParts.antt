@@ -3,20 +3,20 @@ use Rattle.std.proofs.Common.{◌≡◌, ◌∙◌, inl, inr, ℕ, ℤ, List, []
 use Rattle.std.specs.List.{flat_map}
 use Rattle.std.proofs.lemmas.Int.{ints}
 use Rattle.std.proofs.lemmas.List.{map-append}
-use Rattle.syntax_tree.specs.declared.node.Number.{Number}
-use Rattle.syntax_tree.specs.declared.node.RangeEnd.{RangeEnd}
-use Rattle.syntax_tree.specs.declared.node.RangeEnd.TheVariants as bound
-use Rattle.syntax_tree.specs.declared.node.ReservedRange.{ReservedRange}
-use Rattle.syntax_tree.specs.declared.node.Span.{Span}
-use Rattle.syntax_tree.specs.declared.node.Node.{Node, out-Node}
-use Rattle.syntax_tree.specs.declared.node.Node.TheOpen.{Node-F}
-use Rattle.file_facts.specs.declared.part.Interval.{Interval}
-use Rattle.file_facts.specs.declared.part.Member.{Member}
-use Rattle.file_facts.specs.declared.part.Numbering.{Numbering}
-use Rattle.file_facts.specs.declared.part.Numbering.TheVariants.{Fields, Values}
-use Rattle.file_facts.specs.Members.{fields, fields_of, high_value, interval, interval_of, member, names, names_in, plain_field_of, plain_fields as plain_members, range_span, reserved_name, value_in, values}
-use Rattle.file_facts.specs.Numbers.{greatest, int_value, value_of}
-use Rattle.file_facts.specs.Text.{text_at}
+use Rattle.proto_tree.specs.declared.node.Number.{Number}
+use Rattle.proto_tree.specs.declared.node.RangeEnd.{RangeEnd}
+use Rattle.proto_tree.specs.declared.node.RangeEnd.TheVariants as bound
+use Rattle.proto_tree.specs.declared.node.ReservedRange.{ReservedRange}
+use Rattle.proto_tree.specs.declared.node.Span.{Span}
+use Rattle.proto_tree.specs.declared.node.Node.{Node, out-Node}
+use Rattle.proto_tree.specs.declared.node.Node.TheOpen.{Node-F}
+use Rattle.proto_decls.specs.declared.part.Interval.{Interval}
+use Rattle.proto_decls.specs.declared.part.Member.{Member}
+use Rattle.proto_decls.specs.declared.part.Numbering.{Numbering}
+use Rattle.proto_decls.specs.declared.part.Numbering.TheVariants.{Fields, Values}
+use Rattle.proto_decls.specs.Members.{fields, fields_of, high_value, interval, interval_of, member, names, names_in, plain_field_of, plain_fields as plain_members, range_span, reserved_name, value_in, values}
+use Rattle.proto_decls.specs.Numbers.{greatest, int_value, value_of}
+use Rattle.proto_decls.specs.Text.{text_at}
 use Rattle.proto_laws.specs.Bodies.{HasBounds, IsInRange, Numbered, enum_values, fields_at, from_is, highest, last_in, message_fields, number_in, plain_field, plain_fields, reserved_names, to_is, values_at}
 use Rattle.proto_laws.proofs.Counts.{IsCounted, counts, number_of}
 use Rattle.proto_laws.proofs.Holders.{inside}

@@ -3,9 +3,9 @@ use Rattle.std.proofs.Common.{◌≡◌, ◌⊎◌, inl, inr, ℕ, ◌+◌, ◌-
 use Rattle.std.specs.Prelude.{nat_le}
 use Rattle.std.proofs.lemmas.Bool.Decides.{leb_tells}
 use Rattle.std.proofs.lemmas.Int.{ints}
-use Rattle.file_facts.specs.declared.part.Numbering.{Numbering}
-use Rattle.file_facts.specs.declared.part.Numbering.TheVariants.{Fields, Values}
-use Rattle.file_facts.specs.Numbers.{counted}
+use Rattle.proto_decls.specs.declared.part.Numbering.{Numbering}
+use Rattle.proto_decls.specs.declared.part.Numbering.TheVariants.{Fields, Values}
+use Rattle.proto_decls.specs.Numbers.{counted}
 use Rattle.proto_laws.specs.Bodies.{IsInRange, signed}
 
 -- the number that a count stands for: that of an enum value counts from the least

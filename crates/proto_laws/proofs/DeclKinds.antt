@@ -3,15 +3,15 @@ use Rattle.std.proofs.Common.{◌≡◌, ℕ, ◌+◌, List, [], ◌∷◌, ◌+
 use Rattle.std.specs.Prelude.{All, Contains}
 use Rattle.std.specs.List.{Any}
 use Rattle.std.proofs.lemmas.List.Elements.{All-nil, All-cons, All-append, All-weaker, Contains-append_left, Contains-append_right}
-use Rattle.syntax_tree.specs.declared.node.Node.{Node, out-Node, roll-Node, map-Node, out-roll-Node}
-use Rattle.syntax_tree.specs.declared.node.Node.TheOpen.{Node-F}
-use Rattle.syntax_tree.specs.declared.node.Node.TheFolds.{fold-roll-Node, fold_out-Node, ind-Node}
-use Rattle.syntax_tree.specs.declared.node.Span.{Span}
-use Rattle.file_facts.specs.Decls.{declared, Placed, decls_step, decls_of, decls_in}
-use Rattle.file_facts.specs.Text.{joined, text_at}
-use Rattle.file_facts.specs.declared.fact.Decl.{Decl}
-use Rattle.file_facts.specs.declared.fact.DeclKind.{DeclKind}
-use Rattle.file_facts.specs.declared.fact.DeclKind.TheVariants as kind
+use Rattle.proto_tree.specs.declared.node.Node.{Node, out-Node, roll-Node, map-Node, out-roll-Node}
+use Rattle.proto_tree.specs.declared.node.Node.TheOpen.{Node-F}
+use Rattle.proto_tree.specs.declared.node.Node.TheFolds.{fold-roll-Node, fold_out-Node, ind-Node}
+use Rattle.proto_tree.specs.declared.node.Span.{Span}
+use Rattle.proto_decls.specs.Decls.{declared, Placed, decls_step, decls_of, decls_in}
+use Rattle.proto_decls.specs.Text.{joined, text_at}
+use Rattle.proto_decls.specs.declared.fact.Decl.{Decl}
+use Rattle.proto_decls.specs.declared.fact.DeclKind.{DeclKind}
+use Rattle.proto_decls.specs.declared.fact.DeclKind.TheVariants as kind
 use Rattle.proto_laws.specs.Parents.{members_of}
 use Rattle.proto_laws.specs.Scopes.{declared_by, field_in, DeclaresAs, by_statement, in_block}
 use Rattle.proto_laws.proofs.Holders.{cases_in, either, first_in, inside, later_in, none_in}

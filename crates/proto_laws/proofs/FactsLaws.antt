@@ -1,11 +1,11 @@
 -- The facts of a text and a tree, as a relation and as a value.
 use Rattle.std.proofs.Common.{◌≡◌, ℕ, List, Option, Some, None, refl}
-use Rattle.syntax_tree.specs.declared.node.FileTree.{FileTree}
-use Rattle.file_facts.specs.declared.diagnostic.Diag.{Diag}
-use Rattle.file_facts.specs.declared.fact.FileFacts.{FileFacts}
-use Rattle.file_facts.specs.declared.stated.StatedSyntax.{StatedSyntax}
-use Rattle.file_facts.specs.Facts.{AreFactsAt, facts_at, diags_of, packages, imports, decls, allocator}
-use Rattle.file_facts.proofs.DiagOrder.{in_order-is_list, only_list}
+use Rattle.proto_tree.specs.declared.node.FileTree.{FileTree}
+use Rattle.proto_decls.specs.declared.diagnostic.Diag.{Diag}
+use Rattle.proto_decls.specs.declared.fact.FileFacts.{FileFacts}
+use Rattle.proto_decls.specs.declared.stated.StatedSyntax.{StatedSyntax}
+use Rattle.proto_decls.specs.Facts.{AreFactsAt, facts_at, diags_of, packages, imports, decls, allocator}
+use Rattle.proto_decls.proofs.DiagOrder.{in_order-is_list, only_list}
 
 pub facts-are : (o : Option Diag) (syntaxes : List StatedSyntax) (text : List ℕ) (tree : FileTree) → AreFactsAt o syntaxes text tree (facts_at o syntaxes text tree)
 facts-are None syntaxes text tree = record {

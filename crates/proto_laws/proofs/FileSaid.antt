@@ -6,27 +6,27 @@ use Rattle.std.specs.Str.{bytes_eq}
 use Rattle.std.proofs.lemmas.Bool.{cases_lt, false_from_ne_true, ltb-true}
 use Rattle.std.proofs.lemmas.List.Elements.{Contains-append_cases, Contains-append_left, Contains-append_right}
 use Rattle.std.proofs.lemmas.Slice.Eq.{bytes_eq-Decides}
-use Rattle.syntax_tree.specs.declared.node.Fault.{Fault}
-use Rattle.syntax_tree.specs.declared.node.FileTree.{FileTree}
-use Rattle.syntax_tree.specs.declared.node.Literal.{Literal}
-use Rattle.syntax_tree.specs.declared.node.Span.{Span}
-use Rattle.syntax_tree.specs.declared.node.SyntaxProblem.{SyntaxProblem}
-use Rattle.syntax_tree.specs.declared.node.SyntaxProblem.TheVariants as problem
-use Rattle.syntax_tree.specs.declared.node.Node.{Node, out-Node}
-use Rattle.syntax_tree.specs.declared.node.Node.TheOpen.{Node-F}
-use Rattle.file_facts.specs.declared.diagnostic.Diag.{Diag}
-use Rattle.file_facts.specs.declared.fact.Decl.{Decl}
-use Rattle.file_facts.specs.declared.fact.ImportFact.{ImportFact}
-use Rattle.file_facts.specs.declared.problem.Problem.TheVariants as m
-use Rattle.file_facts.specs.declared.stated.StatedPackage.{StatedPackage}
-use Rattle.file_facts.specs.declared.stated.StatedSyntax.{StatedSyntax}
-use Rattle.file_facts.specs.Checks.{judged}
-use Rattle.file_facts.specs.Diags.{diag, diag_of, nowhere}
-use Rattle.file_facts.specs.Facts.{bad_start, declared_twice, decls, diags_of, facts_at, import_of, imported_twice, imports, not_proto3, opaque, package_diags, package_of, package_twice, packages, says_proto3, starts, stated, stated_of, syntax_late}
-use Rattle.file_facts.specs.Members.{ranges}
-use Rattle.file_facts.specs.Starts.{start_of}
-use Rattle.file_facts.specs.Text.{dotted, literal_text}
-use Rattle.file_facts.proofs.DiagOrder.{in_order-is_list}
+use Rattle.proto_tree.specs.declared.node.Fault.{Fault}
+use Rattle.proto_tree.specs.declared.node.FileTree.{FileTree}
+use Rattle.proto_tree.specs.declared.node.Literal.{Literal}
+use Rattle.proto_tree.specs.declared.node.Span.{Span}
+use Rattle.proto_tree.specs.declared.node.SyntaxProblem.{SyntaxProblem}
+use Rattle.proto_tree.specs.declared.node.SyntaxProblem.TheVariants as problem
+use Rattle.proto_tree.specs.declared.node.Node.{Node, out-Node}
+use Rattle.proto_tree.specs.declared.node.Node.TheOpen.{Node-F}
+use Rattle.proto_decls.specs.declared.diagnostic.Diag.{Diag}
+use Rattle.proto_decls.specs.declared.fact.Decl.{Decl}
+use Rattle.proto_decls.specs.declared.fact.ImportFact.{ImportFact}
+use Rattle.proto_decls.specs.declared.problem.Problem.TheVariants as m
+use Rattle.proto_decls.specs.declared.stated.StatedPackage.{StatedPackage}
+use Rattle.proto_decls.specs.declared.stated.StatedSyntax.{StatedSyntax}
+use Rattle.proto_decls.specs.Checks.{judged}
+use Rattle.proto_decls.specs.Diags.{diag, diag_of, nowhere}
+use Rattle.proto_decls.specs.Facts.{bad_start, declared_twice, decls, diags_of, facts_at, import_of, imported_twice, imports, not_proto3, opaque, package_diags, package_of, package_twice, packages, says_proto3, starts, stated, stated_of, syntax_late}
+use Rattle.proto_decls.specs.Members.{ranges}
+use Rattle.proto_decls.specs.Starts.{start_of}
+use Rattle.proto_decls.specs.Text.{dotted, literal_text}
+use Rattle.proto_decls.proofs.DiagOrder.{in_order-is_list}
 use Rattle.proto_laws.specs.Bodies.{reserved_names}
 use Rattle.proto_laws.specs.FileDiagnostics as said
 use Rattle.proto_laws.specs.FileDiagnostics.{DiagnosticsAreSaid, HasNoSyntax, IsFileDiagnostic, IsFirstSyntax, IsOfStatement, IsProto3Diagnostic, StartsBefore, by_fault, by_statement, here, later}

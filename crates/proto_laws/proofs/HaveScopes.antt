@@ -3,16 +3,16 @@ use Rattle.std.proofs.Common.{◌≡◌, ℕ, List, [], Option, Some, None, sym,
 use Rattle.std.specs.Prelude.{Contains}
 use Rattle.std.specs.List.{slice_get}
 use Rattle.std.proofs.lemmas.List.Elements.{All-contains}
-use Rattle.syntax_tree.specs.declared.node.FileTree.{FileTree}
-use Rattle.syntax_tree.specs.declared.node.Node.{Node}
-use Rattle.syntax_tree.specs.Read.{value_tree}
-use Rattle.file_facts.specs.Decls.{decls_in}
-use Rattle.file_facts.specs.Facts.{facts_at, facts_of, first_package, opaque, package_name, packages, stated}
-use Rattle.file_facts.specs.Text.{joined, text_at}
-use Rattle.file_facts.specs.declared.diagnostic.Diag.{Diag}
-use Rattle.file_facts.specs.declared.fact.Decl.{Decl}
-use Rattle.file_facts.specs.declared.fact.DeclKind.TheVariants as kind
-use Rattle.file_facts.specs.declared.stated.StatedSyntax.{StatedSyntax}
+use Rattle.proto_tree.specs.declared.node.FileTree.{FileTree}
+use Rattle.proto_tree.specs.declared.node.Node.{Node}
+use Rattle.proto_tree.specs.Read.{value_tree}
+use Rattle.proto_decls.specs.Decls.{decls_in}
+use Rattle.proto_decls.specs.Facts.{facts_at, facts_of, first_package, opaque, package_name, packages, stated}
+use Rattle.proto_decls.specs.Text.{joined, text_at}
+use Rattle.proto_decls.specs.declared.diagnostic.Diag.{Diag}
+use Rattle.proto_decls.specs.declared.fact.Decl.{Decl}
+use Rattle.proto_decls.specs.declared.fact.DeclKind.TheVariants as kind
+use Rattle.proto_decls.specs.declared.stated.StatedSyntax.{StatedSyntax}
 use Rattle.proto_laws.specs.Scopes.{DeclaresAs, HasScope, NamesHaveScopes, of_file}
 use Rattle.proto_laws.proofs.DeclKinds.{decls-stated, stated-declared}
 use Rattle.proto_laws.proofs.Holders.{none_in}

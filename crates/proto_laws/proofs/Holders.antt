@@ -2,12 +2,12 @@
 use Rattle.std.proofs.Common.{◌≡◌, ◌⊎◌, inl, inr, ℕ, zero, suc, get_or, ◌<◌, List, [], ◌∷◌, ◌++◌, map, Option, Some, None, refl, sym, ap, subst, ◌∙◌, arith, length}
 use Rattle.std.specs.Prelude.{Contains}
 use Rattle.std.proofs.lemmas.List.Elements.{Contains-append_left, Contains-append_right, Contains-append_cases}
-use Rattle.syntax_tree.specs.declared.node.Node.{Node, out-Node, roll-Node, map-Node, out-roll-Node}
-use Rattle.syntax_tree.specs.declared.node.Node.TheOpen.{Node-F}
-use Rattle.syntax_tree.specs.declared.node.Node.TheFolds.{fold-Node, fold-roll-Node, fold_out-Node, ind-Node}
-use Rattle.syntax_tree.specs.declared.node.Span.{Span}
-use Rattle.file_facts.specs.declared.fact.DeclKind.{DeclKind}
-use Rattle.file_facts.specs.declared.fact.DeclKind.TheVariants as kind
+use Rattle.proto_tree.specs.declared.node.Node.{Node, out-Node, roll-Node, map-Node, out-roll-Node}
+use Rattle.proto_tree.specs.declared.node.Node.TheOpen.{Node-F}
+use Rattle.proto_tree.specs.declared.node.Node.TheFolds.{fold-Node, fold-roll-Node, fold_out-Node, ind-Node}
+use Rattle.proto_tree.specs.declared.node.Span.{Span}
+use Rattle.proto_decls.specs.declared.fact.DeclKind.{DeclKind}
+use Rattle.proto_decls.specs.declared.fact.DeclKind.TheVariants as kind
 use Rattle.proto_laws.specs.Parents.{name_of, block_of, members_of, extensions_of, Declares, by_statement, by_extend, StandsIn, here, deeper}
 
 -- a block's kind and name, or no block

@@ -5,21 +5,21 @@ use Rattle.std.specs.List.{cons_option}
 use Rattle.std.proofs.lemmas.Bool.{le-leb}
 use Rattle.std.proofs.lemmas.Bool.Decides.{nat_tests}
 use Rattle.std.proofs.lemmas.List.Elements.{All-nil, All-cons, All-head, All-tail, All-weaker}
-use Rattle.syntax_tree.specs.declared.node.FileTree.{FileTree}
-use Rattle.syntax_tree.specs.declared.node.Node.{Node, out-Node, map-Node}
-use Rattle.syntax_tree.specs.declared.node.Node.TheOpen.{Node-F}
-use Rattle.syntax_tree.specs.declared.node.Node.TheFolds.{fold_out-Node}
-use Rattle.syntax_tree.specs.declared.node.Span.{Span}
-use Rattle.syntax_tree.specs.Identifiers.{AllIdentifiers, IsIdentifier, IsIdentifierAt}
-use Rattle.syntax_tree.specs.Identifiers.{NamesAreIdentifiers as SpansAreIdentifiers}
-use Rattle.syntax_tree.specs.Names.{names_in, type_components_in, package_components_step, package_components_of, package_components_in}
-use Rattle.syntax_tree.specs.Read.{empty_tree, read, value_tree}
-use Rattle.file_facts.specs.declared.diagnostic.Diag.{Diag}
-use Rattle.file_facts.specs.declared.stated.StatedPackage.{StatedPackage}
-use Rattle.file_facts.specs.declared.stated.StatedSyntax.{StatedSyntax}
-use Rattle.file_facts.specs.Facts.{facts_at, first_package, opaque, package_of, packages, stated}
-use Rattle.file_facts.specs.IdentifierLaws.{IsIdentifierIn, NamesAreIdentifiers, PackagesAreIdentifiers}
-use Rattle.file_facts.specs.Text.{is_boundary}
+use Rattle.proto_tree.specs.declared.node.FileTree.{FileTree}
+use Rattle.proto_tree.specs.declared.node.Node.{Node, out-Node, map-Node}
+use Rattle.proto_tree.specs.declared.node.Node.TheOpen.{Node-F}
+use Rattle.proto_tree.specs.declared.node.Node.TheFolds.{fold_out-Node}
+use Rattle.proto_tree.specs.declared.node.Span.{Span}
+use Rattle.proto_tree.specs.Identifiers.{AllIdentifiers, IsIdentifier, IsIdentifierAt}
+use Rattle.proto_tree.specs.Identifiers.{NamesAreIdentifiers as SpansAreIdentifiers}
+use Rattle.proto_tree.specs.Names.{names_in, type_components_in, package_components_step, package_components_of, package_components_in}
+use Rattle.proto_tree.specs.Read.{empty_tree, read, value_tree}
+use Rattle.proto_decls.specs.declared.diagnostic.Diag.{Diag}
+use Rattle.proto_decls.specs.declared.stated.StatedPackage.{StatedPackage}
+use Rattle.proto_decls.specs.declared.stated.StatedSyntax.{StatedSyntax}
+use Rattle.proto_decls.specs.Facts.{facts_at, first_package, opaque, package_of, packages, stated}
+use Rattle.proto_decls.specs.IdentifierLaws.{IsIdentifierIn, NamesAreIdentifiers, PackagesAreIdentifiers}
+use Rattle.proto_decls.specs.Text.{is_boundary}
 
 -- ---- what stands at a span
 

@@ -3,18 +3,18 @@ use Rattle.std.proofs.Common.{◌≡◌, ℕ, List, [], ◌∷◌, ◌++◌, map
 use Rattle.std.specs.List.Sorted.{IsPermutation}
 use Rattle.std.proofs.lemmas.Grind.{flat_map-append}
 use Rattle.std.proofs.lemmas.List.Sorted.{IsPermutation-refl, IsPermutation-trans, IsPermutation-cons, IsPermutation-append, IsPermutation-append_comm}
-use Rattle.syntax_tree.specs.declared.lexeme.Lexeme.{Lexeme}
-use Rattle.syntax_tree.specs.declared.lexeme.Body.{Body}
-use Rattle.syntax_tree.specs.declared.node.Header.TheVariants as header
-use Rattle.syntax_tree.specs.declared.node.Node.{Node, roll-Node, map-Node}
-use Rattle.syntax_tree.specs.declared.node.Node.TheVariants as node
-use Rattle.syntax_tree.specs.declared.node.Node.TheOpen.{Node-F}
-use Rattle.syntax_tree.specs.declared.node.Node.TheFolds.{fold-Node, fold-roll-Node, ind-Node}
-use Rattle.syntax_tree.specs.declared.node.Span.{Span}
-use Rattle.syntax_tree.specs.declared.node.TypeName.{TypeName}
-use Rattle.syntax_tree.specs.Grammar.{◌⊳◌, IsIdent, IsInParentheses, IsHeader, is_syntax, is_import, is_package, is_option, is_field, is_map_field, is_value, is_reserved_in_message, is_reserved_in_enum, is_rpc, is_empty}
-use Rattle.syntax_tree.specs.Names.{joined, names_step, names_of, names_in, type_names_step, type_names_of, type_names_in, components_of, type_components_in, package_components_step, package_components_of, package_components_in}
-use Rattle.syntax_tree.specs.Read.{body_tree}
+use Rattle.proto_tree.specs.declared.lexeme.Lexeme.{Lexeme}
+use Rattle.proto_tree.specs.declared.lexeme.Body.{Body}
+use Rattle.proto_tree.specs.declared.node.Header.TheVariants as header
+use Rattle.proto_tree.specs.declared.node.Node.{Node, roll-Node, map-Node}
+use Rattle.proto_tree.specs.declared.node.Node.TheVariants as node
+use Rattle.proto_tree.specs.declared.node.Node.TheOpen.{Node-F}
+use Rattle.proto_tree.specs.declared.node.Node.TheFolds.{fold-Node, fold-roll-Node, ind-Node}
+use Rattle.proto_tree.specs.declared.node.Span.{Span}
+use Rattle.proto_tree.specs.declared.node.TypeName.{TypeName}
+use Rattle.proto_tree.specs.Grammar.{◌⊳◌, IsIdent, IsInParentheses, IsHeader, is_syntax, is_import, is_package, is_option, is_field, is_map_field, is_value, is_reserved_in_message, is_reserved_in_enum, is_rpc, is_empty}
+use Rattle.proto_tree.specs.Names.{joined, names_step, names_of, names_in, type_names_step, type_names_of, type_names_in, components_of, type_components_in, package_components_step, package_components_of, package_components_in}
+use Rattle.proto_tree.specs.Read.{body_tree}
 use Rattle.proto_laws.proofs.Spelled.{Spell, spell-one, spell-later, spell-joined, spell-sooner, spell-behind, spell-before, spell-turn, type-spelled, full-spelled}
 use Rattle.proto_laws.proofs.TreeSpells.{StatementsSpell, BlocksSpell, body-spells}
 

@@ -2,10 +2,10 @@
 use Rattle.std.proofs.Common.{◌≡◌, ◌<◌, Bool, true, false, List, [], ◌∷◌, ◌++◌, length, refl, sym, ap, ◌∙◌, arith, append_assoc, append-nil}
 use Rattle.std.specs.Prelude.{IsTrue}
 use Rattle.std.proofs.lemmas.Bool.{false≢true}
-use Rattle.syntax_tree.specs.declared.lexeme.Lexeme.{Lexeme}
-use Rattle.syntax_tree.specs.declared.lexeme.Body.{Body}
-use Rattle.syntax_tree.specs.Cut.{ends, items_from, items, AreItems}
-use Rattle.syntax_tree.proofs.ItemEnds.{ends-rest}
+use Rattle.proto_tree.specs.declared.lexeme.Lexeme.{Lexeme}
+use Rattle.proto_tree.specs.declared.lexeme.Body.{Body}
+use Rattle.proto_tree.specs.Cut.{ends, items_from, items, AreItems}
+use Rattle.proto_tree.proofs.ItemEnds.{ends-rest}
 
 -- no shorter front of it ends
 abbrev pub NoSooner : Body → List Lexeme → List Lexeme → Type 0

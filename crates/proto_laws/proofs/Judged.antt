@@ -2,11 +2,11 @@
 use Rattle.std.proofs.Common.{◌≡◌, ◌∙◌, ◌+◌, Bool, true, false, cond, List, take, Option, Some, None, refl, sym, ap, subst, zero-add}
 use Rattle.std.specs.Prelude.{Contains}
 use Rattle.std.specs.List.{enumerate_from}
-use Rattle.syntax_tree.specs.declared.node.Span.{Span}
-use Rattle.file_facts.specs.declared.diagnostic.Diag.{Diag}
-use Rattle.file_facts.specs.declared.problem.Problem.{Problem}
-use Rattle.file_facts.specs.Checks.{diag_if, judged, judged_at}
-use Rattle.file_facts.specs.Diags.{diag}
+use Rattle.proto_tree.specs.declared.node.Span.{Span}
+use Rattle.proto_decls.specs.declared.diagnostic.Diag.{Diag}
+use Rattle.proto_decls.specs.declared.problem.Problem.{Problem}
+use Rattle.proto_decls.specs.Checks.{diag_if, judged, judged_at}
+use Rattle.proto_decls.specs.Diags.{diag}
 use Rattle.proto_laws.specs.Bodies.{Precedes}
 use Rattle.proto_laws.proofs.Holders.{inside}
 use Rattle.proto_laws.proofs.Lists.{before-order, filter_map-has, in_filter_map, in_numbered, numbered-has, order-before}

@@ -4,19 +4,19 @@ use Rattle.std.specs.Prelude.{not, filter}
 use Rattle.std.specs.List.Sorted.{IsStrictlyIncreasing}
 use Rattle.proto_lex.specs.declared.token.Token.{Token}
 use Rattle.proto_lex.specs.Laws.{IsOrderedFrom}
-use Rattle.syntax_tree.specs.declared.lexeme.Lexeme.{Lexeme}
-use Rattle.syntax_tree.specs.declared.lexeme.Body.{Body}
-use Rattle.syntax_tree.specs.declared.lexeme.Body.TheVariants as b
-use Rattle.syntax_tree.specs.declared.node.Header.TheVariants as header
-use Rattle.syntax_tree.specs.declared.node.Node.{Node, roll-Node, map-Node}
-use Rattle.syntax_tree.specs.declared.node.Node.TheVariants as node
-use Rattle.syntax_tree.specs.declared.node.Node.TheOpen.{Node-F}
-use Rattle.syntax_tree.specs.declared.node.Span.{Span}
-use Rattle.syntax_tree.specs.declared.node.TypeName.{TypeName}
-use Rattle.syntax_tree.specs.Lexeme.{lexemes, lexeme_of, is_bad}
-use Rattle.syntax_tree.specs.Grammar.{◌⊳◌, IsIdent, IsType, IsInParentheses, IsHeader, is_syntax, is_import, is_package, is_option, is_field, is_map_field, is_value, is_reserved_in_message, is_reserved_in_enum, is_rpc, is_empty}
-use Rattle.syntax_tree.specs.Names.{names_step, names_of, names_in, type_names_step, type_names_of, type_names_in, type_components_in}
-use Rattle.syntax_tree.specs.Read.{max_blocks, body_tree, tree_of}
+use Rattle.proto_tree.specs.declared.lexeme.Lexeme.{Lexeme}
+use Rattle.proto_tree.specs.declared.lexeme.Body.{Body}
+use Rattle.proto_tree.specs.declared.lexeme.Body.TheVariants as b
+use Rattle.proto_tree.specs.declared.node.Header.TheVariants as header
+use Rattle.proto_tree.specs.declared.node.Node.{Node, roll-Node, map-Node}
+use Rattle.proto_tree.specs.declared.node.Node.TheVariants as node
+use Rattle.proto_tree.specs.declared.node.Node.TheOpen.{Node-F}
+use Rattle.proto_tree.specs.declared.node.Span.{Span}
+use Rattle.proto_tree.specs.declared.node.TypeName.{TypeName}
+use Rattle.proto_tree.specs.Lexeme.{lexemes, lexeme_of, is_bad}
+use Rattle.proto_tree.specs.Grammar.{◌⊳◌, IsIdent, IsType, IsInParentheses, IsHeader, is_syntax, is_import, is_package, is_option, is_field, is_map_field, is_value, is_reserved_in_message, is_reserved_in_enum, is_rpc, is_empty}
+use Rattle.proto_tree.specs.Names.{names_step, names_of, names_in, type_names_step, type_names_of, type_names_in, type_components_in}
+use Rattle.proto_tree.specs.Read.{max_blocks, body_tree, tree_of}
 use Rattle.proto_laws.proofs.Rise.{Rise, rise-sooner, increasing-from_rise}
 use Rattle.proto_laws.proofs.Spelled.{Spell, spell-one, spell-later, spell-joined, spell-sooner, spell-behind, spell-before, spell-turn, spell-parts, type-spelled, start_of, spelled-rise, ident-begins, type-begins}
 use Rattle.proto_laws.proofs.TreeSpells.{StatementsSpell, BlocksSpell, by_level, body-spells}

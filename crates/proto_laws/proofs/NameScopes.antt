@@ -3,16 +3,16 @@ use Rattle.std.proofs.Common.{◌≡◌, ℕ, zero, suc, ◌+◌, ◌-◌, Bool,
 use Rattle.std.specs.Prelude.{Contains}
 use Rattle.std.specs.List.{slice_get}
 use Rattle.std.proofs.lemmas.List.Elements.{Contains-append_cases, Contains-append_left, Contains-append_right}
-use Rattle.syntax_tree.specs.declared.node.Span.{Span}
-use Rattle.syntax_tree.specs.declared.node.TypeName.{TypeName}
-use Rattle.syntax_tree.specs.declared.node.Node.{Node, map-Node, out-Node, out-roll-Node, roll-Node}
-use Rattle.syntax_tree.specs.declared.node.Node.TheOpen.{Node-F}
-use Rattle.syntax_tree.specs.declared.node.Node.TheFolds.{fold-roll-Node, fold_out-Node, ind-Node}
-use Rattle.file_facts.specs.declared.fact.FileFacts.{FileFacts}
-use Rattle.file_facts.specs.declared.fact.PackageFact.{PackageFact}
-use Rattle.file_facts.specs.declared.fact.SyntaxFact.{SyntaxFact}
-use Rattle.file_facts.specs.declared.fact.SyntaxFact.TheVariants.{Opaque, Proto3}
-use Rattle.file_facts.specs.Text.{joined, text_at}
+use Rattle.proto_tree.specs.declared.node.Span.{Span}
+use Rattle.proto_tree.specs.declared.node.TypeName.{TypeName}
+use Rattle.proto_tree.specs.declared.node.Node.{Node, map-Node, out-Node, out-roll-Node, roll-Node}
+use Rattle.proto_tree.specs.declared.node.Node.TheOpen.{Node-F}
+use Rattle.proto_tree.specs.declared.node.Node.TheFolds.{fold-roll-Node, fold_out-Node, ind-Node}
+use Rattle.proto_decls.specs.declared.fact.FileFacts.{FileFacts}
+use Rattle.proto_decls.specs.declared.fact.PackageFact.{PackageFact}
+use Rattle.proto_decls.specs.declared.fact.SyntaxFact.{SyntaxFact}
+use Rattle.proto_decls.specs.declared.fact.SyntaxFact.TheVariants.{Opaque, Proto3}
+use Rattle.proto_decls.specs.Text.{joined, text_at}
 use Rattle.proto_laws.proofs.Holders.{cases_in, either, first_in, later_in, none_in}
 use Rattle.proto_laws.proofs.Lists.{just, one_only}
 use Rattle.import_graph.specs.Imports.{is_opaque}

@@ -4,26 +4,26 @@ use Rattle.std.specs.Prelude.{◌≢◌, ◌⊎◌, ◌&&◌, All, Bool, true, f
 use Rattle.std.specs.List.{Any}
 use Rattle.std.proofs.lemmas.List.{get_or_default}
 use Rattle.std.proofs.lemmas.List.Elements.{All-nil, All-cons, All-head, All-tail, All-append}
-use Rattle.syntax_tree.specs.declared.node.FileTree.{FileTree}
-use Rattle.syntax_tree.specs.declared.node.Node.{Node, roll-Node, map-Node}
-use Rattle.syntax_tree.specs.declared.node.Node.TheOpen.{Node-F}
-use Rattle.syntax_tree.specs.declared.node.Node.TheFolds.{fold-roll-Node, ind-Node}
-use Rattle.syntax_tree.specs.declared.node.Span.{Span}
-use Rattle.syntax_tree.specs.Names.{joined as all_names, names_step, names_of, names_in}
-use Rattle.syntax_tree.specs.Identifiers.{IsIdentifierAt, NamesAreIdentifiers}
-use Rattle.syntax_tree.specs.Read.{empty_tree, read, value_tree}
+use Rattle.proto_tree.specs.declared.node.FileTree.{FileTree}
+use Rattle.proto_tree.specs.declared.node.Node.{Node, roll-Node, map-Node}
+use Rattle.proto_tree.specs.declared.node.Node.TheOpen.{Node-F}
+use Rattle.proto_tree.specs.declared.node.Node.TheFolds.{fold-roll-Node, ind-Node}
+use Rattle.proto_tree.specs.declared.node.Span.{Span}
+use Rattle.proto_tree.specs.Names.{joined as all_names, names_step, names_of, names_in}
+use Rattle.proto_tree.specs.Identifiers.{IsIdentifierAt, NamesAreIdentifiers}
+use Rattle.proto_tree.specs.Read.{empty_tree, read, value_tree}
 use Rattle.proto_laws.proofs.TokenNames.{no_dot}
-use Rattle.file_facts.specs.declared.diagnostic.Diag.{Diag}
-use Rattle.file_facts.specs.declared.fact.Decl.{Decl}
-use Rattle.file_facts.specs.declared.fact.DeclKind.{DeclKind}
-use Rattle.file_facts.specs.declared.fact.DeclKind.TheVariants as kind
-use Rattle.file_facts.specs.declared.fact.PackageFact.{PackageFact}
-use Rattle.file_facts.specs.declared.stated.StatedSyntax.{StatedSyntax}
-use Rattle.file_facts.specs.Decls.{declared, Placed, in_turn, decls_step, decls_of, decls_in}
-use Rattle.file_facts.specs.Facts.{decls, facts_at, facts_of, first_package, opaque, package_name, packages, stated}
+use Rattle.proto_decls.specs.declared.diagnostic.Diag.{Diag}
+use Rattle.proto_decls.specs.declared.fact.Decl.{Decl}
+use Rattle.proto_decls.specs.declared.fact.DeclKind.{DeclKind}
+use Rattle.proto_decls.specs.declared.fact.DeclKind.TheVariants as kind
+use Rattle.proto_decls.specs.declared.fact.PackageFact.{PackageFact}
+use Rattle.proto_decls.specs.declared.stated.StatedSyntax.{StatedSyntax}
+use Rattle.proto_decls.specs.Decls.{declared, Placed, in_turn, decls_step, decls_of, decls_in}
+use Rattle.proto_decls.specs.Facts.{decls, facts_at, facts_of, first_package, opaque, package_name, packages, stated}
 use Rattle.proto_laws.proofs.IdentifierLaws.{of_value, weaker}
-use Rattle.file_facts.specs.Nesting.{HasName, IsWithin, HasOuterNames, NamesNest}
-use Rattle.file_facts.specs.Text.{is_boundary, joined, text_at}
+use Rattle.proto_decls.specs.Nesting.{HasName, IsWithin, HasOuterNames, NamesNest}
+use Rattle.proto_decls.specs.Text.{is_boundary, joined, text_at}
 
 module _ {X : Type 0} (P : X → Type 0) where
   pub all_left : (xs ys : List X) → All P (xs ++ ys) → All P xs

@@ -1,15 +1,15 @@
 -- The names of the packages of a text stand in its tokens.
 use Rattle.std.proofs.Common.{◌≡◌, ℕ, List, [], ◌++◌}
-use Rattle.syntax_tree.specs.declared.lexeme.Lexeme.{Lexeme}
-use Rattle.syntax_tree.specs.declared.lexeme.Body.{Body}
-use Rattle.syntax_tree.specs.declared.node.Header.TheVariants as header
-use Rattle.syntax_tree.specs.declared.node.Node.{Node, roll-Node, map-Node}
-use Rattle.syntax_tree.specs.declared.node.Node.TheVariants as node
-use Rattle.syntax_tree.specs.declared.node.Node.TheOpen.{Node-F}
-use Rattle.syntax_tree.specs.declared.node.Span.{Span}
-use Rattle.syntax_tree.specs.Grammar.{IsIdent, is_syntax, is_import, is_package, is_option, is_field, is_map_field, is_value, is_reserved_in_message, is_reserved_in_enum, is_rpc, is_empty}
-use Rattle.syntax_tree.specs.Names.{package_components_step, package_components_of, package_components_in}
-use Rattle.syntax_tree.specs.Read.{body_tree}
+use Rattle.proto_tree.specs.declared.lexeme.Lexeme.{Lexeme}
+use Rattle.proto_tree.specs.declared.lexeme.Body.{Body}
+use Rattle.proto_tree.specs.declared.node.Header.TheVariants as header
+use Rattle.proto_tree.specs.declared.node.Node.{Node, roll-Node, map-Node}
+use Rattle.proto_tree.specs.declared.node.Node.TheVariants as node
+use Rattle.proto_tree.specs.declared.node.Node.TheOpen.{Node-F}
+use Rattle.proto_tree.specs.declared.node.Span.{Span}
+use Rattle.proto_tree.specs.Grammar.{IsIdent, is_syntax, is_import, is_package, is_option, is_field, is_map_field, is_value, is_reserved_in_message, is_reserved_in_enum, is_rpc, is_empty}
+use Rattle.proto_tree.specs.Names.{package_components_step, package_components_of, package_components_in}
+use Rattle.proto_tree.specs.Read.{body_tree}
 use Rattle.proto_laws.proofs.Spelled.{Spell, spell-behind, spell-before, full-spelled}
 use Rattle.proto_laws.proofs.TreeSpells.{StatementsSpell, BlocksSpell, by_level, body-spells}
 

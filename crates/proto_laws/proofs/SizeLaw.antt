@@ -2,8 +2,8 @@
 use Rattle.std.proofs.Common.{◌≡◌, ℕ, ◌<◌, ◌≤◌, Bool, List, [], length, refl, ap, ◌∙◌, cond}
 use Rattle.std.proofs.lemmas.Bool.{lt-ltb, le-ltb}
 use Rattle.proto_lex.specs.Tokens.{tokens}
-use Rattle.syntax_tree.specs.Cut.{items_from}
-use Rattle.syntax_tree.specs.Read.{empty_tree, body_tree, tree_of, read, value_tree}
+use Rattle.proto_tree.specs.Cut.{items_from}
+use Rattle.proto_tree.specs.Read.{empty_tree, body_tree, tree_of, read, value_tree}
 
 pub nothing_read : read [] ≡ empty_tree
 unfolding read tree_of tokens body_tree items_from

@@ -6,20 +6,20 @@ use Rattle.std.specs.Str.{bytes_eq}
 use Rattle.std.proofs.lemmas.Bool.{and_from, and_parts, eq-eqb, eqb-true, leb-true}
 use Rattle.std.proofs.lemmas.Int.{ints}
 use Rattle.std.proofs.lemmas.Slice.Eq.{bytes_eq-Decides}
-use Rattle.syntax_tree.specs.declared.node.Field.{Field}
-use Rattle.syntax_tree.specs.declared.node.MapField.{MapField}
-use Rattle.syntax_tree.specs.declared.node.Span.{Span}
-use Rattle.syntax_tree.specs.declared.node.Node.{Node, out-Node}
-use Rattle.syntax_tree.specs.declared.node.Node.TheOpen.{Node-F}
-use Rattle.file_facts.specs.declared.diagnostic.Diag.{Diag}
-use Rattle.file_facts.specs.declared.part.Member.{Member}
-use Rattle.file_facts.specs.declared.part.Numbering.TheVariants.{Fields, Values}
-use Rattle.file_facts.specs.declared.problem.Problem.TheVariants as m
-use Rattle.file_facts.specs.Checks.{first_diags, is_kept_free, is_key_word, is_zero, kept_free, key_diags, key_types, label_diags}
-use Rattle.file_facts.specs.Diags.{diag}
-use Rattle.file_facts.specs.Members.{allows_alias, is_alias_option, labels_of, later_labels, labels}
-use Rattle.file_facts.specs.Numbers.{value_of}
-use Rattle.file_facts.specs.Text.{text_at}
+use Rattle.proto_tree.specs.declared.node.Field.{Field}
+use Rattle.proto_tree.specs.declared.node.MapField.{MapField}
+use Rattle.proto_tree.specs.declared.node.Span.{Span}
+use Rattle.proto_tree.specs.declared.node.Node.{Node, out-Node}
+use Rattle.proto_tree.specs.declared.node.Node.TheOpen.{Node-F}
+use Rattle.proto_decls.specs.declared.diagnostic.Diag.{Diag}
+use Rattle.proto_decls.specs.declared.part.Member.{Member}
+use Rattle.proto_decls.specs.declared.part.Numbering.TheVariants.{Fields, Values}
+use Rattle.proto_decls.specs.declared.problem.Problem.TheVariants as m
+use Rattle.proto_decls.specs.Checks.{first_diags, is_kept_free, is_key_word, is_zero, kept_free, key_diags, key_types, label_diags}
+use Rattle.proto_decls.specs.Diags.{diag}
+use Rattle.proto_decls.specs.Members.{allows_alias, is_alias_option, labels_of, later_labels, labels}
+use Rattle.proto_decls.specs.Numbers.{value_of}
+use Rattle.proto_decls.specs.Text.{text_at}
 use Rattle.proto_laws.specs.Bodies.{AllowsAlias, IsInRange, Numbered, Precedes, by_option, number_in}
 use Rattle.proto_laws.proofs.BodyChecks.{known}
 use Rattle.proto_laws.proofs.BodyParts.{in_range, of, value-in}

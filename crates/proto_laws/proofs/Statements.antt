@@ -2,11 +2,11 @@
 use Rattle.std.proofs.Common.{◌≡◌, List, [], ◌∷◌, ◌++◌, map, sym, ap, subst}
 use Rattle.std.specs.Prelude.{Contains}
 use Rattle.std.proofs.lemmas.List.Elements.{Contains-append_cases, Contains-append_left, Contains-append_right}
-use Rattle.syntax_tree.specs.declared.node.Node.{Node, out-Node, out-roll-Node, roll-Node, map-Node}
-use Rattle.syntax_tree.specs.declared.node.Node.TheOpen.{Node-F}
-use Rattle.syntax_tree.specs.declared.node.Node.TheFolds.{ind-Node}
-use Rattle.file_facts.specs.Tree.{all_statements, inside, inside_of}
-use Rattle.file_facts.proofs.Statements.{all_statements-cons}
+use Rattle.proto_tree.specs.declared.node.Node.{Node, out-Node, out-roll-Node, roll-Node, map-Node}
+use Rattle.proto_tree.specs.declared.node.Node.TheOpen.{Node-F}
+use Rattle.proto_tree.specs.declared.node.Node.TheFolds.{ind-Node}
+use Rattle.proto_decls.specs.Tree.{all_statements, inside, inside_of}
+use Rattle.proto_decls.proofs.Statements.{all_statements-cons}
 use Rattle.proto_laws.specs.Bodies.{HasStatement, itself as alone, within}
 use Rattle.proto_laws.proofs.Holders.{cases_in, either, first_in, later_in, none_in}
 

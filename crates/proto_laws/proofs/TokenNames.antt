@@ -12,27 +12,27 @@ use Rattle.proto_lex.specs.Bytes.{class_of, is_letter, is_name_byte, is_quote, i
 use Rattle.proto_lex.specs.Characters.{IsCut}
 use Rattle.proto_lex.specs.Forms.{IsForm, IsIdent as IsIdentForm}
 use Rattle.proto_lex.specs.Tokens.{IsTokenAt, AreTokens, AreTokensFrom, byte_order_mark_len, tokens}
-use Rattle.syntax_tree.specs.declared.lexeme.Lexeme.{Lexeme}
-use Rattle.syntax_tree.specs.declared.lexeme.Body.TheVariants as b
-use Rattle.syntax_tree.specs.declared.lexeme.Word.{Word}
-use Rattle.syntax_tree.specs.declared.lexeme.Word.TheVariants as w
-use Rattle.syntax_tree.specs.declared.node.Span.{Span}
-use Rattle.syntax_tree.specs.Grammar.{IsIdent}
-use Rattle.syntax_tree.specs.Identifiers.{IsIdentifier, IsIdentifierAt, AllIdentifiers, NamesAreIdentifiers}
-use Rattle.syntax_tree.specs.Lexeme.{is_identifier, is_bad, lexeme_of, lexemes, string_word, symbol, word_of}
-use Rattle.syntax_tree.specs.Read.{max_blocks, read, tree_of}
+use Rattle.proto_tree.specs.declared.lexeme.Lexeme.{Lexeme}
+use Rattle.proto_tree.specs.declared.lexeme.Body.TheVariants as b
+use Rattle.proto_tree.specs.declared.lexeme.Terminal.{Terminal}
+use Rattle.proto_tree.specs.declared.lexeme.Terminal.TheVariants as w
+use Rattle.proto_tree.specs.declared.node.Span.{Span}
+use Rattle.proto_tree.specs.Grammar.{IsIdent}
+use Rattle.proto_tree.specs.Identifiers.{IsIdentifier, IsIdentifierAt, AllIdentifiers, NamesAreIdentifiers}
+use Rattle.proto_tree.specs.Lexeme.{is_identifier, is_bad, lexeme_of, lexemes, string_terminal, symbol, terminal_of}
+use Rattle.proto_tree.specs.Read.{max_blocks, read, tree_of}
 use Rattle.proto_laws.proofs.NameOrder.{names-spelled, components-spelled}
 use Rattle.proto_laws.proofs.PackageNames.{packages-spelled}
 use Rattle.proto_laws.proofs.Spelled.{Spell}
 
 -- ---- the words that are identifiers
 
-either : (b : Bool) (x y : Word) → is_identifier x ≡ false → is_identifier y ≡ false → is_identifier (cond b x y) ≡ false
+either : (b : Bool) (x y : Terminal) → is_identifier x ≡ false → is_identifier y ≡ false → is_identifier (cond b x y) ≡ false
 either true x y p q = p
 either false x y p q = q
 
--- nor is the word of a row of a table, or of one behind it
-row : (b : Bool) (x : Word) (y : Option Word) → is_identifier x ≡ false → is_identifier (unwrap_or y w.Slash) ≡ false → is_identifier (unwrap_or (cond b (Some x) y) w.Slash) ≡ false
+-- nor is the terminal of a row of a table, or of one behind it
+row : (b : Bool) (x : Terminal) (y : Option Terminal) → is_identifier x ≡ false → is_identifier (unwrap_or y w.Slash) ≡ false → is_identifier (unwrap_or (cond b (Some x) y) w.Slash) ≡ false
 row true x y p q = p
 row false x y p q = q
 
@@ -42,11 +42,11 @@ no_symbol byte =
     (row (byte == 93) _ _ refl (row (byte == 60) _ _ refl (row (byte == 62) _ _ refl (row (byte == 59) _ _ refl (row (byte == 44) _ _ refl
     (row (byte == 61) _ _ refl (row (byte == 46) _ _ refl (row (byte == 58) _ _ refl (row (byte == 43) _ _ refl (row (byte == 45) _ _ refl refl))))))))))))))
 
-no_string : (bs : List ℕ) → is_identifier (string_word bs) ≡ false
+no_string : (bs : List ℕ) → is_identifier (string_terminal bs) ≡ false
 no_string bs = either (list_any (λ x. x == 92) bs) w.EscapedText w.PlainText refl refl
 
 -- an identifier is a token of that kind
-pub of_ident : (kind : Kind) (bs : List ℕ) → IsForm kind bs → is_identifier (word_of kind bs) ≡ true → IsIdentForm bs
+pub of_ident : (kind : Kind) (bs : List ℕ) → IsForm kind bs → is_identifier (terminal_of kind bs) ≡ true → IsIdentForm bs
 of_ident k.Ident bs form is = form
 of_ident k.Int bs form is = absurd (false≢true is)
 of_ident k.Float bs form is = absurd (false≢true is)
@@ -79,7 +79,7 @@ no_dot (c ∷ bs) form = All-cons (λ c. c ≢ 46) c bs (letter_no_dot c form.0)
 
 -- a token of which this holds if it is an identifier
 abbrev pub IfIdentifier : (Span → Type 0) → Lexeme → Type 0
-IfIdentifier Q t = IsTrue (is_identifier t.word) → Q t.span
+IfIdentifier Q t = IsTrue (is_identifier t.terminal) → Q t.span
 
 module _ (text : List ℕ) where
   -- what is known of each token of the text

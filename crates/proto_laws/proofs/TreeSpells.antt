@@ -1,29 +1,29 @@
 -- What is taken from the statements of a tree is spelled by the tokens, one behind the other.
 use Rattle.std.proofs.Common.{◌≡◌, ℕ, zero, suc, Bool, true, false, List, [], ◌∷◌, ◌++◌, map, Option, Some, None, refl, sym, ap, subst, ◌∙◌, cond, append_assoc, append-nil}
-use Rattle.syntax_tree.specs.declared.lexeme.Lexeme.{Lexeme}
-use Rattle.syntax_tree.specs.declared.lexeme.Body.{Body}
-use Rattle.syntax_tree.specs.declared.lexeme.Word.{Word}
-use Rattle.syntax_tree.specs.declared.lexeme.Word.TheVariants as w
-use Rattle.syntax_tree.specs.declared.node.FileTree.{FileTree}
-use Rattle.syntax_tree.specs.declared.node.Header.{Header}
-use Rattle.syntax_tree.specs.declared.node.Node.{Node, roll-Node, map-Node}
-use Rattle.syntax_tree.specs.declared.node.Node.TheOpen.{Node-F}
-use Rattle.syntax_tree.specs.declared.node.Node.TheFolds.{fold-Node, fold-roll-Node}
-use Rattle.syntax_tree.specs.declared.node.SyntaxProblem.TheVariants.{NotUnderstood, TooDeep, Unfinished}
-use Rattle.syntax_tree.specs.declared.node.Span.{Span}
-use Rattle.syntax_tree.specs.Cut.{items, AreItems, ends_in, is_stray, is_finished}
-use Rattle.syntax_tree.specs.Parts.{but_last, span_of}
-use Rattle.syntax_tree.specs.Forms.{statement, header_and_rest, block_node, body_of}
-use Rattle.syntax_tree.specs.Grammar.{◌⊳◌, IsWord, IsHeader, Spells}
-use Rattle.syntax_tree.specs.Names.{joined}
-use Rattle.syntax_tree.specs.Read.{bad, statement_tree, block_tree, opened_tree, may_open, form_tree, nests, deepest_tree, item_tree, all_items, body_with, body_tree}
+use Rattle.proto_tree.specs.declared.lexeme.Lexeme.{Lexeme}
+use Rattle.proto_tree.specs.declared.lexeme.Body.{Body}
+use Rattle.proto_tree.specs.declared.lexeme.Terminal.{Terminal}
+use Rattle.proto_tree.specs.declared.lexeme.Terminal.TheVariants as w
+use Rattle.proto_tree.specs.declared.node.FileTree.{FileTree}
+use Rattle.proto_tree.specs.declared.node.Header.{Header}
+use Rattle.proto_tree.specs.declared.node.Node.{Node, roll-Node, map-Node}
+use Rattle.proto_tree.specs.declared.node.Node.TheOpen.{Node-F}
+use Rattle.proto_tree.specs.declared.node.Node.TheFolds.{fold-Node, fold-roll-Node}
+use Rattle.proto_tree.specs.declared.node.SyntaxProblem.TheVariants.{NotUnderstood, TooDeep, Unfinished}
+use Rattle.proto_tree.specs.declared.node.Span.{Span}
+use Rattle.proto_tree.specs.Cut.{items, AreItems, ends_in, is_stray, is_finished}
+use Rattle.proto_tree.specs.Parts.{but_last, span_of}
+use Rattle.proto_tree.specs.Forms.{statement, header_and_rest, block_node, body_of}
+use Rattle.proto_tree.specs.Grammar.{◌⊳◌, IsTerminal, IsHeader, Spells}
+use Rattle.proto_tree.specs.Names.{joined}
+use Rattle.proto_tree.specs.Read.{bad, statement_tree, block_tree, opened_tree, may_open, form_tree, nests, deepest_tree, item_tree, all_items, body_with, body_tree}
 use Rattle.proto_laws.proofs.GrammarLemmas.{gives-header, last_token, statement_spelled}
 use Rattle.proto_laws.proofs.ItemsLaw.{are_items}
 use Rattle.proto_laws.proofs.Spelled.{Spell, spell-later, spell-joined, spell-sooner}
 
 -- the tokens of each statement without a block spell what is taken from it
 abbrev pub StatementsSpell : {X : Type 0} → (X → List Lexeme → Type 0) → (Node → List X) → Type 0
-StatementsSpell P of = (body : Body) (first : Word) (span : Span) (n : Node) (ts : List Lexeme) → Spells body first span n ts → Spell P ts (of n)
+StatementsSpell P of = (body : Body) (first : Terminal) (span : Span) (n : Node) (ts : List Lexeme) → Spells body first span n ts → Spell P ts (of n)
 
 -- the tokens of each block do, where those between its braces spell what is taken from the statements inside
 abbrev pub BlocksSpell : {X : Type 0} → (X → List Lexeme → Type 0) → (Node → List X) → Type 0
@@ -46,7 +46,7 @@ module _ {X : Type 0} (P : X → List Lexeme → Type 0) (of : Node → List X) 
     where
       by : (o : Option Node) → statement body (t ∷ ts) ≡ o → Spell P (t ∷ ts) (all_of (statement_tree (t ∷ ts) o).nodes)
       by None e = tt
-      by (Some n) e = subst (Spell P (t ∷ ts)) (sym (append-nil (of n))) (statements body t.word (span_of (t ∷ ts)) n (t ∷ ts) (statement_spelled body t ts n e))
+      by (Some n) e = subst (Spell P (t ∷ ts)) (sym (append-nil (of n))) (statements body t.terminal (span_of (t ∷ ts)) n (t ∷ ts) (statement_spelled body t ts n e))
 
   -- what the tokens but the last spell, all of them do
   but_last-spells : (ts : List Lexeme) (xs : List X) → ends_in w.CloseBrace ts ≡ true → Spell P (but_last 1 ts) xs → Spell P ts xs
@@ -55,7 +55,7 @@ module _ {X : Type 0} (P : X → List Lexeme → Type 0) (of : Node → List X) 
       subst (λ l. Spell P l xs) (sym end.1) (spell-sooner P (but_last 1 ts) (end.0 ∷ []) xs p)
 
   -- a header and its brace, and the body behind it
-  headed-spells : (span : Span) (head : Header) (nodes : List Node) (front behind : List Lexeme) → (IsHeader head ⊳ IsWord w.OpenBrace) front → Spell P behind (all_of nodes) → Spell P (front ++ behind) (of (block_node span head nodes))
+  headed-spells : (span : Span) (head : Header) (nodes : List Node) (front behind : List Lexeme) → (IsHeader head ⊳ IsTerminal w.OpenBrace) front → Spell P behind (all_of nodes) → Spell P (front ++ behind) (of (block_node span head nodes))
   headed-spells span head nodes front behind h q =
       let xs = of (block_node span head nodes) in
       let braced : Spell P (h.1 ++ behind) (all_of nodes) = spell-later P h.1 behind (all_of nodes) q in

@@ -3,29 +3,29 @@ use Rattle.std.proofs.Common.{◌≡◌, ℕ, zero, suc, Bool, true, false, List
 use Rattle.std.specs.Prelude.{◌&&◌}
 use Rattle.std.proofs.lemmas.Bool.{false≢true, eqb-true}
 use denote.Enum.Bare.{same_true}
-use Rattle.syntax_tree.specs.contracts.lexeme.Word.{the_type}
+use Rattle.proto_tree.specs.contracts.lexeme.Terminal.{the_type}
 use Rattle.proto_lex.specs.declared.token.Token.{Token}
 use Rattle.proto_lex.specs.Tokens.{AreTokens, tokens}
-use Rattle.syntax_tree.specs.declared.node.FileTree.{FileTree}
-use Rattle.syntax_tree.specs.declared.node.Header.{Header}
-use Rattle.syntax_tree.specs.declared.node.Node.{Node}
-use Rattle.syntax_tree.specs.declared.node.SyntaxProblem.TheVariants.{TooDeep}
-use Rattle.syntax_tree.specs.declared.lexeme.Lexeme.{Lexeme}
-use Rattle.syntax_tree.specs.declared.lexeme.Body.{Body}
-use Rattle.syntax_tree.specs.declared.lexeme.Body.TheVariants as b
-use Rattle.syntax_tree.specs.declared.lexeme.Word.{Word}
-use Rattle.syntax_tree.specs.declared.lexeme.Word.TheVariants as w
-use Rattle.syntax_tree.specs.Lexeme.{is, lexemes}
-use Rattle.syntax_tree.specs.Cut.{AreItems, IsFirstItem, ends_in, has_block_words, is_at_depth_0, is_file, is_finished, is_stray, items}
-use Rattle.syntax_tree.specs.Parts.{but_last, span_of}
-use Rattle.syntax_tree.specs.Forms.{block_node, body_of, header_and_rest, opens, statement}
-use Rattle.syntax_tree.specs.Grammar.{Spells}
-use Rattle.syntax_tree.specs.Read.{all_items, bad, bad_tokens, body_tree, body_with, deepest_tree, finished_tree, form_tree, is_nesting_word, is_some_header, item_tree, join, max_blocks, may_open, nests, one_node, read, statement_tree, tree_of}
-use Rattle.proto_laws.specs.Trees.{BeginsWith, HasNoHeader, IsTreeOf, Reads, ReadsBody, ReadsInTurn, SpellsNone, first_word, is_block, is_not_understood, is_statement, is_stray_brace, is_too_deep, is_unfinished, no_more, one_more}
+use Rattle.proto_tree.specs.declared.node.FileTree.{FileTree}
+use Rattle.proto_tree.specs.declared.node.Header.{Header}
+use Rattle.proto_tree.specs.declared.node.Node.{Node}
+use Rattle.proto_tree.specs.declared.node.SyntaxProblem.TheVariants.{TooDeep}
+use Rattle.proto_tree.specs.declared.lexeme.Lexeme.{Lexeme}
+use Rattle.proto_tree.specs.declared.lexeme.Body.{Body}
+use Rattle.proto_tree.specs.declared.lexeme.Body.TheVariants as b
+use Rattle.proto_tree.specs.declared.lexeme.Terminal.{Terminal}
+use Rattle.proto_tree.specs.declared.lexeme.Terminal.TheVariants as w
+use Rattle.proto_tree.specs.Lexeme.{is, lexemes}
+use Rattle.proto_tree.specs.Cut.{AreItems, IsFirstItem, ends_in, has_block_words, is_at_depth_0, is_file, is_finished, is_stray, items}
+use Rattle.proto_tree.specs.Parts.{but_last, span_of}
+use Rattle.proto_tree.specs.Forms.{block_node, body_of, header_and_rest, opens, statement}
+use Rattle.proto_tree.specs.Grammar.{Spells}
+use Rattle.proto_tree.specs.Read.{all_items, bad, bad_tokens, body_tree, body_with, deepest_tree, finished_tree, form_tree, is_nesting_word, is_some_header, item_tree, join, max_blocks, may_open, nests, one_node, read, statement_tree, tree_of}
+use Rattle.proto_laws.specs.Trees.{BeginsWith, HasNoHeader, IsTreeOf, Reads, ReadsBody, ReadsInTurn, SpellsNone, first_terminal, is_block, is_not_understood, is_statement, is_stray_brace, is_too_deep, is_unfinished, no_more, one_more}
 use Rattle.proto_laws.proofs.BlockEnds.{blocks_end, closed-yes, opened-no}
 use Rattle.proto_laws.proofs.GrammarLemmas.{gives-header, last_token, statement_spelled}
 use Rattle.proto_laws.proofs.ItemsLaw.{are_items, only}
-use Rattle.proto_laws.proofs.PartsRead.{differs, is_word, starts_turn}
+use Rattle.proto_laws.proofs.PartsRead.{differs, is_terminal, starts_turn}
 use Rattle.proto_laws.proofs.StatementsRead.{but_last_one, ends_in_last, headers_are_read, starts_header, statements_are_read}
 
 -- ---- finished items
@@ -54,7 +54,7 @@ not_stray body (t ∷ []) e = by (is w.CloseBrace t) refl
     by : (c : Bool) → is w.CloseBrace t ≡ c → (is_file body && is w.CloseBrace t) ≡ false
     by false f = ap (λ c. is_file body && c) f ∙ and_false (is_file body)
     by true f =
-        let none = opened-no t (differs (is_word w.CloseBrace) t.word w.OpenBrace f refl) in
+        let none = opened-no t (differs (is_terminal w.CloseBrace) t.terminal w.OpenBrace f refl) in
         absurd (omega (arith, none, closed-yes t f, eqb-true _ _ (left_true (is_at_depth_0 (t ∷ [])) _ e)))
 
 finished_is : (finished : List Lexeme → FileTree) (body : Body) (item : List Lexeme) (tree : FileTree) → is_finished body item ≡ true → finished item ≡ tree → item_tree finished body item ≡ tree
@@ -68,10 +68,10 @@ body-is (suc blocks) body ts = refl
 -- ---- headers
 
 -- the first token of what begins with a header
-first_token : (head : Header) (behind item : List Lexeme) → BeginsWith head behind item → (t : Lexeme) × (ts : List Lexeme) × (item ≡ t ∷ ts) × (t.word ≡ first_word head)
+first_token : (head : Header) (behind item : List Lexeme) → BeginsWith head behind item → (t : Lexeme) × (ts : List Lexeme) × (item ≡ t ∷ ts) × (t.terminal ≡ first_terminal head)
 first_token head behind item h =
     let s = starts_turn _ _ (starts_header head) h.2 in
-    (s.first, s.more ++ behind, h.1 ∙ ap (λ l. l ++ behind) s.whole, same_true the_type (search refl) s.first.word (first_word head) s.passes)
+    (s.first, s.more ++ behind, h.1 ∙ ap (λ l. l ++ behind) s.whole, same_true the_type (search refl) s.first.terminal (first_terminal head) s.passes)
 
 header_is : (head : Header) (behind item : List Lexeme) → BeginsWith head behind item → header_and_rest item ≡ Some (head, behind)
 header_is head behind item h = ap header_and_rest h.1 ∙ headers_are_read head h.0 behind h.2
@@ -79,28 +79,28 @@ header_is head behind item h = ap header_and_rest h.1 ∙ headers_are_read head 
 begins_so : (item : List Lexeme) (head : Header) (behind : List Lexeme) → header_and_rest item ≡ Some (head, behind) → BeginsWith head behind item
 begins_so item head behind e = gives-header item head behind e
 
-nests_is : (head : Header) (behind item : List Lexeme) → BeginsWith head behind item → is_nesting_word (first_word head) ≡ true → nests item ≡ true
+nests_is : (head : Header) (behind item : List Lexeme) → BeginsWith head behind item → is_nesting_word (first_terminal head) ≡ true → nests item ≡ true
 nests_is head behind item h nesting =
     let t = first_token head behind item h in
-    ap nests t.2 ∙ and_true (is_nesting_word t.0.word) (is_some_header (header_and_rest (t.0 ∷ t.1))) (ap is_nesting_word t.3 ∙ nesting) (ap (λ l. is_some_header (header_and_rest l)) (sym t.2) ∙ ap is_some_header (header_is head behind item h))
+    ap nests t.2 ∙ and_true (is_nesting_word t.0.terminal) (is_some_header (header_and_rest (t.0 ∷ t.1))) (ap is_nesting_word t.3 ∙ nesting) (ap (λ l. is_some_header (header_and_rest l)) (sym t.2) ∙ ap is_some_header (header_is head behind item h))
 
-may_open_is : (body : Body) (head : Header) (behind item : List Lexeme) → BeginsWith head behind item → may_open body item ≡ opens body (first_word head)
+may_open_is : (body : Body) (head : Header) (behind item : List Lexeme) → BeginsWith head behind item → may_open body item ≡ opens body (first_terminal head)
 may_open_is body head behind item h = let t = first_token head behind item h in ap (may_open body) t.2 ∙ ap (opens body) t.3
 
 -- what is read where no header decides
 no_header : (blocks : ℕ) (body : Body) (item : List Lexeme) → HasNoHeader blocks body item → finished_tree blocks body item ≡ statement_tree item (statement body item)
 unfolding finished_tree
 no_header zero body [] none = refl
-no_header zero body (t ∷ ts) none = by (is_nesting_word t.word) refl (header_and_rest (t ∷ ts)) refl
+no_header zero body (t ∷ ts) none = by (is_nesting_word t.terminal) refl (header_and_rest (t ∷ ts)) refl
   where
-    by : (c : Bool) → is_nesting_word t.word ≡ c → (o : Option (Header × List Lexeme)) → header_and_rest (t ∷ ts) ≡ o → deepest_tree body (t ∷ ts) ≡ statement_tree (t ∷ ts) (statement body (t ∷ ts))
+    by : (c : Bool) → is_nesting_word t.terminal ≡ c → (o : Option (Header × List Lexeme)) → header_and_rest (t ∷ ts) ≡ o → deepest_tree body (t ∷ ts) ≡ statement_tree (t ∷ ts) (statement body (t ∷ ts))
     by false e o f = rw e refl
     by true e None f = rw (e, f) refl
     by true e (Some p) f =
         let begins = begins_so (t ∷ ts) p.0 p.1 f in
         let first = first_token p.0 p.1 (t ∷ ts) begins in
         let same : t ≡ first.0 = cc (first.2) in
-        absurd (none p.0 p.1 (sym (ap is_nesting_word (ap (λ (x : Lexeme). x.word) same ∙ first.3)) ∙ e) begins)
+        absurd (none p.0 p.1 (sym (ap is_nesting_word (ap (λ (x : Lexeme). x.terminal) same ∙ first.3)) ∙ e) begins)
 no_header (suc blocks) body item none = by (may_open body item) refl (header_and_rest item) refl
   where
     by : (c : Bool) → may_open body item ≡ c → (o : Option (Header × List Lexeme)) → header_and_rest item ≡ o → form_tree (body_tree blocks) body item ≡ statement_tree item (statement body item)
@@ -120,8 +120,8 @@ none_read body (t ∷ ts) none = by (statement body (t ∷ ts)) refl
     by None e = e
     by (Some n) e = absurd (none t ts n refl (statement_spelled body t ts n e))
 
-spelled_read : (body : Body) (item : List Lexeme) (t : Lexeme) (ts : List Lexeme) (n : Node) → item ≡ t ∷ ts → Spells body t.word (span_of item) n item → statement body item ≡ Some n
-spelled_read body item t ts n e h = ap (statement body) e ∙ statements_are_read body t ts n (subst (λ l. Spells body t.word (span_of l) n l) e h)
+spelled_read : (body : Body) (item : List Lexeme) (t : Lexeme) (ts : List Lexeme) (n : Node) → item ≡ t ∷ ts → Spells body t.terminal (span_of item) n item → statement body item ≡ Some n
+spelled_read body item t ts n e h = ap (statement body) e ∙ statements_are_read body t ts n (subst (λ l. Spells body t.terminal (span_of l) n l) e h)
 
 -- ---- no other tree
 
@@ -130,7 +130,7 @@ unfolding finished_tree
 deep_is body item e = rw e refl
 
 -- a block, where its body is read so
-block_is : (blocks : ℕ) (body : Body) (item : List Lexeme) (head : Header) (inside : List Lexeme) (last : Lexeme) (its : FileTree) → opens body (first_word head) ≡ true → BeginsWith head (inside ++ last ∷ []) item → last.word ≡ w.CloseBrace
+block_is : (blocks : ℕ) (body : Body) (item : List Lexeme) (head : Header) (inside : List Lexeme) (last : Lexeme) (its : FileTree) → opens body (first_terminal head) ≡ true → BeginsWith head (inside ++ last ∷ []) item → last.terminal ≡ w.CloseBrace
     → its ≡ body_tree blocks (body_of head) inside → finished_tree (suc blocks) body item ≡ record { nodes = block_node (span_of item) head its.nodes ∷ []; faults = its.faults }
 unfolding finished_tree
 block_is blocks body item head inside last its may begins close same =
@@ -175,7 +175,7 @@ has_statement blocks body item e none = subst (Reads blocks body item) (sym (no_
     by None f = is_not_understood e none (λ t ts n same h. never n (sym (spelled_read body item t ts n same h) ∙ f))
     by (Some n) f = spelled_item blocks body item n e none f
 
-block_words : (body : Body) (it : Word) → opens body it ≡ true → has_block_words body ≡ true
+block_words : (body : Body) (it : Terminal) → opens body it ≡ true → has_block_words body ≡ true
 block_words b.Enum it e = absurd (false≢true e)
 block_words _ it e = refl
 
@@ -186,7 +186,7 @@ has_finished zero body item rest inner first e = by (nests item) refl
   where
     headed : (item : List Lexeme) → is_finished body item ≡ true → nests item ≡ true → Reads zero body item (finished_tree zero body item)
     headed [] e f = absurd (false≢true f)
-    headed (t ∷ ts) e f = decided (header_and_rest (t ∷ ts)) refl (right_true (is_nesting_word t.word) (is_some_header (header_and_rest (t ∷ ts))) f)
+    headed (t ∷ ts) e f = decided (header_and_rest (t ∷ ts)) refl (right_true (is_nesting_word t.terminal) (is_some_header (header_and_rest (t ∷ ts))) f)
       where
         decided : (o : Option (Header × List Lexeme)) → header_and_rest (t ∷ ts) ≡ o → is_some_header (header_and_rest (t ∷ ts)) ≡ true → Reads zero body (t ∷ ts) (finished_tree zero body (t ∷ ts))
         decided None g h = absurd (false≢true (sym (ap is_some_header g) ∙ h))
@@ -194,7 +194,7 @@ has_finished zero body item rest inner first e = by (nests item) refl
             let begins = begins_so (t ∷ ts) p.0 p.1 g in
             let its = first_token p.0 p.1 (t ∷ ts) begins in
             let same : t ≡ its.0 = cc (its.2) in
-            let nesting : is_nesting_word (first_word p.0) ≡ true = sym (ap is_nesting_word (ap (λ (x : Lexeme). x.word) same ∙ its.3)) ∙ left_true (is_nesting_word t.word) (is_some_header (header_and_rest (t ∷ ts))) f in
+            let nesting : is_nesting_word (first_terminal p.0) ≡ true = sym (ap is_nesting_word (ap (λ (x : Lexeme). x.terminal) same ∙ its.3)) ∙ left_true (is_nesting_word t.terminal) (is_some_header (header_and_rest (t ∷ ts))) f in
             subst (Reads zero body (t ∷ ts)) (sym (deep_is body (t ∷ ts) f)) (is_too_deep p.0 p.1 e nesting begins)
 
     by : (c : Bool) → nests item ≡ c → Reads zero body item (finished_tree zero body item)
@@ -202,9 +202,9 @@ has_finished zero body item rest inner first e = by (nests item) refl
     by false f = has_statement zero body item e (λ head behind nesting begins. false≢true (sym f ∙ nests_is head behind item begins nesting))
 has_finished (suc blocks) body item rest inner first e = by (may_open body item) refl (header_and_rest item) refl
   where
-    block : (head : Header) (behind : List Lexeme) → BeginsWith head behind item → opens body (first_word head) ≡ true → Reads (suc blocks) body item (finished_tree (suc blocks) body item)
+    block : (head : Header) (behind : List Lexeme) → BeginsWith head behind item → opens body (first_terminal head) ≡ true → Reads (suc blocks) body item (finished_tree (suc blocks) body item)
     block head behind begins may =
-        let ends = blocks_end body item rest head behind (block_words body (first_word head) may) first e begins in
+        let ends = blocks_end body item rest head behind (block_words body (first_terminal head) may) first e begins in
         let last = last_token w.CloseBrace behind ends in
         let inside = but_last 1 behind in
         let its = inner blocks refl (body_of head) inside in

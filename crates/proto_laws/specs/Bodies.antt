@@ -1,21 +1,21 @@
 -- What the bodies of a file hold, with its numbers as integers: the words in which a file's diagnostics are said.
 use Rattle.std.specs.Prelude.{◌≡◌, ℕ, ℤ, pos, negsuc, neg_ℤ, ◌≤ℤ◌, Bool, List, [], ◌∷◌, Contains, codes, if◌then◌else◌}
 use Rattle.std.specs.List.{flat_map}
-use Rattle.syntax_tree.specs.declared.node.Span.{Span}
-use Rattle.syntax_tree.specs.declared.node.Literal.{Literal}
-use Rattle.syntax_tree.specs.declared.node.Number.{Number}
-use Rattle.syntax_tree.specs.declared.node.RangeEnd.{RangeEnd}
-use Rattle.syntax_tree.specs.declared.node.RangeEnd.TheVariants as bound
-use Rattle.syntax_tree.specs.declared.node.ReservedRange.{ReservedRange}
-use Rattle.syntax_tree.specs.declared.node.TypeName.{TypeName}
-use Rattle.syntax_tree.specs.declared.node.Node.{Node, out-Node}
-use Rattle.syntax_tree.specs.declared.node.Node.TheOpen.{Node-F}
-use Rattle.file_facts.specs.declared.part.Numbering.{Numbering}
-use Rattle.file_facts.specs.declared.part.Numbering.TheVariants.{Fields, Values}
-use Rattle.file_facts.specs.Members.{bounds, names_in, ranges}
-use Rattle.file_facts.specs.Numbers.{int_value, plain}
-use Rattle.file_facts.specs.Text.{text_at}
-use Rattle.file_facts.specs.Tree.{inside}
+use Rattle.proto_tree.specs.declared.node.Span.{Span}
+use Rattle.proto_tree.specs.declared.node.Literal.{Literal}
+use Rattle.proto_tree.specs.declared.node.Number.{Number}
+use Rattle.proto_tree.specs.declared.node.RangeEnd.{RangeEnd}
+use Rattle.proto_tree.specs.declared.node.RangeEnd.TheVariants as bound
+use Rattle.proto_tree.specs.declared.node.ReservedRange.{ReservedRange}
+use Rattle.proto_tree.specs.declared.node.TypeName.{TypeName}
+use Rattle.proto_tree.specs.declared.node.Node.{Node, out-Node}
+use Rattle.proto_tree.specs.declared.node.Node.TheOpen.{Node-F}
+use Rattle.proto_decls.specs.declared.part.Numbering.{Numbering}
+use Rattle.proto_decls.specs.declared.part.Numbering.TheVariants.{Fields, Values}
+use Rattle.proto_decls.specs.Members.{bounds, names_in, ranges}
+use Rattle.proto_decls.specs.Numbers.{int_value, plain}
+use Rattle.proto_decls.specs.Text.{text_at}
+use Rattle.proto_decls.specs.Tree.{inside}
 
 -- ---- lists and trees
 

@@ -1,29 +1,29 @@
 -- What is wrong in a file by itself, each for its reason, and the law that its list of diagnostics has just that.
 use Rattle.std.specs.Prelude.{◌≡◌, ◌≢◌, ◌⊎◌, ◌↔◌, ℕ, ◌<◌, ◌≤◌, ℤ, pos, ◌≤ℤ◌, ◌<ℤ◌, Bool, List, [], ◌∷◌, length, Contains, codes}
-use Rattle.syntax_tree.specs.declared.node.Span.{Span}
-use Rattle.syntax_tree.specs.declared.node.Fault.{Fault}
-use Rattle.syntax_tree.specs.declared.node.Field.{Field}
-use Rattle.syntax_tree.specs.declared.node.FileTree.{FileTree}
-use Rattle.syntax_tree.specs.declared.node.Literal.{Literal}
-use Rattle.syntax_tree.specs.declared.node.MapField.{MapField}
-use Rattle.syntax_tree.specs.declared.node.Number.{Number}
-use Rattle.syntax_tree.specs.declared.node.ReservedRange.{ReservedRange}
-use Rattle.syntax_tree.specs.declared.node.SyntaxProblem.{SyntaxProblem}
-use Rattle.syntax_tree.specs.declared.node.SyntaxProblem.TheVariants as problem
-use Rattle.syntax_tree.specs.declared.node.TypeName.{TypeName}
-use Rattle.syntax_tree.specs.declared.node.Node.{Node, out-Node}
-use Rattle.syntax_tree.specs.declared.node.Node.TheOpen.{Node-F}
-use Rattle.file_facts.specs.declared.diagnostic.Diag.{Diag}
-use Rattle.file_facts.specs.declared.fact.Decl.{Decl}
-use Rattle.file_facts.specs.declared.part.Numbering.{Numbering}
-use Rattle.file_facts.specs.declared.part.Numbering.TheVariants.{Fields, Values}
-use Rattle.file_facts.specs.declared.problem.Problem.TheVariants as m
-use Rattle.file_facts.specs.Checks.{key_types}
-use Rattle.file_facts.specs.Diags.{diag, diag_of, nowhere}
-use Rattle.file_facts.specs.Facts.{decls, facts_in}
-use Rattle.file_facts.specs.Starts.{start_of}
-use Rattle.file_facts.specs.Members.{range_span, ranges}
-use Rattle.file_facts.specs.Text.{literal_text, text_at}
+use Rattle.proto_tree.specs.declared.node.Span.{Span}
+use Rattle.proto_tree.specs.declared.node.Fault.{Fault}
+use Rattle.proto_tree.specs.declared.node.Field.{Field}
+use Rattle.proto_tree.specs.declared.node.FileTree.{FileTree}
+use Rattle.proto_tree.specs.declared.node.Literal.{Literal}
+use Rattle.proto_tree.specs.declared.node.MapField.{MapField}
+use Rattle.proto_tree.specs.declared.node.Number.{Number}
+use Rattle.proto_tree.specs.declared.node.ReservedRange.{ReservedRange}
+use Rattle.proto_tree.specs.declared.node.SyntaxProblem.{SyntaxProblem}
+use Rattle.proto_tree.specs.declared.node.SyntaxProblem.TheVariants as problem
+use Rattle.proto_tree.specs.declared.node.TypeName.{TypeName}
+use Rattle.proto_tree.specs.declared.node.Node.{Node, out-Node}
+use Rattle.proto_tree.specs.declared.node.Node.TheOpen.{Node-F}
+use Rattle.proto_decls.specs.declared.diagnostic.Diag.{Diag}
+use Rattle.proto_decls.specs.declared.fact.Decl.{Decl}
+use Rattle.proto_decls.specs.declared.part.Numbering.{Numbering}
+use Rattle.proto_decls.specs.declared.part.Numbering.TheVariants.{Fields, Values}
+use Rattle.proto_decls.specs.declared.problem.Problem.TheVariants as m
+use Rattle.proto_decls.specs.Checks.{key_types}
+use Rattle.proto_decls.specs.Diags.{diag, diag_of, nowhere}
+use Rattle.proto_decls.specs.Facts.{decls, facts_in}
+use Rattle.proto_decls.specs.Starts.{start_of}
+use Rattle.proto_decls.specs.Members.{range_span, ranges}
+use Rattle.proto_decls.specs.Text.{literal_text, text_at}
 use Rattle.proto_laws.specs.Bodies.{AllowsAlias, HasBounds, HasStatement, IsBody, IsBound, IsInRange, IsNumber, Numbered, Precedes, Reserves, enum_values, from_is, number_in, reserved_names, to_is}
 
 -- ---- what the file is analysed as

@@ -1,16 +1,16 @@
 -- The law of the names of a file: which types are names, and the scopes in which each is looked up.
 use Rattle.std.specs.Prelude.{◌≡◌, ◌↔◌, ℕ, ◌≤◌, ◌+◌, ◌-◌, List, [], ◌∷◌, false, Some, None, Contains, length, map, take}
 use Rattle.std.specs.List.{slice_get}
-use Rattle.syntax_tree.specs.declared.node.Field.{Field}
-use Rattle.syntax_tree.specs.declared.node.MapField.{MapField}
-use Rattle.syntax_tree.specs.declared.node.Span.{Span}
-use Rattle.syntax_tree.specs.declared.node.TypeName.{TypeName}
-use Rattle.syntax_tree.specs.declared.node.Node.{Node, out-Node}
-use Rattle.syntax_tree.specs.declared.node.Node.TheOpen.{Node-F}
-use Rattle.file_facts.specs.declared.fact.FileFacts.{FileFacts}
-use Rattle.file_facts.specs.declared.fact.PackageFact.{PackageFact}
-use Rattle.file_facts.specs.declared.fact.SyntaxFact.TheVariants.{Proto3}
-use Rattle.file_facts.specs.Text.{joined, text_at}
+use Rattle.proto_tree.specs.declared.node.Field.{Field}
+use Rattle.proto_tree.specs.declared.node.MapField.{MapField}
+use Rattle.proto_tree.specs.declared.node.Span.{Span}
+use Rattle.proto_tree.specs.declared.node.TypeName.{TypeName}
+use Rattle.proto_tree.specs.declared.node.Node.{Node, out-Node}
+use Rattle.proto_tree.specs.declared.node.Node.TheOpen.{Node-F}
+use Rattle.proto_decls.specs.declared.fact.FileFacts.{FileFacts}
+use Rattle.proto_decls.specs.declared.fact.PackageFact.{PackageFact}
+use Rattle.proto_decls.specs.declared.fact.SyntaxFact.TheVariants.{Proto3}
+use Rattle.proto_decls.specs.Text.{joined, text_at}
 use Rattle.proto_resolve.specs.declared.site.NameSite.{NameSite}
 use Rattle.proto_resolve.specs.declared.site.Needs.{Needs}
 use Rattle.proto_resolve.specs.declared.site.Needs.TheVariants as needs

@@ -1,11 +1,11 @@
 -- Which declaration's body holds another one.
 use Rattle.std.specs.Prelude.{◌≡◌, ℕ, ◌<◌, List, [], Option, Some, None, Contains, get_or, length}
-use Rattle.syntax_tree.specs.declared.node.Span.{Span}
-use Rattle.syntax_tree.specs.declared.node.Node.{Node, out-Node}
-use Rattle.syntax_tree.specs.declared.node.Node.TheOpen.{Node-F}
-use Rattle.file_facts.specs.declared.fact.Decl.{Decl}
-use Rattle.file_facts.specs.declared.fact.DeclKind.{DeclKind}
-use Rattle.file_facts.specs.declared.fact.DeclKind.TheVariants as kind
+use Rattle.proto_tree.specs.declared.node.Span.{Span}
+use Rattle.proto_tree.specs.declared.node.Node.{Node, out-Node}
+use Rattle.proto_tree.specs.declared.node.Node.TheOpen.{Node-F}
+use Rattle.proto_decls.specs.declared.fact.Decl.{Decl}
+use Rattle.proto_decls.specs.declared.fact.DeclKind.{DeclKind}
+use Rattle.proto_decls.specs.declared.fact.DeclKind.TheVariants as kind
 
 -- the name that a statement declares, if any
 abbrev pub name_of : Node-F Node → Option Span

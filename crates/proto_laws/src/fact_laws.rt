@@ -1,18 +1,18 @@
 // Laws of diagnostics and of facts. Each is proved for all lists, texts and trees, and its function does nothing.
 ghost use Rattle.std.specs.List.Sorted.{IsStrictlyIncreasing};
 ghost use Rattle.std.specs.Prelude.{◌≡◌, ℕ, List, map};
-ghost use Rattle.syntax_tree.specs.declared.node.FileTree.{FileTree};
-ghost use Rattle.file_facts.specs.declared.diagnostic.Diag.{Diag};
-ghost use Rattle.file_facts.specs.declared.fact.FileFacts.{FileFacts};
-ghost use Rattle.file_facts.specs.declared.problem.Problem.{Problem};
-ghost use Rattle.file_facts.specs.Facts.{AreFacts, facts_in, facts_of};
-ghost use Rattle.file_facts.specs.Problems.{problem_order, variant_order};
+ghost use Rattle.proto_tree.specs.declared.node.FileTree.{FileTree};
+ghost use Rattle.proto_decls.specs.declared.diagnostic.Diag.{Diag};
+ghost use Rattle.proto_decls.specs.declared.fact.FileFacts.{FileFacts};
+ghost use Rattle.proto_decls.specs.declared.problem.Problem.{Problem};
+ghost use Rattle.proto_decls.specs.Facts.{AreFacts, facts_in, facts_of};
+ghost use Rattle.proto_decls.specs.Problems.{problem_order, variant_order};
 ghost use Rattle.proto_laws.specs.FileDiagnostics.{DiagnosticsAreSaid};
 ghost use Rattle.proto_laws.specs.Parents.{ParentsHold};
 ghost use Rattle.proto_laws.specs.Scopes.{NamesHaveScopes};
-ghost use Rattle.syntax_tree.specs.Read.{value_tree};
-ghost use Rattle.file_facts.specs.Nesting.{NamesNest};
-ghost use Rattle.file_facts.specs.Order.{IsListOf, in_order as ordered};
+ghost use Rattle.proto_tree.specs.Read.{value_tree};
+ghost use Rattle.proto_decls.specs.Nesting.{NamesNest};
+ghost use Rattle.proto_decls.specs.Order.{IsListOf, in_order as ordered};
 
 use crate::tree_laws::{identifiers_law, names_law, size_law};
 

@@ -1,5 +1,5 @@
 // The law of what the names of a text are made of. It is proved for all texts, and its function does nothing.
-ghost use Rattle.file_facts.specs.IdentifierLaws.{NamesAreIdentifiers, PackagesAreIdentifiers};
+ghost use Rattle.proto_decls.specs.IdentifierLaws.{NamesAreIdentifiers, PackagesAreIdentifiers};
 
 use crate::tree_laws::{identifiers_law, size_law};
 

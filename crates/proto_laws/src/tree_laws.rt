@@ -4,15 +4,15 @@ ghost use Rattle.std.specs.Prelude.{◌≡◌, ◌↔◌, ◌<◌, ◌≤◌, �
 ghost use Rattle.proto_laws.specs.Apart.{NamesAreApart};
 ghost use Rattle.proto_laws.specs.Reading.{HeadersAreRead, HeadersAreUnique, StatementsAreRead, StatementsAreUnique};
 ghost use Rattle.proto_laws.specs.Trees.{BlocksEnd, IsTreeOf, ReadsBody};
-ghost use Rattle.syntax_tree.specs.declared.node.FileTree.{FileTree};
-ghost use Rattle.syntax_tree.specs.Cut.{items, AreItems};
-ghost use Rattle.syntax_tree.specs.Grammar.{HeadersAreSpelled, StatementsAreSpelled};
-ghost use Rattle.syntax_tree.specs.Identifiers.{NamesAreIdentifiers};
-ghost use Rattle.syntax_tree.specs.Names.{names_in, type_components_in, type_names_in};
-ghost use Rattle.syntax_tree.specs.Parts.{IsBalanced, is_balanced};
-ghost use Rattle.syntax_tree.specs.Read.{body_tree, empty_tree, read, value_tree};
-ghost use Rattle.syntax_tree.specs.declared.lexeme.Body.{Body};
-ghost use Rattle.syntax_tree.specs.declared.lexeme.Lexeme.{Lexeme};
+ghost use Rattle.proto_tree.specs.declared.node.FileTree.{FileTree};
+ghost use Rattle.proto_tree.specs.Cut.{items, AreItems};
+ghost use Rattle.proto_tree.specs.Grammar.{HeadersAreSpelled, StatementsAreSpelled};
+ghost use Rattle.proto_tree.specs.Identifiers.{NamesAreIdentifiers};
+ghost use Rattle.proto_tree.specs.Names.{names_in, type_components_in, type_names_in};
+ghost use Rattle.proto_tree.specs.Parts.{IsBalanced, is_balanced};
+ghost use Rattle.proto_tree.specs.Read.{body_tree, empty_tree, read, value_tree};
+ghost use Rattle.proto_tree.specs.declared.lexeme.Body.{Body};
+ghost use Rattle.proto_tree.specs.declared.lexeme.Lexeme.{Lexeme};
 
 use proto_lex::{cut_tokens, one_token_list, ordered_tokens};
 

@@ -2,12 +2,12 @@
 use Rattle.std.proofs.Common.{◌≡◌, ◌∙◌, sym, ap, ap₂, subst, refl, arith, append_assoc, ◌==◌, ◌≤◌, ◌+◌, true, inl, inr, ◌&&◌, ℕ, List, [], ◌∷◌, ◌++◌, false, bytes_eq, length}
 use Rattle.std.specs.Cmp.Lexicographic.{slice_cmp}
 use Rattle.std.specs.Ordering.{nat_cmp}
-use Rattle.file_facts.specs.FullNames.{hash_of, hash_of_parts, has_dot, last_of, scope_of, AreNameParts}
-use Rattle.file_facts.specs.Text.{joined}
+use Rattle.proto_decls.specs.FullNames.{hash_of, hash_of_parts, has_dot, last_of, scope_of, AreNameParts}
+use Rattle.proto_decls.specs.Text.{joined}
 use Rattle.std.proofs.lemmas.Bool.Decides.{nat_tests}
 use Rattle.std.proofs.lemmas.List.{length-append}
-use Rattle.file_facts.proofs.ApartNames.{joined_again, joined_some, same_parts}
-use Rattle.file_facts.proofs.LastParts.{split, last_alone, last_apart, last_leading, scope_alone, scope_leading}
+use Rattle.proto_decls.proofs.ApartNames.{joined_again, joined_some, same_parts}
+use Rattle.proto_decls.proofs.LastParts.{split, last_alone, last_apart, last_leading, scope_alone, scope_leading}
 
 module _ (n s l : List ℕ) (scope : s ≡ scope_of n) (last : l ≡ last_of n) where
   pub whole : joined s l ≡ n

@@ -16,15 +16,15 @@ use Rattle.std.proofs.lemmas.List.Elements.{All-cons, All-head, All-tail, filter
 use Rattle.std.proofs.lemmas.List.Kept.{IsSortedBy-filter}
 use Rattle.std.proofs.lemmas.List.Sorted.{ranks_by}
 use Rattle.std.proofs.lemmas.Slice.Eq.{bytes_eq-Decides}
-use Rattle.file_facts.specs.Text.{joined}
+use Rattle.proto_decls.specs.Text.{joined}
 use Rattle.proto_names.specs.declared.hashed.HashedDecl.{HashedDecl}
 use Rattle.proto_names.specs.declared.hashed.HashedDecls.{HashedDecls}
 use Rattle.proto_names.specs.declared.decl_ref.DeclRef.{DeclRef}
 use Rattle.proto_names.specs.Hashed.{hashed, AreByHash}
-use Rattle.file_facts.specs.FullNames.{hash_of, has_dot, last_of, scope_of}
+use Rattle.proto_decls.specs.FullNames.{hash_of, has_dot, last_of, scope_of}
 use Rattle.proto_names.specs.Tables.{by_scope, stands_in, AreInOrder, IsByScope}
 use Rattle.proto_names.proofs.Hashes.{all_fit, decls_back, is_before, keeps_mapped, put_fitting, Fits}
-use Rattle.file_facts.proofs.LastParts.{parts_of_any}
+use Rattle.proto_decls.proofs.LastParts.{parts_of_any}
 use Rattle.proto_names.proofs.Same.{fits_so, fitting, same_all, same_any, same_mapped}
 
 -- the declarations of one last component

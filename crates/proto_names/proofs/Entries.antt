@@ -12,16 +12,16 @@ use Rattle.std.proofs.lemmas.Grind.{flat_map-append}
 use Rattle.std.proofs.lemmas.List.{drop-set-lt, drop_more, get_or-append-add, get_or-drop, get_or_append_left, length-drop, length-map, length-take-le, map-append, take_more, take_more_set}
 use Rattle.std.proofs.lemmas.List.Elements.{All-append, All-cons, All-head, All-map, All-nil, All-tail, All-weaker, filter-append}
 use Rattle.std.proofs.lemmas.Simd.{map-map}
-use Rattle.file_facts.specs.declared.fact.Decl.{Decl}
-use Rattle.file_facts.specs.declared.named_facts.NamedFacts.{NamedFacts}
+use Rattle.proto_decls.specs.declared.fact.Decl.{Decl}
+use Rattle.proto_decls.specs.declared.named_facts.NamedFacts.{NamedFacts}
 use Rattle.proto_names.specs.declared.hashed.HashedDecl.{HashedDecl}
 use Rattle.proto_names.specs.declared.decl_ref.DeclRef.{DeclRef}
 use Rattle.proto_names.specs.Entries.{all_entries, entries_of, hashes_of, renumbered, with_renumbered, AreEntriesOf}
-use Rattle.proto_names.specs.Files.{all_decls, decl_at, decls_at, facts_at, no_decl, no_facts, refs_of}
+use Rattle.proto_names.specs.Files.{all_decls, decl_at, decls_at, facts_at, no_decl, no_facts, refs_of, name_at}
 use Rattle.proto_names.specs.Hashed.{hashed}
-use Rattle.file_facts.specs.FullNames.{hash_of, last_of}
+use Rattle.proto_decls.specs.FullNames.{hash_of, last_of}
 use Rattle.proto_names.specs.Holders.{is_holder}
-use Rattle.proto_names.specs.Tables.{by_name, by_scope, holder_entries, name_at, name_entries, AreRearranged}
+use Rattle.proto_names.specs.Tables.{by_name, by_scope, holder_entries, name_entries, AreRearranged}
 use Rattle.proto_names.proofs.ByLast.{keeps_fits}
 use Rattle.proto_names.proofs.Hashes.{keeps_mapped}
 use Rattle.proto_names.proofs.Order.{numbered, refs, refs_from, IsFrom}

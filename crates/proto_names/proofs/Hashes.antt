@@ -19,7 +19,7 @@ use Rattle.std.proofs.lemmas.Slice.Eq.{bytes_eq-Decides}
 use Rattle.proto_names.specs.declared.hashed.HashedDecl.{HashedDecl}
 use Rattle.proto_names.specs.declared.decl_ref.DeclRef.{DeclRef}
 use Rattle.proto_names.specs.Hashed.{hashed, with_hash, AreByHash}
-use Rattle.file_facts.specs.FullNames.{hash_of}
+use Rattle.proto_decls.specs.FullNames.{hash_of}
 use Rattle.proto_names.proofs.Search.{below, same}
 
 -- ---- the order

@@ -7,17 +7,17 @@ use Rattle.std.proofs.Math.Path.{fun_ext}
 use Rattle.std.proofs.lemmas.Bool.{cases_Bool}
 use Rattle.std.proofs.lemmas.Bool.Decides.{nat_tests}
 use Rattle.std.proofs.lemmas.Slice.Eq.{bytes_eq-Decides}
-use Rattle.file_facts.specs.Text.{joined}
-use Rattle.file_facts.specs.declared.named_facts.NamedFacts.{NamedFacts}
+use Rattle.proto_decls.specs.Text.{joined}
+use Rattle.proto_decls.specs.declared.named_facts.NamedFacts.{NamedFacts}
 use Rattle.proto_names.specs.declared.hashed.HashedDecl.{HashedDecl}
 use Rattle.proto_names.specs.declared.hashed.HashedDecls.{HashedDecls}
 use Rattle.proto_names.specs.declared.decl_ref.DeclRef.{DeclRef}
 use Rattle.proto_names.specs.Buckets.{is_in, AreInBuckets}
-use Rattle.proto_names.specs.Files.{all_decls, all_named, decl_at}
+use Rattle.proto_names.specs.Files.{all_decls, all_named, decl_at, name_at}
 use Rattle.proto_names.specs.Hashed.{hashed, AreByHash}
-use Rattle.file_facts.specs.FullNames.{hash_of, has_dot, last_of}
+use Rattle.proto_decls.specs.FullNames.{hash_of, has_dot, last_of}
 use Rattle.proto_names.specs.Holders.{is_held, is_holder}
-use Rattle.proto_names.specs.Tables.{by_name, by_scope, holder_entries, name_at, name_entries, stands_in, AreInOrder, AreRearranged, IsByScope}
+use Rattle.proto_names.specs.Tables.{by_name, by_scope, holder_entries, name_entries, stands_in, AreInOrder, AreRearranged, IsByScope}
 use Rattle.proto_names.proofs.ByLast.{any_kept, both_parts, holders_by_last, of_last, AreByLast}
 use Rattle.proto_names.proofs.Hashes.{keeps_mapped}
 use Rattle.proto_names.proofs.Places.{named_up, names_by_hash, names_each, AtMost}

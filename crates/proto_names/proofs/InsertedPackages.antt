@@ -11,10 +11,10 @@ use Rattle.std.proofs.lemmas.List.{get_or-map, length-map, map-append}
 use Rattle.std.proofs.lemmas.List.Edits.{get_or-insert_at, length-insert}
 use Rattle.std.proofs.lemmas.List.Elements.{All-append, All-cons, All-head, All-map, All-nil, All-tail, All-weaker}
 use Rattle.std.proofs.lemmas.List.Sorted.{ranks_by, All-permutation, IsPermutation-append_comm, IsPermutation-append_left, IsPermutation-append_right, IsPermutation-insert, IsPermutation-map, IsPermutation-sym, IsPermutation-to_front, IsPermutation-trans}
-use Rattle.file_facts.specs.declared.fact.FileFacts.{FileFacts}
-use Rattle.file_facts.specs.declared.fact.PackageFact.{PackageFact}
-use Rattle.file_facts.specs.FullNames.{dot}
-use Rattle.file_facts.specs.declared.named_facts.NamedFacts.{NamedFacts}
+use Rattle.proto_decls.specs.declared.fact.FileFacts.{FileFacts}
+use Rattle.proto_decls.specs.declared.fact.PackageFact.{PackageFact}
+use Rattle.proto_decls.specs.FullNames.{dot}
+use Rattle.proto_decls.specs.declared.named_facts.NamedFacts.{NamedFacts}
 use Rattle.proto_names.specs.declared.packages.PackagedFile.{PackagedFile}
 use Rattle.proto_names.specs.Changes.{HadOtherPackages}
 use Rattle.proto_names.specs.Files.{facts_at, no_facts}

@@ -11,21 +11,21 @@ use Rattle.std.proofs.lemmas.List.{get_or-map, length-map, map-id}
 use Rattle.std.proofs.lemmas.List.Edits.{length-insert, length-remove}
 use Rattle.std.proofs.lemmas.List.Elements.{All-head, All-map, All-tail, All-weaker, filter_passes}
 use Rattle.std.proofs.lemmas.Simd.{map-map}
-use Rattle.file_facts.specs.declared.fact.Decl.{Decl}
-use Rattle.file_facts.specs.FullNames.{hash_of, last_of}
-use Rattle.file_facts.specs.declared.named_facts.NamedFacts.{NamedFacts}
+use Rattle.proto_decls.specs.declared.fact.Decl.{Decl}
+use Rattle.proto_decls.specs.FullNames.{hash_of, last_of}
+use Rattle.proto_decls.specs.declared.named_facts.NamedFacts.{NamedFacts}
 use Rattle.proto_names.specs.declared.hashed.HashedDecl.{HashedDecl}
 use Rattle.proto_names.specs.declared.hashed.HashedDecls.{HashedDecls}
 use Rattle.proto_names.specs.declared.moving.Change.{Change}
 use Rattle.proto_names.specs.declared.moving.Change.TheVariants.{Comes, Leaves}
 use Rattle.proto_names.specs.declared.decl_ref.DeclRef.{DeclRef}
 use Rattle.proto_names.specs.Buckets.{is_in, AreInBuckets}
-use Rattle.proto_names.specs.Files.{all_decls, decl_at, decls_at, refs_of}
+use Rattle.proto_names.specs.Files.{all_decls, decl_at, decls_at, refs_of, name_at}
 use Rattle.proto_names.specs.Hashed.{hashed}
 use Rattle.proto_names.specs.Moved.{moved, number_after, with_moved, AreMoved}
 use Rattle.proto_names.specs.Holders.{is_holder}
 use Rattle.proto_names.specs.Replaced.{refs_between, WereInBuckets}
-use Rattle.proto_names.specs.Tables.{by_name, by_scope, holder_entries, name_at, name_entries, AreInOrder}
+use Rattle.proto_names.specs.Tables.{by_name, by_scope, holder_entries, name_entries, AreInOrder}
 use Rattle.proto_names.proofs.ByLast.{keeps_fits}
 use Rattle.proto_names.proofs.Entries.{all_within}
 use Rattle.proto_names.proofs.Hashes.{keeps_mapped}

@@ -8,16 +8,16 @@ use Rattle.std.proofs.lemmas.Bool.Decides.{nat_tests}
 use Rattle.std.proofs.lemmas.List.{map-append}
 use Rattle.std.proofs.lemmas.List.Edits.{get_or-insert_above, get_or-insert_below}
 use Rattle.std.proofs.lemmas.List.Elements.{All-head, All-tail, All-weaker, filter-append}
-use Rattle.file_facts.specs.declared.fact.Decl.{Decl}
-use Rattle.file_facts.specs.declared.fact.FileFacts.{FileFacts}
-use Rattle.file_facts.specs.declared.named_facts.NamedFacts.{NamedFacts}
+use Rattle.proto_decls.specs.declared.fact.Decl.{Decl}
+use Rattle.proto_decls.specs.declared.fact.FileFacts.{FileFacts}
+use Rattle.proto_decls.specs.declared.named_facts.NamedFacts.{NamedFacts}
 use Rattle.proto_names.specs.declared.hashed.HashedDecl.{HashedDecl}
 use Rattle.proto_names.specs.declared.moving.Change.TheVariants.{Comes, Leaves}
 use Rattle.proto_names.specs.declared.decl_ref.DeclRef.{DeclRef}
 use Rattle.proto_names.specs.Entries.{renumbered}
-use Rattle.proto_names.specs.Files.{all_decls, decl_at, facts_at, no_decl, no_facts}
+use Rattle.proto_names.specs.Files.{all_decls, decl_at, facts_at, no_decl, no_facts, name_at}
 use Rattle.proto_names.specs.Moved.{moved, number_after, with_moved}
-use Rattle.proto_names.specs.Tables.{by_name, by_scope, name_at}
+use Rattle.proto_names.specs.Tables.{by_name, by_scope}
 use Rattle.proto_names.proofs.Entries.{decls_behind}
 use Rattle.proto_names.proofs.Hashes.{keeps_all, read_mapped}
 use Rattle.proto_names.proofs.Order.{files_from, refs, refs_from, IsFrom}

@@ -8,20 +8,20 @@ use Rattle.std.proofs.Math.Path.{fun_ext}
 use Rattle.std.proofs.Math.Seq.{map-set_same}
 use Rattle.std.proofs.lemmas.List.{get_or_default, get_or-map}
 use Rattle.std.proofs.lemmas.Simd.{map-map}
-use Rattle.file_facts.specs.declared.fact.Decl.{Decl}
-use Rattle.file_facts.specs.declared.fact.DeclKind.{DeclKind}
-use Rattle.file_facts.specs.declared.fact.FileFacts.{FileFacts}
-use Rattle.file_facts.specs.declared.fact.PackageFact.{PackageFact}
-use Rattle.file_facts.specs.declared.named_facts.NamedFacts.{NamedFacts}
+use Rattle.proto_decls.specs.declared.fact.Decl.{Decl}
+use Rattle.proto_decls.specs.declared.fact.DeclKind.{DeclKind}
+use Rattle.proto_decls.specs.declared.fact.FileFacts.{FileFacts}
+use Rattle.proto_decls.specs.declared.fact.PackageFact.{PackageFact}
+use Rattle.proto_decls.specs.declared.named_facts.NamedFacts.{NamedFacts}
 use Rattle.proto_names.specs.declared.decl_ref.DeclRef.{DeclRef}
 use Rattle.proto_names.specs.Buckets.{AreByName, AreInBuckets}
-use Rattle.proto_names.specs.Files.{all_decls, all_named, decl_at, facts_at, no_decl, no_facts}
-use Rattle.file_facts.specs.FullNames.{dot, last_of}
+use Rattle.proto_names.specs.Files.{all_decls, all_named, decl_at, facts_at, no_decl, no_facts, name_at}
+use Rattle.proto_decls.specs.FullNames.{dot, last_of}
 use Rattle.proto_names.specs.Hashed.{hashed}
 use Rattle.proto_names.specs.Holders.{is_holder}
 use Rattle.proto_names.specs.Outlines.{declared, with_facts, exports}
 use Rattle.proto_names.specs.Packages.{packaged, ArePackaged}
-use Rattle.proto_names.specs.Tables.{all_holders, by_name, by_scope, name_at}
+use Rattle.proto_names.specs.Tables.{all_holders, by_name, by_scope}
 use Rattle.proto_names.specs.declared.buckets.Buckets.{Buckets}
 use Rattle.proto_names.specs.declared.packages.PackagedFile.{PackagedFile}
 use Rattle.proto_names.proofs.Order.{numbered, refs}

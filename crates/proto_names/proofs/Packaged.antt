@@ -8,11 +8,11 @@ use Rattle.std.proofs.lemmas.List.{length_push}
 use Rattle.std.proofs.lemmas.List.Elements.{All-push, All-weaker}
 use Rattle.std.proofs.lemmas.List.Folds.{list_any-append, list_any_none}
 use Rattle.std.proofs.lemmas.List.Sorted.{list_any-IsPermutation}
-use Rattle.file_facts.specs.declared.fact.PackageFact.{PackageFact}
-use Rattle.file_facts.specs.declared.named_facts.NamedFacts.{NamedFacts}
+use Rattle.proto_decls.specs.declared.fact.PackageFact.{PackageFact}
+use Rattle.proto_decls.specs.declared.named_facts.NamedFacts.{NamedFacts}
 use Rattle.proto_names.specs.declared.packages.PackagedFile.{PackagedFile}
 use Rattle.proto_names.specs.Files.{begins, has_package, is_within, is_seen}
-use Rattle.file_facts.specs.FullNames.{dot}
+use Rattle.proto_decls.specs.FullNames.{dot}
 use Rattle.proto_names.specs.Packages.{all_packaged, packaged, AreNoLonger, ArePackaged, AreThoseWith}
 use Rattle.proto_names.proofs.Alike.{any_agree}
 use Rattle.proto_names.proofs.Prefixes.{alone, any_map, dotted}

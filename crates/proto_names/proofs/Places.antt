@@ -15,13 +15,13 @@ use Rattle.std.proofs.lemmas.List.Elements.{All-head, All-tail, filter_passes}
 use Rattle.std.proofs.lemmas.List.Kept.{IsSortedBy-filter}
 use Rattle.std.proofs.lemmas.List.Sorted.{ranks_by, sorted_far}
 use Rattle.std.proofs.lemmas.Slice.Eq.{bytes_eq-Decides}
-use Rattle.file_facts.specs.declared.named_facts.NamedFacts.{NamedFacts}
+use Rattle.proto_decls.specs.declared.named_facts.NamedFacts.{NamedFacts}
 use Rattle.proto_names.specs.declared.hashed.HashedDecl.{HashedDecl}
 use Rattle.proto_names.specs.declared.hashed.HashedDecls.{HashedDecls}
 use Rattle.proto_names.specs.declared.decl_ref.DeclRef.{DeclRef}
 use Rattle.proto_names.specs.Files.{all_named}
 use Rattle.proto_names.specs.Hashed.{hashed, AreByHash}
-use Rattle.file_facts.specs.FullNames.{hash_of}
+use Rattle.proto_decls.specs.FullNames.{hash_of}
 use Rattle.proto_names.specs.Tables.{by_name, by_place, AreInOrder, AreRearranged}
 use Rattle.proto_names.proofs.ByLast.{first_of_two, keeps_fits, second_of_two}
 use Rattle.proto_names.proofs.Hashes.{all_fit, decls_back, is_before, keeps_mapped, put_fitting, Fits}

@@ -14,7 +14,7 @@ use Rattle.std.proofs.lemmas.List.{get_or_default, get_or-drop, get_or-take, len
 use Rattle.std.proofs.lemmas.List.Folds.{list_any-append, list_any_none}
 use Rattle.std.proofs.lemmas.List.Sorted.{searchable_from_sorted, sorted_far, ranks_by}
 use Rattle.proto_names.specs.Files.{ends_component, begins as components_begin}
-use Rattle.file_facts.specs.FullNames.{dot}
+use Rattle.proto_decls.specs.FullNames.{dot}
 use Rattle.proto_names.proofs.Alike.{any_agree}
 use Rattle.proto_names.proofs.Search.{below, same}
 

@@ -10,20 +10,20 @@ use Rattle.std.proofs.lemmas.List.Elements.{All-append, All-map, All-weaker, fil
 use Rattle.std.proofs.lemmas.List.FromFn.{get_or-map-range_with_len, length-map-range_with_len}
 use Rattle.std.proofs.lemmas.List.Sorted.{IsPermutation-filter_both}
 use Rattle.std.proofs.lemmas.Slice.Eq.{bytes_eq-Decides}
-use Rattle.file_facts.specs.declared.fact.Decl.{Decl}
-use Rattle.file_facts.specs.declared.fact.FileFacts.{FileFacts}
-use Rattle.file_facts.specs.declared.named_facts.NamedFacts.{NamedFacts}
+use Rattle.proto_decls.specs.declared.fact.Decl.{Decl}
+use Rattle.proto_decls.specs.declared.fact.FileFacts.{FileFacts}
+use Rattle.proto_decls.specs.declared.named_facts.NamedFacts.{NamedFacts}
 use Rattle.proto_names.specs.declared.hashed.HashedDecl.{HashedDecl}
 use Rattle.proto_names.specs.declared.hashed.HashedDecls.{HashedDecls}
 use Rattle.proto_names.specs.declared.decl_ref.DeclRef.{DeclRef}
 use Rattle.proto_names.specs.Buckets.{is_in, AreInBuckets}
-use Rattle.proto_names.specs.Files.{all_decls, decl_at, decls_at, no_decl, no_facts, refs_of}
+use Rattle.proto_names.specs.Files.{all_decls, decl_at, decls_at, no_decl, no_facts, refs_of, name_at}
 use Rattle.proto_names.specs.Hashed.{hashed}
 use Rattle.proto_names.specs.Holders.{is_holder}
 use Rattle.proto_names.specs.Outlines.{declared, with_facts}
 use Rattle.proto_names.specs.Replaced.{refs_between, AreKept, WereInBuckets}
-use Rattle.proto_names.specs.Tables.{by_name, by_scope, holder_entries, name_at, name_entries, AreInOrder, AreRearranged}
-use Rattle.file_facts.specs.FullNames.{last_of}
+use Rattle.proto_names.specs.Tables.{by_name, by_scope, holder_entries, name_entries, AreInOrder, AreRearranged}
+use Rattle.proto_decls.specs.FullNames.{last_of}
 use Rattle.proto_names.proofs.ByLast.{keeps_fits}
 use Rattle.proto_names.proofs.Entries.{holders_alike, map_alike, names_alike, scopes_alike, sorted_alike}
 use Rattle.proto_names.proofs.Hashes.{keeps_all, keeps_none}

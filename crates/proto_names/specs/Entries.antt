@@ -1,8 +1,8 @@
 -- The hashes of names, and declarations with hashes, before they are put in order.
 use Rattle.std.specs.Prelude.{◌≡◌, ℕ, ◌+◌, List, map}
 use Rattle.std.specs.List.{enumerate_from, flat_map}
-use Rattle.file_facts.specs.FullNames.{hash_of}
-use Rattle.file_facts.specs.declared.named_facts.NamedFacts.{NamedFacts}
+use Rattle.proto_decls.specs.FullNames.{hash_of}
+use Rattle.proto_decls.specs.declared.named_facts.NamedFacts.{NamedFacts}
 use Rattle.proto_names.specs.declared.hashed.HashedDecl.{HashedDecl}
 use Rattle.proto_names.specs.declared.decl_ref.DeclRef.{DeclRef}
 use Rattle.proto_names.specs.Tables.{holder_entries, AreRearranged}

@@ -3,7 +3,7 @@
 use Rattle.std.specs.Prelude.{◌≡◌, ℕ, ◌∷◌, List, map}
 use Rattle.std.specs.List.Sorted.{IsSorted}
 use Rattle.std.specs.Cmp.Lexicographic.{slice_cmp}
-use Rattle.file_facts.specs.FullNames.{hash_of}
+use Rattle.proto_decls.specs.FullNames.{hash_of}
 use Rattle.std.specs.Ordering.{nat_cmp}
 use Rattle.proto_names.specs.declared.hashed.HashedDecl.{HashedDecl}
 use Rattle.proto_names.specs.declared.decl_ref.DeclRef.{DeclRef}

@@ -1,10 +1,10 @@
 -- What may hold the rest of a name, or be a type, found from a scope by the last component of its full name.
 use Rattle.std.specs.Prelude.{◌≡◌, ℕ, ◌<◌, ◌≤◌, List, [], Bool, true, false, Option, Some, None, length, max, min, slice_index_or}
 use Rattle.std.specs.List.{list_any}
-use Rattle.file_facts.specs.declared.named_facts.NamedFacts.{NamedFacts}
-use Rattle.proto_names.specs.Files.{all_named, decl_at}
-use Rattle.file_facts.specs.declared.fact.DeclKind.{DeclKind}
-use Rattle.file_facts.specs.declared.fact.DeclKind.TheVariants.{Message, EnumDef, Service}
+use Rattle.proto_decls.specs.declared.named_facts.NamedFacts.{NamedFacts}
+use Rattle.proto_names.specs.Files.{all_named, kind_at}
+use Rattle.proto_decls.specs.declared.fact.DeclKind.{DeclKind}
+use Rattle.proto_decls.specs.declared.fact.DeclKind.TheVariants.{Message, EnumDef, Service}
 
 -- what may hold the rest of a name
 abbrev pub is_holder : DeclKind → Bool
@@ -15,7 +15,7 @@ is_holder _ = false
 
 -- whether a message, an enum or a service has the full name
 abbrev pub is_held : List NamedFacts → List ℕ → Bool
-is_held files name = list_any (λ r. is_holder (let d = decl_at files r in d.kind)) (all_named files name)
+is_held files name = list_any (λ r. is_holder (kind_at files r)) (all_named files name)
 
 -- the last one of a list that passes, by its place, if one does
 abbrev pub IsLast : (ℕ → Bool) → List ℕ → Option ℕ → Type 0

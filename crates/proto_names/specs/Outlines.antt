@@ -1,9 +1,9 @@
 -- What a file says to those that see it, and other facts of a file.
 use Rattle.std.specs.Prelude.{ℕ, List, [], slice_index_or, slice_set, map, Option, option_map}
-use Rattle.file_facts.specs.declared.fact.Decl.{Decl}
-use Rattle.file_facts.specs.declared.fact.DeclKind.{DeclKind}
-use Rattle.file_facts.specs.declared.fact.FileFacts.{FileFacts}
-use Rattle.file_facts.specs.declared.named_facts.NamedFacts.{NamedFacts}
+use Rattle.proto_decls.specs.declared.fact.Decl.{Decl}
+use Rattle.proto_decls.specs.declared.fact.DeclKind.{DeclKind}
+use Rattle.proto_decls.specs.declared.fact.FileFacts.{FileFacts}
+use Rattle.proto_decls.specs.declared.named_facts.NamedFacts.{NamedFacts}
 
 -- what a declaration says to other files
 abbrev pub declared : Decl → DeclKind × List ℕ

@@ -4,13 +4,13 @@ use Rattle.std.specs.List.{enumerate_from, flat_map}
 use Rattle.std.specs.List.Sorted.{IsPermutation, IsSorted}
 use Rattle.std.specs.Cmp.Lexicographic.{slice_cmp}
 use Rattle.std.specs.Ordering.{nat_cmp}
-use Rattle.file_facts.specs.declared.fact.PackageFact.{PackageFact}
-use Rattle.file_facts.specs.declared.named_facts.NamedFacts.{NamedFacts}
+use Rattle.proto_decls.specs.declared.fact.PackageFact.{PackageFact}
+use Rattle.proto_decls.specs.declared.named_facts.NamedFacts.{NamedFacts}
 use Rattle.proto_names.specs.declared.packages.PackagedFile.{PackagedFile}
 use Rattle.proto_names.specs.declared.moving.Change.TheVariants.{Comes}
 use Rattle.proto_names.specs.Files.{has_package, is_seen}
 use Rattle.proto_names.specs.Moved.{number_after}
-use Rattle.file_facts.specs.FullNames.{dot}
+use Rattle.proto_decls.specs.FullNames.{dot}
 
 -- a file is listed where it has the package
 abbrev pub AreThoseWith : List NamedFacts → List ℕ → List ℕ → Type 0

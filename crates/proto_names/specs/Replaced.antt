@@ -3,7 +3,7 @@ use Rattle.std.specs.Prelude.{◌≡◌, ℕ, ◌+◌, ◌-◌, ◌<◌, ◌≤�
 use Rattle.std.specs.List.{range_with_len}
 use Rattle.std.specs.Ordering.{is_lt}
 use Rattle.std.specs.declared.cmp.Ordering.{Ordering}
-use Rattle.file_facts.specs.declared.fact.Decl.{Decl}
+use Rattle.proto_decls.specs.declared.fact.Decl.{Decl}
 use Rattle.proto_names.specs.declared.hashed.HashedDecl.{HashedDecl}
 use Rattle.proto_names.specs.declared.hashed.HashedDecls.{HashedDecls}
 use Rattle.proto_names.specs.declared.decl_ref.DeclRef.{DeclRef}

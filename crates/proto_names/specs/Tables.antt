@@ -5,18 +5,14 @@ use Rattle.std.specs.List.Sorted.{IsSorted, IsSortedBy}
 use Rattle.std.specs.Cmp.Lexicographic.{slice_cmp}
 use Rattle.std.specs.Ordering.{is_lt, nat_cmp, ordering_then}
 use Rattle.std.specs.declared.cmp.Ordering.{Ordering}
-use Rattle.file_facts.specs.declared.named_facts.NamedFacts.{NamedFacts}
+use Rattle.proto_decls.specs.declared.named_facts.NamedFacts.{NamedFacts}
 use Rattle.proto_names.specs.declared.hashed.HashedDecl.{HashedDecl}
 use Rattle.proto_names.specs.declared.hashed.HashedDecls.{HashedDecls}
 use Rattle.proto_names.specs.declared.decl_ref.DeclRef.{DeclRef}
-use Rattle.proto_names.specs.Files.{all_decls, decl_at}
-use Rattle.file_facts.specs.FullNames.{last_of, scope_of}
+use Rattle.proto_names.specs.Files.{all_decls, kind_at, name_at}
+use Rattle.proto_decls.specs.FullNames.{last_of, scope_of}
 use Rattle.proto_names.specs.Hashed.{hashed}
 use Rattle.proto_names.specs.Holders.{is_holder}
-
--- the full name of a declaration
-abbrev pub name_at : List NamedFacts → DeclRef → List ℕ
-name_at files r = let d = decl_at files r in d.full_name
 
 -- declarations by what stands before their last components
 abbrev pub IsByScope : (DeclRef → List ℕ) → List DeclRef → Type 0
@@ -62,7 +58,7 @@ name_entries files = map (hashed (name_at files)) (all_decls files)
 
 -- those of the files that may settle a scope
 abbrev pub all_holders : List NamedFacts → List DeclRef
-all_holders files = filter (λ r. is_holder (let d = decl_at files r in d.kind)) (all_decls files)
+all_holders files = filter (λ r. is_holder (kind_at files r)) (all_decls files)
 
 -- entries for these by their last components
 abbrev pub holder_entries : List NamedFacts → List HashedDecl

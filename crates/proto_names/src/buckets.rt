@@ -11,7 +11,7 @@ ghost use Rattle.proto_names.specs.Tables.{AreInOrder};
 use crate::decl_ref::DeclRef;
 use crate::entry_order::{EntryOrder, sort_entries};
 use crate::hashed::{HashedDecl, HashedDecls, apart};
-use file_facts::NamedFacts;
+use proto_decls::NamedFacts;
 use std::alloc::{AllocError, Global};
 
 /// Declarations in buckets. A hash belongs to the bucket whose number is its remainder by the number of buckets.

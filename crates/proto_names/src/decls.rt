@@ -10,7 +10,7 @@ ghost use Rattle.proto_names.specs.Replaced.{refs_between};
 
 use crate::decl_ref::DeclRef;
 use crate::moving::{Change, renumber};
-use file_facts::{Decl, NamedFacts};
+use proto_decls::{Decl, NamedFacts};
 use std::alloc::{AllocError, Global};
 
 fn push_decls(file: usize, decls: &[Decl], found: &mut Vec<DeclRef>) -> Result<(), AllocError>
@@ -22,7 +22,7 @@ fn push_decls(file: usize, decls: &[Decl], found: &mut Vec<DeclRef>) -> Result<(
     Ok(())
 }
 
-// Those of a file, by offset.
+// The declarations of a file, by offset.
 pub fn decls_of(
     alloc: Global,
     files: &[NamedFacts],
@@ -36,7 +36,7 @@ pub fn decls_of(
     Ok(found)
 }
 
-// Those of a file from one number up to another.
+// The declarations of a file from one number up to another.
 pub fn decls_between(
     alloc: Global,
     file: usize,
@@ -53,11 +53,20 @@ pub fn decls_between(
     Ok(found)
 }
 
+// How many declarations files have.
+fn count_decls(files: &[NamedFacts]) -> usize {
+    let mut count: usize = 0;
+    for file in files {
+        count = count.saturating_add(file.facts.get().decls.as_slice().len());
+    }
+    count
+}
+
 /// All declarations of files, by file, then offset. An `Err` comes only where memory was refused.
 pub fn all_decls(alloc: Global, files: &[NamedFacts]) -> Result<Vec<DeclRef>, AllocError>
     ensures { IfOk result (λ d. d.items ≡ all_decls files.now) }
 {
-    let mut found = Vec::new(alloc);
+    let mut found = Vec::with_capacity(alloc, count_decls(files))?;
     for (number, file) in files.iter().enumerate() {
         push_decls(number, file.facts.get().decls.as_slice(), &mut found)?;
     }

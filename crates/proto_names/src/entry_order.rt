@@ -4,12 +4,13 @@ ghost use Rattle.std.specs.Cmp.{IsTotalOrder};
 ghost use Rattle.std.specs.Cmp.Lexicographic.{slice_cmp};
 ghost use Rattle.std.specs.List.Sorted.{IsPermutation, IsSorted};
 ghost use Rattle.std.specs.Ordering.{nat_cmp, ordering_then};
-ghost use Rattle.proto_names.specs.Tables.{by_place, name_at};
+ghost use Rattle.proto_names.specs.Files.{name_at};
+ghost use Rattle.proto_names.specs.Tables.{by_place};
 
 use crate::decl_ref::DeclRef;
 use crate::hashed::HashedDecl;
 use crate::naming::parts_at;
-use file_facts::{NameParts, NamedFacts};
+use proto_decls::{NameParts, NamedFacts};
 use std::alloc::AllocError;
 use std::cmp::Ordering;
 
@@ -17,7 +18,7 @@ use std::cmp::Ordering;
 pub trait EntryOrder {
     ghost use Rattle.std.specs.Prelude.{◌≡◌, List};
     ghost use Rattle.std.specs.declared.cmp.Ordering.{Ordering};
-    ghost use Rattle.file_facts.specs.declared.named_facts.NamedFacts.{NamedFacts};
+    ghost use Rattle.proto_decls.specs.declared.named_facts.NamedFacts.{NamedFacts};
     ghost use Rattle.proto_names.specs.declared.hashed.HashedDecl.{HashedDecl};
 
     ghost order: { List NamedFacts → HashedDecl → HashedDecl → Ordering };
@@ -31,7 +32,7 @@ pub trait EntryOrder {
 pub struct ByName;
 
 impl EntryOrder for ByName {
-    ghost use Rattle.proto_names.specs.Tables.{by_name, name_at};
+    ghost use Rattle.proto_names.specs.Tables.{by_name};
 
     ghost order = { λ files. by_name (name_at files) };
 
@@ -47,7 +48,8 @@ impl EntryOrder for ByName {
 pub struct ByScope;
 
 impl EntryOrder for ByScope {
-    ghost use Rattle.proto_names.specs.Tables.{by_scope, name_at};
+    ghost use Rattle.proto_names.specs.Files.{name_at};
+    ghost use Rattle.proto_names.specs.Tables.{by_scope};
 
     ghost order = { λ files. by_scope (name_at files) };
 

@@ -4,13 +4,13 @@ ghost use Rattle.std.specs.Prelude.{◌≡◌, ◌≤◌, ◌==◌, ℕ, true, f
 ghost use Rattle.std.specs.Cmp.Lexicographic.{slice_cmp};
 ghost use Rattle.std.specs.List.Sorted.{IsNonDecreasing, IsPartitionPoint, IsPartitionedBy, IsSorted};
 ghost use Rattle.std.specs.Ordering.{is_lt, nat_cmp};
-ghost use Rattle.file_facts.specs.FullNames.{hash_of, AreNameParts};
-ghost use Rattle.file_facts.specs.Text.{joined};
+ghost use Rattle.proto_decls.specs.FullNames.{hash_of, AreNameParts};
+ghost use Rattle.proto_decls.specs.Text.{joined};
 ghost use Rattle.proto_names.specs.Hashed.{AreByHash, hashed};
 
 use crate::decl_ref::DeclRef;
 use crate::naming::Naming;
-use file_facts::{NameParts, NamedFacts};
+use proto_decls::{NameParts, NamedFacts};
 use std::alloc::{AllocError, Global};
 
 /// A declaration with the hash of the text by which it is looked up: its full name, or a part of it.

@@ -2,14 +2,14 @@
 ghost use Rattle.std.specs.Prelude.{◌≡◌, ◌<◌, ◌≤◌, ℕ, All, IfOk, IfSome, None, take, filter, length, false, true, nat_eq};
 ghost use Rattle.std.specs.List.{starts_with};
 ghost use Rattle.std.specs.List.Sorted.{IsNonDecreasing};
-ghost use Rattle.proto_names.specs.Files.{decl_at};
+ghost use Rattle.proto_names.specs.Files.{kind_at, name_at};
 ghost use Rattle.proto_names.specs.Holders.{IsLast, is_holder};
-ghost use Rattle.proto_names.specs.Tables.{name_at, stands_in, IsByScope};
-ghost use Rattle.file_facts.specs.FullNames.{scope_of};
+ghost use Rattle.proto_names.specs.Tables.{stands_in, IsByScope};
+ghost use Rattle.proto_decls.specs.FullNames.{scope_of};
 
 use crate::decl_ref::DeclRef;
 use crate::naming::parts_at;
-use file_facts::{DeclKind, NamedFacts};
+use proto_decls::{DeclKind, NamedFacts};
 use std::alloc::{AllocError, Global};
 
 /// Whether a declaration of this kind may hold the rest of a name: a message, an enum or a service.
@@ -23,7 +23,7 @@ pub fn is_holder(kind: DeclKind) -> bool
 }
 
 fn kind_of(files: &[NamedFacts], decl: DeclRef) -> DeclKind
-    ensures { result ≡ (let d = decl_at files.now decl in d.kind) }
+    ensures { result ≡ kind_at files.now decl }
 {
     match files.get(decl.file) {
         None => DeclKind::Field,
@@ -34,13 +34,13 @@ fn kind_of(files: &[NamedFacts], decl: DeclRef) -> DeclKind
     }
 }
 
-// Those of the declarations that may settle a scope.
+// Of some declarations those that may settle a scope.
 pub fn holders_of(
     alloc: Global,
     files: &[NamedFacts],
     decls: &[DeclRef],
 ) -> Result<Vec<DeclRef>, AllocError>
-    ensures { IfOk result (λ hs. hs.items ≡ filter (λ r. is_holder (let d = decl_at files.now r in d.kind)) decls.now) }
+    ensures { IfOk result (λ hs. hs.items ≡ filter (λ r. is_holder (kind_at files.now r)) decls.now) }
 {
     let mut found = Vec::new(alloc);
     for decl in decls {

@@ -1,11 +1,11 @@
 // Declarations of a file that a change leaves as they were.
 ghost use Rattle.std.specs.Prelude.{◌≡◌, ◌≤◌, ◌<◌, ◌+◌, ℕ, length, slice_index_or};
-ghost use Rattle.file_facts.specs.declared.fact.Decl.{Decl};
+ghost use Rattle.proto_decls.specs.declared.fact.Decl.{Decl};
 ghost use Rattle.proto_names.specs.Outlines.{declared};
 ghost use Rattle.proto_names.specs.Replaced.{AreKept};
 
 use crate::outline::is_alike;
-use file_facts::Decl;
+use proto_decls::Decl;
 
 // How many declarations at the front and at the back say the same to other files before and after a change, at the same numbers.
 #[derive(Clone, Copy)]

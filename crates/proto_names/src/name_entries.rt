@@ -1,12 +1,12 @@
 // Files with the hashes of the names of their declarations, before these are put in order.
 ghost use Rattle.std.specs.Prelude.{◌≡◌, ◌≤◌, ◌+◌, ◌-◌, ◌++◌, ◌<◌, All, IfOk, OnOk, [], length, map, filter};
 ghost use Rattle.proto_names.specs.Entries.{hashes_of, with_renumbered, AreEntriesOf};
-ghost use Rattle.proto_names.specs.Files.{decl_at, decls_at, refs_of};
+ghost use Rattle.proto_names.specs.Files.{decls_at, refs_of, kind_at, name_at};
 ghost use Rattle.proto_names.specs.Hashed.{hashed};
 ghost use Rattle.proto_names.specs.Holders.{is_holder};
 ghost use Rattle.proto_names.specs.Replaced.{refs_between};
-ghost use Rattle.proto_names.specs.Tables.{holder_entries, name_at};
-ghost use Rattle.file_facts.specs.FullNames.{hash_of, last_of};
+ghost use Rattle.proto_names.specs.Tables.{holder_entries};
+ghost use Rattle.proto_decls.specs.FullNames.{hash_of, last_of};
 
 use crate::decl_ref::DeclRef;
 use crate::decls::{decls_between, decls_of};
@@ -15,7 +15,7 @@ use crate::hashed::{HashedDecl, hashed_decls};
 use crate::holders::holders_of;
 use crate::kept::Kept;
 use crate::naming::{FullNames, LastComponents};
-use file_facts::{Decl, NamedFacts};
+use proto_decls::{Decl, NamedFacts};
 use std::alloc::{AllocError, Global};
 use std::marker::Model;
 
@@ -34,7 +34,7 @@ pub struct NameEntries {
 
 impl Model for NameEntries {
     ghost use Rattle.std.specs.Prelude.{List, map};
-    ghost use Rattle.file_facts.specs.declared.named_facts.NamedFacts.{NamedFacts};
+    ghost use Rattle.proto_decls.specs.declared.named_facts.NamedFacts.{NamedFacts};
     ghost use Rattle.proto_names.specs.Entries.{AreEntriesOf};
 
     ghost Value = { List NamedFacts };
@@ -61,7 +61,7 @@ fn holders_among(
     files: &[NamedFacts],
     decls: &[DeclRef],
 ) -> Result<Vec<HashedDecl>, AllocError>
-    ensures { IfOk result (λ v. v.items ≡ map (hashed (λ r. last_of (name_at files.now r))) (filter (λ r. is_holder (let d = decl_at files.now r in d.kind)) decls.now)) }
+    ensures { IfOk result (λ v. v.items ≡ map (hashed (λ r. last_of (name_at files.now r))) (filter (λ r. is_holder (kind_at files.now r)) decls.now)) }
 {
     let holders = holders_of(alloc, files, decls)?;
     hashed_decls::<LastComponents>(alloc, files, holders.as_slice())
@@ -78,7 +78,7 @@ fn name_hashes(alloc: Global, decls: &[Decl]) -> Result<Vec<u64>, AllocError>
     Ok(hashes)
 }
 
-// The same for each of some files.
+// The hashes of the full names of the declarations of each of some files.
 fn all_hashes(alloc: Global, files: &[NamedFacts]) -> Result<Vec<Vec<u64>>, AllocError>
     ensures { IfOk result (λ hashes. map (λ own. own.items) hashes.items ≡ map hashes_of files.now) }
 {
@@ -96,13 +96,13 @@ fn holders_in(
     file: usize,
 ) -> Result<Vec<HashedDecl>, AllocError>
     requires { file < length files.now }
-    ensures { IfOk result (λ v. v.items ≡ map (hashed (λ r. last_of (name_at files.now r))) (filter (λ r. is_holder (let d = decl_at files.now r in d.kind)) (refs_of file (decls_at files.now file)))) }
+    ensures { IfOk result (λ v. v.items ≡ map (hashed (λ r. last_of (name_at files.now r))) (filter (λ r. is_holder (kind_at files.now r)) (refs_of file (decls_at files.now file)))) }
 {
     let decls = decls_of(alloc, files, file)?;
     holders_among(alloc, files, decls.as_slice())
 }
 
-// The same of all files.
+// Entries for those declarations of all files that may settle a scope.
 fn all_holders(alloc: Global, files: &[NamedFacts]) -> Result<Vec<HashedDecl>, AllocError>
     ensures { IfOk result (λ v. v.items ≡ holder_entries files.now) }
 {
@@ -132,7 +132,7 @@ pub fn entries_beside(
     requires within { file < length files.now }
     requires kept { kept.front + kept.back ≤ length (decls_at files.now file) }
     ensures names { IfOk result (λ e. e.names.items ≡ map (hashed (name_at files.now)) (refs_between file kept.front (length (decls_at files.now file) - kept.back))) }
-    ensures holders { IfOk result (λ e. e.holders.items ≡ map (hashed (λ r. last_of (name_at files.now r))) (filter (λ r. is_holder (let d = decl_at files.now r in d.kind)) (refs_between file kept.front (length (decls_at files.now file) - kept.back)))) }
+    ensures holders { IfOk result (λ e. e.holders.items ≡ map (hashed (λ r. last_of (name_at files.now r))) (filter (λ r. is_holder (kind_at files.now r)) (refs_between file kept.front (length (decls_at files.now file) - kept.back)))) }
 {
     let end = files[file].facts.get().decls.as_slice().len() - kept.back;
     let decls = decls_between(alloc, file, kept.front, end)?;
@@ -194,6 +194,13 @@ impl NameEntries {
             hashes,
             holders: vec![in alloc; holders]?,
         })
+    }
+
+    /// How many files there are.
+    pub fn file_count(&self) -> usize
+        ensures { result ≡ length self.now }
+    {
+        self.files.len()
     }
 
     /// The files; the hashes of the full names of the declarations of each one, by offset; and entries for what may settle a scope, by last

@@ -2,15 +2,15 @@
 ghost use Rattle.std.specs.Prelude.{◌≡◌, ◌<◌, ◌≤◌, length, map, take, All, false, IfOk};
 ghost use Rattle.std.specs.List.{flat_map, insert, remove};
 ghost use Rattle.std.specs.List.Sorted.{IsNonDecreasing};
-ghost use Rattle.file_facts.specs.Text.{joined};
+ghost use Rattle.proto_decls.specs.Text.{joined};
 ghost use Rattle.proto_names.specs.Buckets.{AreByName, AreInBuckets};
 ghost use Rattle.proto_names.specs.Entries.{all_entries};
-ghost use Rattle.proto_names.specs.Files.{all_named, facts_at};
+ghost use Rattle.proto_names.specs.Files.{all_named, facts_at, name_at};
 ghost use Rattle.proto_names.specs.Holders.{is_held, IsLast};
-ghost use Rattle.file_facts.specs.FullNames.{AreNameParts, has_dot, hash_of};
+ghost use Rattle.proto_decls.specs.FullNames.{AreNameParts, has_dot, hash_of};
 ghost use Rattle.proto_names.specs.Outlines.{with_facts, exports};
 ghost use Rattle.proto_names.specs.Replaced.{WereInBuckets};
-ghost use Rattle.proto_names.specs.Tables.{by_name, by_scope, holder_entries, name_at, name_entries};
+ghost use Rattle.proto_names.specs.Tables.{by_name, by_scope, holder_entries, name_entries};
 
 use crate::buckets::{Buckets, count_one};
 use crate::decl_ref::DeclRef;
@@ -23,7 +23,7 @@ use crate::name_entries::{NameEntries, OwnEntries, entries_beside};
 use crate::naming::{FullNames, LastComponents};
 use crate::packages::unsplit;
 use crate::replacing::{change_holders, change_names};
-use file_facts::{FullName, NameParts, NamedFacts, SharedFacts, split_name};
+use proto_decls::{FullName, NameParts, NamedFacts, SharedFacts, split_name};
 use std::alloc::{AllocError, Global};
 use std::marker::Model;
 
@@ -40,7 +40,7 @@ pub struct NameTable {
 
 impl Model for NameTable {
     ghost use Rattle.std.specs.Prelude.{List};
-    ghost use Rattle.file_facts.specs.declared.named_facts.NamedFacts.{NamedFacts};
+    ghost use Rattle.proto_decls.specs.declared.named_facts.NamedFacts.{NamedFacts};
     ghost use Rattle.proto_names.specs.Buckets.{AreByName};
 
     ghost Value = { List NamedFacts };
@@ -273,7 +273,7 @@ impl NameTable {
         self.decls_of_parts(full_name.hash(), full_name.parts())
     }
 
-    // The same, of a full name with this hash and these parts.
+    // The declarations with the full name of this hash and these parts, by file, then offset.
     fn decls_of_parts(&self, hash: u64, name: NameParts<'_>) -> &[DeclRef]
         requires apart { AreNameParts name.scope.now name.last.now }
         requires hash { hash ≡ hash_of (joined name.scope.now name.last.now) }

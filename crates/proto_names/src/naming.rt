@@ -1,16 +1,16 @@
 // By which part of its full name a declaration is looked up.
 ghost use Rattle.std.specs.Prelude.{◌≡◌, [], MatchOption};
-ghost use Rattle.file_facts.specs.FullNames.{last_of, scope_of};
-ghost use Rattle.proto_names.specs.Tables.{name_at};
+ghost use Rattle.proto_decls.specs.FullNames.{last_of, scope_of};
+ghost use Rattle.proto_names.specs.Files.{name_at};
 
 use crate::decl_ref::DeclRef;
-use file_facts::{FullName, NameParts, NamedFacts, hash_of};
+use proto_decls::{FullName, NameParts, NamedFacts, hash_of};
 
 /// The part of a full name by which declarations are looked up.
 pub trait Naming {
     ghost use Rattle.std.specs.Prelude.{◌≡◌, ℕ, List};
-    ghost use Rattle.file_facts.specs.FullNames.{hash_of, last_of, scope_of};
-    ghost use Rattle.file_facts.specs.declared.named_facts.NamedFacts.{NamedFacts};
+    ghost use Rattle.proto_decls.specs.FullNames.{hash_of, last_of, scope_of};
+    ghost use Rattle.proto_decls.specs.declared.named_facts.NamedFacts.{NamedFacts};
     ghost use Rattle.proto_names.specs.declared.decl_ref.DeclRef.{DeclRef};
 
     ghost part: { List NamedFacts → DeclRef → List ℕ };
@@ -29,8 +29,6 @@ pub trait Naming {
 pub struct FullNames;
 
 impl Naming for FullNames {
-    ghost use Rattle.proto_names.specs.Tables.{name_at};
-
     ghost part = { λ files r. name_at files r };
 
     fn part(files: &[NamedFacts], decl: DeclRef) -> NameParts<'_> {
@@ -49,8 +47,8 @@ impl Naming for FullNames {
 pub struct LastComponents;
 
 impl Naming for LastComponents {
-    ghost use Rattle.file_facts.specs.FullNames.{last_of};
-    ghost use Rattle.proto_names.specs.Tables.{name_at};
+    ghost use Rattle.proto_decls.specs.FullNames.{last_of};
+    ghost use Rattle.proto_names.specs.Files.{name_at};
 
     ghost part = { λ files r. last_of (name_at files r) };
 

@@ -2,7 +2,7 @@
 ghost use Rattle.std.specs.Prelude.{◌≡◌, ◌↔◌, map, option_map, IsTrue};
 ghost use Rattle.proto_names.specs.Outlines.{declared, exports};
 
-use file_facts::{Decl, FileFacts, PackageFact};
+use proto_decls::{Decl, FileFacts, PackageFact};
 
 // Whether two declarations say the same to other files.
 pub(crate) fn is_alike(a: &Decl, b: &Decl) -> bool

@@ -5,11 +5,11 @@ ghost use Rattle.std.specs.Cmp.Lexicographic.{slice_cmp};
 ghost use Rattle.std.specs.Ordering.{is_lt, nat_cmp};
 ghost use Rattle.std.specs.List.{list_any, starts_with};
 ghost use Rattle.std.specs.List.Sorted.{IsNonDecreasing, IsPartitionPoint, IsPermutation};
-ghost use Rattle.file_facts.specs.Text.{joined};
+ghost use Rattle.proto_decls.specs.Text.{joined};
 ghost use Rattle.proto_names.specs.Changes.{HadOtherPackages};
 ghost use Rattle.proto_names.specs.Files as spec;
 ghost use Rattle.proto_names.specs.Files.{is_within};
-ghost use Rattle.file_facts.specs.FullNames.{dot};
+ghost use Rattle.proto_decls.specs.FullNames.{dot};
 ghost use Rattle.proto_names.specs.Holders.{later, IsPast};
 ghost use Rattle.proto_names.specs.Packages as packages;
 ghost use Rattle.proto_names.specs.Packages.{AreByPackage, AreNoLonger, ArePackaged};
@@ -17,7 +17,7 @@ ghost use Rattle.proto_names.specs.declared.packages.PackagedFile.{PackagedFile}
 
 use crate::holders::common_len;
 use crate::moving::{Change, number_after};
-use file_facts::{Name, NameParts, NamedFacts, PackageFact};
+use proto_decls::{Name, NameParts, NamedFacts, PackageFact};
 use std::alloc::{AllocError, Global};
 use std::cmp::Ordering;
 
@@ -203,7 +203,8 @@ fn renumber(at: usize, found: &mut Vec<PackagedFile>)
     }
 }
 
-// The same where there are so many files then. If the place is the last one, no number changes.
+// Gives the files, of which there are so many then, the numbers that they have once another comes to the place `at`: if that is the last one, no number
+// changes.
 fn make_way(at: usize, count: usize, found: &mut Vec<PackagedFile>)
     requires { All (λ p. p.file + 1 < count) found.old.items }
     ensures { found.new.items ≡ map (packages.moved at) found.old.items }
@@ -233,7 +234,7 @@ fn put_among(one: PackagedFile, found: &mut Vec<PackagedFile>) -> Result<(), All
     Ok(())
 }
 
-// Does so with the file of this number, from 0, if it has a package.
+// Puts the file of this number, from 0, in its place among those by their packages, if it has one.
 fn put_packaged(
     alloc: Global,
     file: usize,

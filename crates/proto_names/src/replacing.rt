@@ -5,12 +5,13 @@ ghost use Rattle.std.specs.declared.cmp.Ordering.{Ordering};
 ghost use Rattle.proto_names.specs.declared.hashed.HashedDecl.{HashedDecl};
 ghost use Rattle.proto_names.specs.Buckets.{AreInBuckets};
 ghost use Rattle.proto_names.specs.Replaced.{GoesBetween, StandIn, WereInBuckets};
-ghost use Rattle.proto_names.specs.Tables.{by_name, by_scope, holder_entries, name_at, name_entries, AreInOrder};
+ghost use Rattle.proto_names.specs.Files.{name_at};
+ghost use Rattle.proto_names.specs.Tables.{by_name, by_scope, holder_entries, name_entries, AreInOrder};
 
 use crate::buckets::{Buckets, bucket_of};
 use crate::entry_order::{ByName, ByScope, EntryOrder};
 use crate::hashed::{HashedDecl, HashedDecls};
-use file_facts::NamedFacts;
+use proto_decls::NamedFacts;
 use std::alloc::AllocError;
 
 // The entry at a place of a bucket.
@@ -136,7 +137,7 @@ pub fn change_names(
     names.add::<ByName>(files, come)
 }
 
-// The same of what may settle a scope, by last component.
+// Makes all declarations that may settle a scope, by last component, those of the files, as `change_names` does those by full name.
 pub fn change_holders(
     files: &[NamedFacts],
     gone: &[HashedDecl],

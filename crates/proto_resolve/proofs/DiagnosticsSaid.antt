@@ -6,12 +6,12 @@ use Rattle.std.proofs.lemmas.Bool.{cases_Bool, cases_lt}
 use Rattle.std.proofs.lemmas.List.{get_or_past, length-map}
 use Rattle.std.proofs.lemmas.List.Elements.{All-contains, All-nil, All-weaker, Contains-append_cases, Contains-append_left, Contains-append_right, filter_passes}
 use Rattle.std.proofs.lemmas.List.FromFn.{get_or-range_with_len, length-range_with_len}
-use Rattle.file_facts.specs.declared.diagnostic.Diag.{Diag}
-use Rattle.file_facts.specs.declared.fact.Decl.{Decl}
-use Rattle.file_facts.specs.declared.fact.ImportFact.{ImportFact}
-use Rattle.file_facts.specs.declared.problem.Problem.TheVariants as m
-use Rattle.file_facts.specs.Diags.{diag}
-use Rattle.file_facts.specs.declared.named_facts.NamedFacts.{NamedFacts}
+use Rattle.proto_decls.specs.declared.diagnostic.Diag.{Diag}
+use Rattle.proto_decls.specs.declared.fact.Decl.{Decl}
+use Rattle.proto_decls.specs.declared.fact.ImportFact.{ImportFact}
+use Rattle.proto_decls.specs.declared.problem.Problem.TheVariants as m
+use Rattle.proto_decls.specs.Diags.{diag}
+use Rattle.proto_decls.specs.declared.named_facts.NamedFacts.{NamedFacts}
 use Rattle.import_graph.specs.declared.imports.FileImports.{FileImports}
 use Rattle.import_graph.specs.Imports.{graph_of, is_analysed, edges_at, target_at}
 use Rattle.import_graph.specs.Views.{IsClosed, Sees}

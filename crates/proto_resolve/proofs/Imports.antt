@@ -1,7 +1,7 @@
 -- The edges of a file are as many as its imports.
 use Rattle.std.proofs.Common.{◌≡◌, ℕ, zero, suc, List, [], ◌∷◌, length, get_or, map, refl}
 use Rattle.std.proofs.lemmas.List.{length-map}
-use Rattle.file_facts.specs.declared.named_facts.NamedFacts.{NamedFacts}
+use Rattle.proto_decls.specs.declared.named_facts.NamedFacts.{NamedFacts}
 use Rattle.import_graph.specs.Imports.{imports_of, edge_of}
 use Rattle.proto_names.specs.Files.{no_facts}
 

@@ -8,9 +8,9 @@ use Rattle.std.proofs.lemmas.Bool.Decides.{nat_tests}
 use Rattle.std.proofs.lemmas.List.{length-map}
 use Rattle.std.proofs.lemmas.List.Elements.{All-nil, All-cons, All-append, All-weaker}
 use Rattle.std.proofs.lemmas.Slice.Eq.{bytes_eq-Decides}
-use Rattle.file_facts.specs.declared.fact.Decl.{Decl}
-use Rattle.file_facts.specs.declared.fact.PackageFact.{PackageFact}
-use Rattle.file_facts.specs.declared.named_facts.NamedFacts.{NamedFacts}
+use Rattle.proto_decls.specs.declared.fact.Decl.{Decl}
+use Rattle.proto_decls.specs.declared.fact.PackageFact.{PackageFact}
+use Rattle.proto_decls.specs.declared.named_facts.NamedFacts.{NamedFacts}
 use Rattle.import_graph.specs.declared.imports.FileImports.{FileImports}
 use Rattle.import_graph.specs.Imports.{graph_of, imports_of}
 use Rattle.import_graph.specs.Views.{Sees}
@@ -20,7 +20,7 @@ use Rattle.proto_names.specs.declared.decl_ref.DeclRef.{DeclRef}
 use Rattle.proto_resolve.specs.declared.target.Target.{Target}
 use Rattle.proto_resolve.specs.declared.target.Target.TheVariants.{Declared, Package}
 use Rattle.proto_names.specs.Files.{all_decls, all_named, begins, decl_at, decls_at, ends_component, facts_at, has_package, is_within, is_seen}
-use Rattle.file_facts.specs.FullNames.{dot}
+use Rattle.proto_decls.specs.FullNames.{dot}
 use Rattle.proto_resolve.specs.Names.{first_declared, found, package_found}
 use Rattle.proto_resolve.specs.Finding.{ComesBefore, Finds, HasPackage, IsFirst, IsSeenAs, IsUndeclared}
 use Rattle.proto_resolve.specs.Finding.ComesBefore.{own_file, by_path, by_offset}

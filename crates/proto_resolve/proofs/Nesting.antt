@@ -6,10 +6,10 @@ use Rattle.std.proofs.lemmas.Bool.{cases_Bool}
 use Rattle.std.proofs.lemmas.Bool.Decides.{Decides-eqb}
 use Rattle.std.proofs.lemmas.List.{get_or_default}
 use Rattle.std.proofs.lemmas.List.Elements.{All-head, All-nil, All-tail}
-use Rattle.file_facts.specs.Nesting.{IsWithin, HasOuterNames, NamesNest}
-use Rattle.file_facts.specs.Text.{joined}
-use Rattle.file_facts.specs.declared.fact.PackageFact.{PackageFact}
-use Rattle.file_facts.specs.declared.named_facts.NamedFacts.{NamedFacts}
+use Rattle.proto_decls.specs.Nesting.{IsWithin, HasOuterNames, NamesNest}
+use Rattle.proto_decls.specs.Text.{joined}
+use Rattle.proto_decls.specs.declared.fact.PackageFact.{PackageFact}
+use Rattle.proto_decls.specs.declared.named_facts.NamedFacts.{NamedFacts}
 use Rattle.proto_names.specs.declared.decl_ref.DeclRef.{DeclRef}
 use Rattle.proto_names.specs.Files.{all_named, decl_at, decls_at, facts_at, has_package, is_within, no_decl, no_facts}
 use Rattle.proto_resolve.proofs.Firsts.{agrees}

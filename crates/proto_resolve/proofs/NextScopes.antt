@@ -6,10 +6,10 @@ use Rattle.std.specs.String.Boundary.{IsSplitPoint}
 use Rattle.std.proofs.lemmas.Bool.{cases_lt}
 use Rattle.std.proofs.lemmas.List.{get_or-take, get_or_append_left, length-append, length-take-le}
 use Rattle.std.proofs.Math.Seq.{get_or-append_seam}
-use Rattle.file_facts.specs.Text.{joined}
+use Rattle.proto_decls.specs.Text.{joined}
 use Rattle.proto_names.specs.Holders.{earlier, IsNext, IsPast}
 use Rattle.proto_resolve.specs.ScopeChains.{front_parts}
-use Rattle.file_facts.proofs.LastParts.{front_is}
+use Rattle.proto_decls.proofs.LastParts.{front_is}
 use Rattle.proto_resolve.proofs.ScopeChains.{as_many, part_at}
 
 pub one_rises : (n : ℕ) → IsNonDecreasing (n ∷ [])

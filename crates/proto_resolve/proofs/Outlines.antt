@@ -1,15 +1,15 @@
 -- What files say to the graph of imports, and what of it stays where that does.
-use Rattle.std.proofs.Common.{◌≡◌, ℕ, zero, suc, ◌<◌, List, [], ◌∷◌, Bool, Option, None, if◌then◌else◌, length, get_or, set, map, bytes_eq, nat_eq, not, refl, sym, ap, subst, ◌∙◌, arith}
+use Rattle.std.proofs.Common.{◌≡◌, ℕ, zero, suc, ◌<◌, List, [], ◌∷◌, Bool, Option, None, if◌then◌else◌, length, get_or, set, map, bytes_eq, nat_eq, not, refl, sym, ap, ◌∙◌, arith}
 use Rattle.std.specs.Prelude.{position}
 use Rattle.std.specs.List.{prefix_len, starts_with}
 use Rattle.std.proofs.Math.Path.{fun_ext}
 use Rattle.std.proofs.Math.Seq.{map-set_same}
 use Rattle.std.proofs.lemmas.List.{length-map, length-set, get_or_default, get_or-map}
 use Rattle.std.proofs.lemmas.Simd.{map-map}
-use Rattle.file_facts.specs.declared.fact.FileFacts.{FileFacts}
+use Rattle.proto_decls.specs.declared.fact.FileFacts.{FileFacts}
 use Rattle.import_graph.specs.declared.imports.ImportEdge.{ImportEdge}
 use Rattle.import_graph.specs.declared.imports.FileImports.{FileImports}
-use Rattle.file_facts.specs.declared.named_facts.NamedFacts.{NamedFacts}
+use Rattle.proto_decls.specs.declared.named_facts.NamedFacts.{NamedFacts}
 use Rattle.import_graph.specs.Imports.{graph_of, imports_of, edge_of}
 use Rattle.import_graph.specs.Paths.{IsInPathOrder, slash}
 use Rattle.proto_names.specs.Files.{facts_at, no_facts}
@@ -79,13 +79,6 @@ pub stays_in_order : (files : List NamedFacts) (f : ℕ) (facts : FileFacts) →
 stays_in_order files f facts ordered i j other before there =
     let there' : j < length files = omega (arith, there, length-set files f (record { path = get_or (map (λ x. x.path) files) f []; facts = facts })) in
     rw (same_path files f facts i other (omega (arith, before, there')), same_path files f facts j other there') (ordered i j other before there')
-
--- the same where the file's path is known
-pub still_in_order : (files : List NamedFacts) (f : ℕ) (file : NamedFacts) (facts : FileFacts) → f < length files → file ≡ get_or files f file
-    → IsInPathOrder files → IsInPathOrder (set files f (record { path = file.path; facts = facts }))
-still_in_order files f file facts there is ordered =
-    let path : get_or (map (λ x. x.path) files) f [] ≡ file.path = get_or-map (λ x. x.path) files f file [] there ∙ sym (ap (λ x. x.path) is) in
-    subst (λ fs. IsInPathOrder fs) (ap (λ p. set files f (record { path = p; facts = facts })) path) (stays_in_order files f facts ordered)
 
 -- ---- the same for the files with other facts of one
 

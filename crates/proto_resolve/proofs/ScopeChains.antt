@@ -8,7 +8,7 @@ use Rattle.std.proofs.lemmas.List.{get_or-map, get_or-reverse, get_or_append_lef
 use Rattle.std.proofs.lemmas.List.Elements.{All-append, All-cons, All-from_get_or, All-get_or, All-head, All-nil, All-tail, All-weaker}
 use Rattle.std.proofs.lemmas.Str.{IsCharBoundary-start}
 use Rattle.std.proofs.Math.Seq.{get_or-append_seam}
-use Rattle.file_facts.specs.Text.{joined}
+use Rattle.proto_decls.specs.Text.{joined}
 use Rattle.proto_resolve.specs.ScopeChains.{front_parts}
 
 point_kept : (bs name : List ℕ) (n : ℕ) → IsSplitPoint bs n → IsSplitPoint (joined bs name) n

@@ -5,8 +5,8 @@ use Rattle.std.specs.List.{enumerate_from, filter_map, flat_map}
 use Rattle.std.specs.Option.{option_map_or}
 use Rattle.std.proofs.lemmas.Bool.{cases_Bool}
 use Rattle.std.proofs.lemmas.List.Elements.{All-append, All-cons, All-head, All-nil, All-tail, All-weaker, filter-append}
-use Rattle.file_facts.specs.declared.named_facts.NamedFacts.{NamedFacts}
-use Rattle.syntax_tree.specs.declared.node.Span.{Span}
+use Rattle.proto_decls.specs.declared.named_facts.NamedFacts.{NamedFacts}
+use Rattle.proto_tree.specs.declared.node.Span.{Span}
 use Rattle.proto_resolve.specs.declared.site.NameSite.{NameSite}
 use Rattle.proto_resolve.specs.declared.target.Target.{Target}
 use Rattle.proto_resolve.specs.declared.uses.NameUse.{NameUse}

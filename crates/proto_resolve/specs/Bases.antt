@@ -1,6 +1,6 @@
 -- What a table knows of its files beside their declarations by name.
 use Rattle.std.specs.Prelude.{◌≡◌, ℕ, Bool, true, List}
-use Rattle.file_facts.specs.declared.named_facts.NamedFacts.{NamedFacts}
+use Rattle.proto_decls.specs.declared.named_facts.NamedFacts.{NamedFacts}
 use Rattle.import_graph.specs.Arrivals.{NobodyImports}
 use Rattle.import_graph.specs.Imports.{graph_of}
 use Rattle.import_graph.specs.Paths.{IsInPathOrder}

@@ -1,19 +1,19 @@
 -- What is wrong in a file by what it sees, each for its reason, and the law that the list has just that.
 use Rattle.std.specs.Prelude.{◌≡◌, ◌↔◌, ℕ, List, Option, Some, None, false, Contains}
 use Rattle.std.specs.List.{enumerate_from}
-use Rattle.file_facts.specs.declared.diagnostic.Diag.{Diag}
-use Rattle.file_facts.specs.declared.fact.Decl.{Decl}
-use Rattle.file_facts.specs.declared.fact.ImportFact.{ImportFact}
-use Rattle.file_facts.specs.declared.problem.Problem.TheVariants as m
-use Rattle.file_facts.specs.Diags.{diag}
-use Rattle.file_facts.specs.declared.named_facts.NamedFacts.{NamedFacts}
+use Rattle.proto_decls.specs.declared.diagnostic.Diag.{Diag}
+use Rattle.proto_decls.specs.declared.fact.Decl.{Decl}
+use Rattle.proto_decls.specs.declared.fact.ImportFact.{ImportFact}
+use Rattle.proto_decls.specs.declared.problem.Problem.TheVariants as m
+use Rattle.proto_decls.specs.Diags.{diag}
+use Rattle.proto_decls.specs.declared.named_facts.NamedFacts.{NamedFacts}
 use Rattle.import_graph.specs.Imports.{graph_of, target_at}
 use Rattle.import_graph.specs.Views.{Sees, IsClosed, ClosesCycle}
 use Rattle.import_graph.specs.Closures.{view_of}
 use Rattle.proto_resolve.specs.declared.site.NameSite.{NameSite}
 use Rattle.proto_names.specs.declared.decl_ref.DeclRef.{DeclRef}
 use Rattle.proto_resolve.specs.declared.target.Target.{Target}
-use Rattle.proto_names.specs.Files.{facts_at, decls_at}
+use Rattle.proto_names.specs.Files.{decls_at, imports_at}
 use Rattle.proto_resolve.specs.Finding.{IsSeenAs, HasPackage}
 use Rattle.proto_resolve.specs.Names.{meaning, has_kind, is_type}
 use Rattle.proto_resolve.specs.ViewDiagnostics.{view_diagnostics}
@@ -24,7 +24,7 @@ means files f n = meaning files f (view_of (graph_of files) f) n
 
 -- the imports of the file f, each with its number
 abbrev pub numbered_imports : List NamedFacts → ℕ → List (ℕ × ImportFact)
-numbered_imports files f = enumerate_from 0 (let facts = facts_at files f in facts.imports)
+numbered_imports files f = enumerate_from 0 (imports_at files f)
 
 -- The diagnostics of the file f with these names. In a closed view: 401, a name that means nothing, and 402, a name that means
 -- another kind of thing than is needed there. 403: an import that names no file. 404: an import from whose file imports lead

@@ -1,8 +1,8 @@
 -- Laws of the definitions.
 use Rattle.std.specs.Prelude.{◌≡◌, ◌≢◌, ◌↔◌, ℕ, suc, List, [], All, IsTrue, Some, None, true, false, map, length, take}
 use Rattle.std.specs.List.{range_with_len}
-use Rattle.file_facts.specs.declared.named_facts.NamedFacts.{NamedFacts}
-use Rattle.file_facts.specs.Nesting.{NamesNest}
+use Rattle.proto_decls.specs.declared.named_facts.NamedFacts.{NamedFacts}
+use Rattle.proto_decls.specs.Nesting.{NamesNest}
 use Rattle.proto_resolve.specs.declared.site.NameSite.{NameSite}
 use Rattle.proto_resolve.specs.declared.target.Target.{Target}
 use Rattle.proto_resolve.specs.declared.uses.NameUse.{NameUse}

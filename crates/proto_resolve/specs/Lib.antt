@@ -12,4 +12,5 @@ pub mod Finding
 pub mod FindingLaws
 pub mod Seen
 pub mod Outlines
+pub mod TableChanges
 pub mod DiagnosticLaws

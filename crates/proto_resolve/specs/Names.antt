@@ -2,17 +2,17 @@
 use Rattle.std.specs.Prelude.{◌≡◌, ℕ, ◌<◌, ◌==◌, List, [], ◌∷◌, Bool, true, false, Option, Some, None, slice_index_or, map, find, length, ⊤, option_and_then, option_map, if◌then◌else◌}
 use Rattle.std.specs.List.{list_any}
 use Rattle.std.specs.Option.{option_or}
-use Rattle.file_facts.specs.declared.fact.DeclKind.{DeclKind}
-use Rattle.file_facts.specs.declared.fact.DeclKind.TheVariants.{Message, EnumDef}
-use Rattle.file_facts.specs.declared.named_facts.NamedFacts.{NamedFacts}
+use Rattle.proto_decls.specs.declared.fact.DeclKind.{DeclKind}
+use Rattle.proto_decls.specs.declared.fact.DeclKind.TheVariants.{Message, EnumDef}
+use Rattle.proto_decls.specs.declared.named_facts.NamedFacts.{NamedFacts}
 use Rattle.proto_resolve.specs.declared.site.NameSite.{NameSite}
 use Rattle.proto_resolve.specs.declared.site.Needs.{Needs}
 use Rattle.proto_resolve.specs.declared.site.Needs.TheVariants as needs
 use Rattle.proto_names.specs.declared.decl_ref.DeclRef.{DeclRef}
 use Rattle.proto_resolve.specs.declared.target.Target.{Target}
 use Rattle.proto_resolve.specs.declared.target.Target.TheVariants.{Declared, Package}
-use Rattle.file_facts.specs.Text.{joined}
-use Rattle.proto_names.specs.Files.{all_named, decl_at, has_package, is_seen}
+use Rattle.proto_decls.specs.Text.{joined}
+use Rattle.proto_names.specs.Files.{all_named, has_package, is_seen, kind_at}
 use Rattle.proto_names.specs.Holders.{is_holder}
 
 -- a package that a file of the view has
@@ -40,7 +40,7 @@ is_type _ _ = false
 
 -- whether the target is a declaration of such a kind
 abbrev pub has_kind : List NamedFacts → (DeclKind → Bool) → Option Target → Bool
-has_kind files test (Some (Declared r)) = test (let d = decl_at files r in d.kind)
+has_kind files test (Some (Declared r)) = test (kind_at files r)
 has_kind files test _ = false
 
 -- whether the target may hold the rest of a name

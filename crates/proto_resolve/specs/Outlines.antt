@@ -1,7 +1,7 @@
 -- What files say of their imports.
 use Rattle.std.specs.Prelude.{ℕ, List, Bool, map}
-use Rattle.file_facts.specs.declared.fact.ImportFact.{ImportFact}
-use Rattle.file_facts.specs.declared.fact.FileFacts.{FileFacts}
+use Rattle.proto_decls.specs.declared.fact.ImportFact.{ImportFact}
+use Rattle.proto_decls.specs.declared.fact.FileFacts.{FileFacts}
 use Rattle.import_graph.specs.Imports.{is_opaque}
 
 -- what an import says to the graph of imports

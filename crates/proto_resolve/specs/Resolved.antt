@@ -1,8 +1,8 @@
 -- What is known of a file by what it sees.
 use Rattle.std.specs.Prelude.{ℕ, List}
-use Rattle.syntax_tree.specs.declared.node.FileTree.{FileTree}
-use Rattle.file_facts.specs.Order.{in_order}
-use Rattle.file_facts.specs.declared.named_facts.NamedFacts.{NamedFacts}
+use Rattle.proto_tree.specs.declared.node.FileTree.{FileTree}
+use Rattle.proto_decls.specs.Order.{in_order}
+use Rattle.proto_decls.specs.declared.named_facts.NamedFacts.{NamedFacts}
 use Rattle.import_graph.specs.Imports.{graph_of}
 use Rattle.import_graph.specs.Closures.{view_of}
 use Rattle.proto_resolve.specs.declared.resolve.Links.{Links}

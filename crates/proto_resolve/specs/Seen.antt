@@ -1,7 +1,7 @@
 -- What is known of a file by what it sees depends on no more than that.
 use Rattle.std.specs.Prelude.{◌≡◌, ℕ, ◌<◌, List, All, length}
-use Rattle.syntax_tree.specs.declared.node.FileTree.{FileTree}
-use Rattle.file_facts.specs.declared.named_facts.NamedFacts.{NamedFacts}
+use Rattle.proto_tree.specs.declared.node.FileTree.{FileTree}
+use Rattle.proto_decls.specs.declared.named_facts.NamedFacts.{NamedFacts}
 use Rattle.import_graph.specs.Imports.{graph_of}
 use Rattle.import_graph.specs.Closures.{view_of}
 use Rattle.import_graph.specs.Outlooks.{outlook}

@@ -1,9 +1,9 @@
 -- The uses of names: one for each component of a name that has a meaning.
 use Rattle.std.specs.Prelude.{ℕ, List, [], ◌∷◌, Option, is_some, option_map, if◌then◌else◌}
 use Rattle.std.specs.List.{enumerate_from, flat_map, filter_map}
-use Rattle.file_facts.specs.declared.named_facts.NamedFacts.{NamedFacts}
-use Rattle.syntax_tree.specs.declared.node.Span.{Span}
-use Rattle.file_facts.specs.Text.{joined}
+use Rattle.proto_decls.specs.declared.named_facts.NamedFacts.{NamedFacts}
+use Rattle.proto_tree.specs.declared.node.Span.{Span}
+use Rattle.proto_decls.specs.Text.{joined}
 use Rattle.proto_resolve.specs.declared.site.NameSite.{NameSite}
 use Rattle.proto_resolve.specs.declared.site.Component.{Component}
 use Rattle.std.specs.Option.{option_map_or}

@@ -1,17 +1,17 @@
 -- What is wrong in a file by what it sees. The numbers are those of the diagnostics.
 use Rattle.std.specs.Prelude.{ℕ, ◌==◌, ◌&&◌, not, List, [], ◌∷◌, ◌++◌, Bool, Option, Some, None, if◌then◌else◌}
 use Rattle.std.specs.List.{list_any, flat_map, enumerate_from}
-use Rattle.file_facts.specs.declared.diagnostic.Diag.{Diag}
-use Rattle.file_facts.specs.declared.fact.Decl.{Decl}
-use Rattle.file_facts.specs.declared.fact.ImportFact.{ImportFact}
-use Rattle.file_facts.specs.declared.problem.Problem.TheVariants as m
-use Rattle.file_facts.specs.Diags.{diag}
-use Rattle.file_facts.specs.declared.named_facts.NamedFacts.{NamedFacts}
+use Rattle.proto_decls.specs.declared.diagnostic.Diag.{Diag}
+use Rattle.proto_decls.specs.declared.fact.Decl.{Decl}
+use Rattle.proto_decls.specs.declared.fact.ImportFact.{ImportFact}
+use Rattle.proto_decls.specs.declared.problem.Problem.TheVariants as m
+use Rattle.proto_decls.specs.Diags.{diag}
+use Rattle.proto_decls.specs.declared.named_facts.NamedFacts.{NamedFacts}
 use Rattle.import_graph.specs.Imports.{graph_of, target_at}
 use Rattle.import_graph.specs.Closures.{view_of, is_closed, closes_cycle}
 use Rattle.proto_resolve.specs.declared.site.NameSite.{NameSite}
 use Rattle.proto_resolve.specs.declared.target.Target.{Target}
-use Rattle.proto_names.specs.Files.{facts_at, decls_at, all_named, has_package, is_seen}
+use Rattle.proto_names.specs.Files.{decls_at, all_named, has_package, is_seen, imports_at}
 use Rattle.proto_resolve.specs.Names.{meaning, has_kind, is_type}
 
 module _ (files : List NamedFacts) (f : ℕ) (view : List ℕ) where
@@ -46,5 +46,5 @@ module _ (files : List NamedFacts) (f : ℕ) where
 abbrev pub view_diagnostics : List NamedFacts → ℕ → List NameSite → List Diag
 view_diagnostics files f sites =
     (if is_closed (graph_of files) f then flat_map (name_diagnostics files f (view_of (graph_of files) f)) sites else [])
-    ++ (flat_map (import_diagnostics files f) (enumerate_from 0 (let facts = facts_at files f in facts.imports))
+    ++ (flat_map (import_diagnostics files f) (enumerate_from 0 (imports_at files f))
     ++ flat_map (decl_diagnostics files f (view_of (graph_of files) f)) (decls_at files f))

@@ -1,6 +1,6 @@
 -- What a view holds.
 use Rattle.std.specs.Prelude.{◌<◌, length, List, All}
-use Rattle.file_facts.specs.declared.named_facts.NamedFacts.{NamedFacts}
+use Rattle.proto_decls.specs.declared.named_facts.NamedFacts.{NamedFacts}
 use Rattle.proto_resolve.specs.declared.view.View.{View}
 
 -- the view's files are there

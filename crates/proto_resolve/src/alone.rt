@@ -6,7 +6,7 @@ ghost use Rattle.proto_names.specs.Files.{has_package};
 ghost use Rattle.proto_resolve.specs.ViewDiagnostics.{decl_diagnostics, is_declared_elsewhere};
 
 use crate::index::Index;
-use file_facts::{Decl, FullName};
+use proto_decls::{Decl, FullName};
 use proto_names::DeclRef;
 
 // Whether a file has all of these declarations, which are by file.

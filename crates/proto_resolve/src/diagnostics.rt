@@ -3,10 +3,10 @@ ghost use Rattle.std.specs.Prelude.{◌≡◌, ◌==◌, ◌&&◌, ◌++◌, ◌
 ghost use Rattle.std.specs.List.{flat_map, list_any, enumerate_from};
 ghost use Rattle.std.specs.List.Sorted.{IsNonDecreasingBy};
 ghost use Rattle.proto_resolve.specs.declared.site.NameSite.{NameSite};
-ghost use Rattle.file_facts.specs.Diags.{diag};
+ghost use Rattle.proto_decls.specs.Diags.{diag};
 ghost use Rattle.import_graph.specs.Imports.{graph_of};
 ghost use Rattle.import_graph.specs.Closures.{view_of};
-ghost use Rattle.proto_names.specs.Files.{all_named, has_package, facts_at, is_seen};
+ghost use Rattle.proto_names.specs.Files.{all_named, has_package, is_seen, imports_at};
 ghost use Rattle.proto_resolve.specs.Views.{IsView};
 ghost use Rattle.proto_resolve.specs.Names.{is_type, has_kind, IsThere};
 ghost use Rattle.proto_resolve.specs.ViewDiagnostics as spec;
@@ -18,11 +18,11 @@ use crate::site::{NameSite, Needs};
 use crate::target::Target;
 use crate::view::View;
 use crate::views::sees_package;
-use file_facts::{Decl, Diag, FullName, ImportFact, Problem};
+use proto_decls::{Decl, Diag, FullName, ImportFact, Problem};
 use proto_names::DeclRef;
+use proto_tree::Span;
 use sqlite_items::Items;
 use std::alloc::{AllocError, Global};
-use syntax_tree::Span;
 
 fn diag(message: Problem, span: Span) -> Diag
     ensures { result ≡ diag message span }
@@ -76,7 +76,7 @@ fn push_import_diagnostics<I: Index>(
     found: &mut Items<Diag>,
 ) -> Result<(), AllocError>
     requires file { file < length (I.files index.now) }
-    requires imports { imports.now ≡ (let facts = facts_at (I.files index.now) file in facts.imports) }
+    requires imports { imports.now ≡ imports_at (I.files index.now) file }
     ensures { OnOk result (found.new ≡ found.old ++ flat_map (spec.import_diagnostics (I.files index.now) file) (enumerate_from 0 imports.now)) }
 {
     for (number, import) in imports.iter().enumerate() {
@@ -93,7 +93,7 @@ fn push_import_diagnostic<I: Index>(
     found: &mut Items<Diag>,
 ) -> Result<(), AllocError>
     requires file { file < length (I.files index.now) }
-    requires number { number < length (let facts = facts_at (I.files index.now) file in facts.imports) }
+    requires number { number < length (imports_at (I.files index.now) file) }
     ensures { OnOk result (found.new ≡ found.old ++ spec.import_diagnostics (I.files index.now) file (number, import.now)) }
 {
     let graph = index.graph();
@@ -115,7 +115,7 @@ pub fn import_diagnostics<I: Index>(
     file: usize,
 ) -> Result<Items<Diag>, AllocError>
     requires { file < length (I.files index.now) }
-    ensures { IfOk result (λ d. d ≡ flat_map (spec.import_diagnostics (I.files index.now) file) (enumerate_from 0 (let facts = facts_at (I.files index.now) file in facts.imports))) }
+    ensures { IfOk result (λ d. d ≡ flat_map (spec.import_diagnostics (I.files index.now) file) (enumerate_from 0 (imports_at (I.files index.now) file))) }
 {
     let mut found = Items::new(alloc);
     let imports = index.facts(file).imports.as_slice();

@@ -9,7 +9,7 @@ use crate::index::Index;
 use crate::target::Target;
 use crate::view::View;
 use crate::views::sees_package;
-use file_facts::Name;
+use proto_decls::Name;
 use proto_names::{DeclRef, unsplit};
 use std::alloc::{AllocError, Global};
 

@@ -1,10 +1,10 @@
 // Full names: identifiers of a text, joined by dots.
 ghost use Rattle.std.specs.Prelude.{◌≡◌, map, string_bytes, IfOk, OnOk};
-ghost use Rattle.file_facts.specs.Text as spec;
+ghost use Rattle.proto_decls.specs.Text as spec;
 ghost use Rattle.proto_resolve.specs.Names.{joined_all};
 
 use crate::site::Component;
-use file_facts::Name;
+use proto_decls::Name;
 use std::alloc::{AllocError, Global};
 
 // Puts a name behind the full name of its scope, with a dot between them unless the scope is empty.

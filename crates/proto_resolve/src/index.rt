@@ -1,6 +1,6 @@
 // What has to be known of all files.
-use file_facts::{FileFacts, FullName, NameParts};
 use import_graph::Graph;
+use proto_decls::{FileFacts, FullName, NameParts};
 use proto_names::{DeclRef, PackagedFile};
 use std::marker::Sync;
 
@@ -9,12 +9,12 @@ use std::marker::Sync;
 pub trait Index: Sync {
     ghost use Rattle.std.specs.Prelude.{List, All, ◌≡◌, ◌<◌, ◌≤◌, false, take, length, map};
     ghost use Rattle.std.specs.List.Sorted.{IsNonDecreasing};
-    ghost use Rattle.file_facts.specs.Text.{joined};
-    ghost use Rattle.file_facts.specs.declared.named_facts.NamedFacts.{NamedFacts};
+    ghost use Rattle.proto_decls.specs.Text.{joined};
+    ghost use Rattle.proto_decls.specs.declared.named_facts.NamedFacts.{NamedFacts};
     ghost use Rattle.import_graph.specs.Imports.{graph_of};
     ghost use Rattle.proto_names.specs.Files.{facts_at, all_named};
     ghost use Rattle.proto_names.specs.Holders.{is_held, IsLast};
-    ghost use Rattle.file_facts.specs.FullNames.{has_dot};
+    ghost use Rattle.proto_decls.specs.FullNames.{has_dot};
     ghost use Rattle.proto_names.specs.Packages.{AreThoseWith};
 
     /// The files, by path.

@@ -3,7 +3,7 @@ ghost use Rattle.std.specs.Prelude.{◌≡◌, ◌↔◌, map, IsTrue};
 ghost use Rattle.import_graph.specs.Imports.{is_opaque};
 ghost use Rattle.proto_resolve.specs.Outlines.{imported, import_outline};
 
-use file_facts::{FileFacts, ImportFact, SyntaxFact};
+use proto_decls::{FileFacts, ImportFact, SyntaxFact};
 
 fn name_alike(a: &ImportFact, b: &ImportFact) -> bool
     ensures { IsTrue result ↔ (imported a.now ≡ imported b.now) }

@@ -1,6 +1,6 @@
 // The names of a file, resolved.
 ghost use Rattle.std.specs.Prelude.{◌≡◌, ◌<◌, length, IfOk};
-ghost use Rattle.file_facts.specs.Order.{in_order};
+ghost use Rattle.proto_decls.specs.Order.{in_order};
 ghost use Rattle.proto_resolve.specs.Resolved.{resolved};
 
 use crate::alone::are_alone;
@@ -9,10 +9,10 @@ use crate::index::Index;
 use crate::sites::names_of_file;
 use crate::uses::{NameUse, copy_uses, resolve_names};
 use crate::views::view_of;
-use file_facts::{Diag, fitted, in_order};
+use proto_decls::{Diag, fitted, in_order};
+use proto_tree::FileTree;
 use sqlite_items::Items;
 use std::alloc::{AllocError, Global};
-use syntax_tree::FileTree;
 
 /// What is known of a file by what it sees.
 #[derive(Debug, Drop)]

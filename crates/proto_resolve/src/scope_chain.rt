@@ -1,8 +1,8 @@
 // The scopes of a place in a file.
 ghost use Rattle.std.specs.Prelude.{◌≡◌, ◌∷◌, ◌<◌, ◌≤◌, ℕ, List, [], false, length, slice_index_or, IfOk};
-ghost use Rattle.file_facts.specs.Text.{joined};
+ghost use Rattle.proto_decls.specs.Text.{joined};
 ghost use Rattle.proto_names.specs.Holders.{is_held, IsNext};
-ghost use Rattle.file_facts.specs.FullNames.{has_dot};
+ghost use Rattle.proto_decls.specs.FullNames.{has_dot};
 ghost use Rattle.std.specs.List.{list_any};
 ghost use Rattle.proto_names.specs.Files.{has_package};
 ghost use Rattle.proto_resolve.specs.Views.{IsView};

@@ -1,9 +1,9 @@
 // The scope in which a name is looked for, and what it means.
 ghost use Rattle.std.specs.Prelude.{◌≡◌, ◌==◌, ◌<◌, length, false, find, All, IfOk, IfSome, Some, option_map, option_and_then};
-ghost use Rattle.proto_names.specs.Files.{all_named, decl_at};
+ghost use Rattle.proto_names.specs.Files.{all_named, kind_at};
 ghost use Rattle.proto_names.specs.Holders.{earlier, IsNext, is_holder};
-ghost use Rattle.file_facts.specs.FullNames.{has_dot};
-ghost use Rattle.file_facts.specs.Text.{joined};
+ghost use Rattle.proto_decls.specs.FullNames.{has_dot};
+ghost use Rattle.proto_decls.specs.Text.{joined};
 ghost use Rattle.proto_resolve.specs.declared.target.Target.TheVariants.{Declared};
 ghost use Rattle.proto_resolve.specs.Names.{found, first_declared, is_type, settles, settles_at, first_text, joined_all, texts_of, scope_of, IsThere};
 ghost use Rattle.proto_resolve.specs.Settled.{IsFirstIn};
@@ -15,7 +15,7 @@ use crate::resolver::Resolver;
 use crate::site::{NameSite, Needs};
 use crate::target::Target;
 use crate::views::sees_package;
-use file_facts::DeclKind;
+use proto_decls::DeclKind;
 use proto_names::{DeclRef, is_holder, unsplit};
 use std::alloc::{AllocError, Global};
 
@@ -31,7 +31,7 @@ pub fn is_type(needs: Needs, kind: DeclKind) -> bool
 
 pub fn kind_at<I: Index>(index: &I, decl: DeclRef) -> DeclKind
     requires { decl.file < length (I.files index.now) }
-    ensures { result ≡ (let d = decl_at (I.files index.now) decl in d.kind) }
+    ensures { result ≡ kind_at (I.files index.now) decl }
 {
     match index.facts(decl.file).decls.as_slice().get(decl.number) {
         Some(decl) => decl.kind,
@@ -202,7 +202,7 @@ impl<I: Index> Resolver<'_, I> {
         }
     }
 
-    // The same where there is a scope. What an only component means there is known.
+    // What a name means, if anything, where this is its scope, and what its only component means there, if it has one, is known.
     fn meaning_at(
         &self,
         settled: SettledScope<'_>,

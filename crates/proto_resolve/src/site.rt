@@ -1,8 +1,8 @@
 // The names that stand in a file.
 use crate::scope_chain::Scopes;
-use file_facts::Name;
+use proto_decls::Name;
+use proto_tree::Span;
 use sqlite_items::Items;
-use syntax_tree::Span;
 
 // What a name has to mean where it stands.
 #[derive(Clone, Copy, Debug, PartialEq, Eq)]

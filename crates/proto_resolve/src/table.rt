@@ -1,48 +1,59 @@
 // An index that holds its files.
-ghost use Rattle.std.specs.Prelude.{◌≡◌, ◌<◌, ◌≤◌, ◌↔◌, ℕ, None, bytes_eq, length, position, IfOk, IsFalse};
-ghost use Rattle.file_facts.specs.declared.named_facts.NamedFacts.{NamedFacts};
-ghost use Rattle.std.specs.List.{insert, remove};
+ghost use Rattle.std.specs.Prelude.{◌≡◌, ◌<◌, ◌≤◌, ◌↔◌, ℕ, Err, None, bytes_eq, length, position, IfOk, IsFalse, MatchOption};
+ghost use Rattle.proto_decls.specs.declared.named_facts.NamedFacts.{NamedFacts};
+ghost use Rattle.std.specs.List.{insert};
 ghost use Rattle.import_graph.specs.Arrivals.{NobodyImports};
 ghost use Rattle.import_graph.specs.Imports.{graph_of};
 ghost use Rattle.import_graph.specs.Paths.{IsInPathOrder};
 ghost use Rattle.proto_resolve.specs.Bases.{IsBaseOf};
-ghost use Rattle.proto_names.specs.Files.{facts_at};
+ghost use Rattle.proto_resolve.specs.declared.fault.TableFault.TheVariants.{ThreadRefused};
+ghost use Rattle.proto_names.specs.Files.{all_decls, facts_at};
 ghost use Rattle.proto_resolve.specs.Outlines.{import_outline};
+ghost use Rattle.proto_resolve.specs.TableChanges.{changed, IsPossible, KeepsImports};
 ghost use Rattle.proto_names.specs.Outlines.{with_facts, exports};
 
 use crate::by_threads::names_and_base;
+use crate::fault::TableFault;
 use crate::index::Index;
+use crate::outline::same_imports;
 use crate::table_base::TableBase;
-use file_facts::{FileFacts, FullName, NameParts};
+use crate::table_change::TableChange;
 use import_graph::{FileNo, Graph, NamedFacts, SharedFacts, number_of, place_for};
+use proto_decls::{FileFacts, FullName, NameParts};
 use proto_names::{
-    DeclRef, NameEntries, NameTable, PackagedFile, have_one_name, of_package, same_exports,
+    DeclRef, NameEntries, NameTable, PackagedFile, all_decls, have_one_name, insert_decls,
+    of_package, replace_decls, same_exports,
 };
 use std::alloc::{AllocError, Global};
 use std::marker::Model;
+use std::sync::Wait;
 use std::thread::Threads;
 
-/// Files with their graph, the declarations of each name, and the files of each package. Contracts see it as the list of the files.
+/// Files with their graph, the declarations of each name, all of them in one list, and the files of each package. Contracts see it as the list
+/// of the files.
 #[derive(Drop)]
 pub struct Table {
     names: NameTable,
     base: TableBase,
+    // All declarations, by path, then offset.
+    decls: Vec<DeclRef>,
 }
 
 impl Model for Table {
-    ghost use Rattle.std.specs.Prelude.{List};
-    ghost use Rattle.file_facts.specs.declared.named_facts.NamedFacts.{NamedFacts};
+    ghost use Rattle.std.specs.Prelude.{◌≡◌, List};
+    ghost use Rattle.proto_decls.specs.declared.named_facts.NamedFacts.{NamedFacts};
+    ghost use Rattle.proto_names.specs.Files.{all_decls};
     ghost use Rattle.proto_resolve.specs.Bases.{IsBaseOf};
 
     ghost Value = { List NamedFacts };
 
     ghost view = { λ t. t.names };
 
-    ghost invariant = { λ t. IsBaseOf t.names t.base };
+    ghost invariant = { λ t. IsBaseOf t.names t.base × (t.decls.items ≡ all_decls t.names) };
 }
 
 // The names of the files with other facts of one. They stay in their order where that file declares what it did.
-fn with_facts(
+fn names_with(
     alloc: Global,
     names: NameTable,
     file: usize,
@@ -65,24 +76,24 @@ impl Table {
         requires { IsInPathOrder files.items }
         ensures { IfOk result (λ t. t ≡ files.items) }
     {
-        let base = TableBase::of(alloc, files.as_slice())?;
         let entries = NameEntries::of(alloc, files)?;
         let names = NameTable::of(alloc, entries)?;
-        Ok(Table { names, base })
+        Table::of_names(alloc, names)
     }
 
-    /// The table of the files of these entries, which are in the order of their paths, made by this thread and two others, if these can be
-    /// started. An `Err` comes only where memory was refused; the entries are gone then.
-    pub fn of_entries<R: Threads>(
+    /// The table of the files of these entries, which are in the order of their paths, made by this thread and, of 64 files or more, two
+    /// others. `Memory` if memory was refused, here or in a thread, and `ThreadRefused` if a thread couldn't be started. The entries are gone then.
+    pub fn of_entries<R: Threads + Wait>(
         rt: &R,
         alloc: Global,
         entries: NameEntries,
-    ) -> Result<Table, AllocError>
+    ) -> Result<Table, TableFault>
         requires { IsInPathOrder entries }
-        ensures { IfOk result (λ t. t ≡ entries) }
+        ensures table { IfOk result (λ t. t ≡ entries) }
+        ensures threads { result ≡ Err ThreadRefused → 64 ≤ length entries }
     {
         let (names, base) = names_and_base(rt, alloc, entries)?;
-        Ok(Table { names, base })
+        Ok(Table::of_parts(alloc, names, base)?)
     }
 
     /// The same table, in memory of its own but for the facts of the files, which it shares. The names are copied as they are; the graph and the
@@ -91,20 +102,29 @@ impl Table {
         ensures { IfOk result (λ t. t ≡ self.now) }
     {
         let names = self.names.copy(alloc)?;
-        let base = TableBase::of(alloc, names.files())?;
-        Ok(Table { names, base })
+        Table::of_names(alloc, names)
     }
 
     // The table of the files whose declarations by name and whose base these are.
-    fn of_parts(names: NameTable, base: TableBase) -> Table
+    fn of_parts(alloc: Global, names: NameTable, base: TableBase) -> Result<Table, AllocError>
         requires { IsBaseOf names base }
-        ensures { result ≡ names }
+        ensures { IfOk result (λ t. t ≡ names) }
     {
-        Table { names, base }
+        let decls = all_decls(alloc, names.files())?;
+        Ok(Table { names, base, decls })
     }
 
-    /// Puts other facts of a file, given by its number from 0, in the place of its facts, which say the same to the other files
-    /// and of imports. Takes no memory.
+    // The table of the files whose declarations by name these are. What else it knows of them is made anew.
+    fn of_names(alloc: Global, names: NameTable) -> Result<Table, AllocError>
+        requires { IsInPathOrder names }
+        ensures { IfOk result (λ t. t ≡ names) }
+    {
+        let base = TableBase::of(alloc, names.files())?;
+        Table::of_parts(alloc, names, base)
+    }
+
+    /// Puts other facts of a file, given by its number from 0, in the place of its facts, which say the same to the other files and of imports.
+    /// Takes no memory.
     pub fn set_facts(&mut self, file: usize, facts: SharedFacts)
         requires within { file < length self.old }
         requires imports { import_outline facts ≡ import_outline (facts_at self.old file) }
@@ -114,65 +134,83 @@ impl Table {
         self.names.set_facts(file, facts);
     }
 
-    /// The table with other facts of a file, given by its number from 0, and the graph of the files before. Of the names only that
-    /// file's are put in order again, and none where it declares what it did; the graph and the rest are made anew. An `Err` comes
-    /// only where memory was refused; the table is gone then.
-    pub fn replace_facts(
+    // The table with other facts of a file, and the graph before, unless they say the same of imports.
+    fn with_facts(
         self,
         alloc: Global,
         file: usize,
         facts: SharedFacts,
-    ) -> Result<(Table, Graph), AllocError>
+    ) -> Result<(Table, Option<Graph>), AllocError>
         requires { file < length self }
         ensures table { IfOk result (λ r. r.0 ≡ with_facts self file facts) }
-        ensures graph { IfOk result (λ r. r.1 ≡ graph_of self) }
+        ensures graph { IfOk result (λ r. MatchOption r.1 (import_outline facts ≡ import_outline (facts_at self file)) (λ before. before ≡ graph_of self)) }
     {
-        let Table { names, base } = self;
-        let names = with_facts(alloc, names, file, facts)?;
-        let made = TableBase::of(alloc, names.files())?;
-        Ok((Table::of_parts(names, made), base.graph))
+        let Table {
+            names,
+            base,
+            mut decls,
+        } = self;
+        let old = names.files()[file].facts.get();
+        let keeps_imports = same_imports(facts.get(), old);
+        let keeps_package = have_one_name(&facts.get().package, &old.package);
+        let names = names_with(alloc, names, file, facts)?;
+        if !keeps_imports {
+            return Ok((Table::of_names(alloc, names)?, Some(base.graph)));
+        }
+        let base = base.changed(alloc, names.files(), file, keeps_package)?;
+        replace_decls(alloc, names.files(), file, &mut decls)?;
+        Ok((Table { names, base, decls }, None))
     }
 
-    /// The table with other facts of a file, given by its number from 0, which say the same of imports: the graph stays, and so do the
-    /// packages, if the file has the same one. An `Err` comes only where memory was refused; the table is gone then.
-    pub fn replace_exports(
-        self,
-        alloc: Global,
-        file: usize,
-        facts: SharedFacts,
-    ) -> Result<Table, AllocError>
-        requires within { file < length self }
-        requires imports { import_outline facts ≡ import_outline (facts_at self file) }
-        ensures { IfOk result (λ t. t ≡ with_facts self file facts) }
-    {
-        let Table { names, base } = self;
-        let same_package = have_one_name(
-            &facts.get().package,
-            &names.files()[file].facts.get().package,
-        );
-        let names = names.replace(alloc, file, facts)?;
-        let base = base.changed(alloc, names.files(), file, same_package)?;
-        Ok(Table::of_parts(names, base))
-    }
-
-    /// The table with one more file, which gets the number `at`, counted from 0: those from there on have one more; and the graph of the
-    /// files before. Of the names only that file's are put in order; the graph and the rest are made anew. An `Err` comes only where
-    /// memory was refused; the table is gone then.
-    pub fn with_file(
+    // The table with one more file, which gets the number `at`, and the graph before, unless none of the others imports it.
+    fn with_file(
         self,
         alloc: Global,
         at: usize,
         file: NamedFacts,
-    ) -> Result<(Table, Graph), AllocError>
+    ) -> Result<(Table, Option<Graph>), AllocError>
         requires within { at ≤ length self }
         requires ordered { IsInPathOrder (insert self at file) }
         ensures table { IfOk result (λ r. r.0 ≡ insert self at file) }
-        ensures graph { IfOk result (λ r. r.1 ≡ graph_of self) }
+        ensures graph { IfOk result (λ r. MatchOption r.1 (NobodyImports self file.path) (λ before. before ≡ graph_of self)) }
     {
-        let Table { names, base } = self;
+        let is_imported = self.is_imported(file.path.as_str());
+        let Table {
+            names,
+            base,
+            mut decls,
+        } = self;
         let names = names.with_file(alloc, at, file)?;
-        let made = TableBase::of(alloc, names.files())?;
-        Ok((Table::of_parts(names, made), base.graph))
+        if is_imported {
+            return Ok((Table::of_names(alloc, names)?, Some(base.graph)));
+        }
+        let base = base.with_file(alloc, names.files(), at)?;
+        insert_decls(alloc, names.files(), at, &mut decls)?;
+        Ok((Table { names, base, decls }, None))
+    }
+
+    /// The table after a change; and the graph of the files before if imports may lead elsewhere, as always where a file leaves. If not, the table
+    /// has that graph still, with the numbers that files have now. Of the names only those of the file that changes, comes or leaves are put in
+    /// order or taken out, and none where it declares what it did. All else is made anew only where imports may lead elsewhere. An `Err` comes
+    /// only where memory was refused; the table is gone then.
+    pub fn update(
+        self,
+        alloc: Global,
+        change: TableChange,
+    ) -> Result<(Table, Option<Graph>), AllocError>
+        requires { IsPossible self change }
+        ensures table { IfOk result (λ r. r.0 ≡ changed self change) }
+        ensures graph { IfOk result (λ r. MatchOption r.1 (KeepsImports self change) (λ before. before ≡ graph_of self)) }
+    {
+        match change {
+            TableChange::Facts(file, facts) => self.with_facts(alloc, file, facts),
+            TableChange::Added(at, file) => self.with_file(alloc, at, file),
+            TableChange::Removed(at) => {
+                let Table { names, base, .. } = self;
+                let names = names.without_file(alloc, at)?;
+                Ok((Table::of_names(alloc, names)?, Some(base.graph)))
+            }
+        }
     }
 
     /// The number, from 0, of the file with a path; `None` where there is none. Found by halving; takes no memory.
@@ -199,39 +237,6 @@ impl Table {
         self.base.graph.is_imported(self.names.files(), path)
     }
 
-    /// The table with one more file, which none of the others imports and which gets the number `at`, counted from 0: those from there on
-    /// have one more. Nothing else changes for the others. An `Err` comes only where memory was refused; the table is gone then.
-    pub fn with_unimported(
-        self,
-        alloc: Global,
-        at: usize,
-        file: NamedFacts,
-    ) -> Result<Table, AllocError>
-        requires within { at ≤ length self }
-        requires ordered { IsInPathOrder (insert self at file) }
-        requires nobody { NobodyImports self file.path }
-        ensures { IfOk result (λ t. t ≡ insert self at file) }
-    {
-        let Table { names, base } = self;
-        let names = names.with_file(alloc, at, file)?;
-        let base = base.with_file(alloc, names.files(), at)?;
-        Ok(Table::of_parts(names, base))
-    }
-
-    /// The table without the file of the number `at`, counted from 0: those behind it have one less; and the graph of the files
-    /// before. Of the names only that file's leave their places; the graph and the rest are made anew. An `Err` comes only where memory
-    /// was refused; the table is gone then.
-    pub fn without_file(self, alloc: Global, at: usize) -> Result<(Table, Graph), AllocError>
-        requires { at < length self }
-        ensures table { IfOk result (λ r. r.0 ≡ remove self at) }
-        ensures graph { IfOk result (λ r. r.1 ≡ graph_of self) }
-    {
-        let Table { names, base } = self;
-        let names = names.without_file(alloc, at)?;
-        let made = TableBase::of(alloc, names.files())?;
-        Ok((Table::of_parts(names, made), base.graph))
-    }
-
     /// The graph of the files alone; the rest of the table is gone then.
     pub fn into_graph(self) -> Graph
         ensures { result ≡ graph_of self }
@@ -240,11 +245,11 @@ impl Table {
         base.graph
     }
 
-    // The files.
-    pub(crate) fn files(&self) -> &[NamedFacts]
-        ensures { result.now ≡ self.now }
+    /// All declarations, by path, then offset.
+    pub fn decls(&self) -> &[DeclRef]
+        ensures { result.now ≡ all_decls self.now }
     {
-        self.names.files()
+        self.decls.as_slice()
     }
 
     /// How many files there are.

@@ -1,7 +1,7 @@
 // What names mean.
 ghost use Rattle.std.specs.Prelude.{◌≡◌, IfOk};
 
-use file_facts::Name;
+use proto_decls::Name;
 use proto_names::DeclRef;
 use std::alloc::{AllocError, Global};
 

@@ -15,10 +15,10 @@ use crate::resolver::Resolver;
 use crate::site::{Component, NameSite};
 use crate::target::Target;
 use crate::view::View;
-use file_facts::Diag;
+use proto_decls::Diag;
+use proto_tree::Span;
 use sqlite_items::Items;
 use std::alloc::{AllocError, Global};
-use syntax_tree::Span;
 
 /// A component of a name, with what it refers to.
 #[derive(Debug, Drop)]

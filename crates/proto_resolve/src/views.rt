@@ -4,14 +4,14 @@ ghost use Rattle.std.specs.List.{list_any};
 ghost use Rattle.std.specs.List.Sorted.{IsNonDecreasing};
 ghost use Rattle.import_graph.specs.Imports.{graph_of};
 ghost use Rattle.import_graph.specs.Closures.{view_of};
-ghost use Rattle.file_facts.specs.Text.{joined};
+ghost use Rattle.proto_decls.specs.Text.{joined};
 ghost use Rattle.proto_names.specs.Files.{has_package};
 ghost use Rattle.proto_names.specs.Holders.{IsPast};
 ghost use Rattle.proto_resolve.specs.Views.{IsView};
 
 use crate::index::Index;
 use crate::view::View;
-use file_facts::NameParts;
+use proto_decls::NameParts;
 use proto_names::{is_within, last_within, later};
 use sqlite_items::Items;
 use std::alloc::{AllocError, Global};

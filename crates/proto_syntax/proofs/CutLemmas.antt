@@ -4,28 +4,28 @@ use Rattle.std.proofs.lemmas.List.{take_more, drop_more, drop_all, drop-drop, ta
 use Rattle.std.specs.Prelude.{◌==◌, ◌&&◌, not, IsTrue, count_by}
 use Rattle.std.proofs.lemmas.Bool.{eqb-true, false≢true}
 use denote.Enum.Bare.{same_true}
-use Rattle.syntax_tree.specs.contracts.lexeme.Word.{the_type}
+use Rattle.proto_tree.specs.contracts.lexeme.Terminal.{the_type}
 use Rattle.std.proofs.lemmas.List.Sums.{count_by_more_yes, count_by_more_no, count_by-le-length}
-use Rattle.syntax_tree.specs.declared.lexeme.Word.TheVariants as w
-use Rattle.syntax_tree.specs.declared.lexeme.Lexeme.{Lexeme}
-use Rattle.syntax_tree.specs.declared.lexeme.Body.{Body}
-use Rattle.syntax_tree.specs.declared.lexeme.Word.{Word}
-use Rattle.syntax_tree.specs.Lexeme.{is, is_plain}
+use Rattle.proto_tree.specs.declared.lexeme.Terminal.TheVariants as w
+use Rattle.proto_tree.specs.declared.lexeme.Lexeme.{Lexeme}
+use Rattle.proto_tree.specs.declared.lexeme.Body.{Body}
+use Rattle.proto_tree.specs.declared.lexeme.Terminal.{Terminal}
+use Rattle.proto_tree.specs.Lexeme.{is, is_plain}
 use Rattle.proto_syntax.specs.Skips.{opened, closed, IsSkip}
 use Rattle.proto_syntax.proofs.SkipLemmas.{count-add}
-use Rattle.syntax_tree.specs.Cut.{ends_in, ends, items_from, is_finished, is_stray, is_at_depth_0, is_file, is_quiet}
+use Rattle.proto_tree.specs.Cut.{ends_in, ends, items_from, is_finished, is_stray, is_at_depth_0, is_file, is_quiet}
 
 -- the default of an index
 abbrev pub no_lexeme : Lexeme
-no_lexeme = record { word = w.Message; span = record { start = 0; «end» = 0 } }
+no_lexeme = record { terminal = w.Message; span = record { start = 0; «end» = 0 } }
 
 -- the last token decides
-pub ends_in-last : (word : Word) (ts : List Lexeme) (d : Lexeme) → 0 < length ts → ends_in word ts ≡ is word (get_or ts (length ts - 1) d)
-ends_in-last word [] d h = absurd (omega arith)
-ends_in-last word (t ∷ []) d h = refl
-ends_in-last word (t ∷ u ∷ ts) d h =
+pub ends_in-last : (terminal : Terminal) (ts : List Lexeme) (d : Lexeme) → 0 < length ts → ends_in terminal ts ≡ is terminal (get_or ts (length ts - 1) d)
+ends_in-last terminal [] d h = absurd (omega arith)
+ends_in-last terminal (t ∷ []) d h = refl
+ends_in-last terminal (t ∷ u ∷ ts) d h =
     let e : length (t ∷ u ∷ ts) - 1 ≡ suc (length (u ∷ ts) - 1) = omega arith in
-    ends_in-last word (u ∷ ts) d (omega arith) ∙ ap (λ n. is word (get_or (t ∷ u ∷ ts) n d)) (sym e)
+    ends_in-last terminal (u ∷ ts) d (omega arith) ∙ ap (λ n. is terminal (get_or (t ∷ u ∷ ts) n d)) (sym e)
 
 -- where an item doesn't end, it grows by a token
 pub items_from-grown : (body : Body) (ts : List Lexeme) (i : ℕ) (d : Lexeme) → i < length ts → ends body (take (i + 1) ts) (drop (i + 1) ts) ≡ false → items_from body (take i ts) (drop i ts) ≡ items_from body (take (i + 1) ts) (drop (i + 1) ts)
@@ -77,12 +77,12 @@ ends-inside body item (t ∷ rest) h m =
     stray (u ∷ v ∷ us) g = refl
 
 -- one more token is counted
-pub count-step : (word : Word) (ts : List Lexeme) (i : ℕ) (d : Lexeme) (n m : ℕ) → i < length ts → n ≡ count_by (is word) (take i ts) → m ≡ cond (is word (get_or ts i d)) 1 0 → n + m ≡ count_by (is word) (take (i + 1) ts)
-count-step word ts i d n m h e f = tested (is word (get_or ts i d)) refl
+pub count-step : (terminal : Terminal) (ts : List Lexeme) (i : ℕ) (d : Lexeme) (n m : ℕ) → i < length ts → n ≡ count_by (is terminal) (take i ts) → m ≡ cond (is terminal (get_or ts i d)) 1 0 → n + m ≡ count_by (is terminal) (take (i + 1) ts)
+count-step terminal ts i d n m h e f = tested (is terminal (get_or ts i d)) refl
   where
-    tested : (b : Bool) → is word (get_or ts i d) ≡ b → n + m ≡ count_by (is word) (take (i + 1) ts)
-    tested true g = let one : m ≡ 1 = f ∙ ap (λ b. cond b 1 0) g in omega (arith, e, count_by_more_yes (is word) ts i d h g)
-    tested false g = let none : m ≡ 0 = f ∙ ap (λ b. cond b 1 0) g in omega (arith, e, count_by_more_no (is word) ts i d h g)
+    tested : (b : Bool) → is terminal (get_or ts i d) ≡ b → n + m ≡ count_by (is terminal) (take (i + 1) ts)
+    tested true g = let one : m ≡ 1 = f ∙ ap (λ b. cond b 1 0) g in omega (arith, e, count_by_more_yes (is terminal) ts i d h g)
+    tested false g = let none : m ≡ 0 = f ∙ ap (λ b. cond b 1 0) g in omega (arith, e, count_by_more_no (is terminal) ts i d h g)
 
 -- Where the next n tokens stand inside braces and others follow, no item ends there.
 pub items_from-inside : (body : Body) (ts : List Lexeme) (i n : ℕ) → i + n < length ts → ((m : ℕ) → 0 < m → m ≤ n → closed (take (i + m) ts) < opened (take (i + m) ts))
@@ -135,21 +135,21 @@ unfinished body ts h = let depth : is_at_depth_0 ts ≡ false = level_no _ _ h i
 
 -- ---- tokens that end nothing
 
--- a plain token isn't a word that isn't plain
-plain_no : (word : Word) (t : Lexeme) → is_plain word ≡ false → is_plain t.word ≡ true → is word t ≡ false
-plain_no word t p q = tested (is word t) refl
+-- a plain token isn't a terminal that isn't plain
+plain_no : (terminal : Terminal) (t : Lexeme) → is_plain terminal ≡ false → is_plain t.terminal ≡ true → is terminal t ≡ false
+plain_no terminal t p q = tested (is terminal t) refl
   where
-    tested : (b : Bool) → is word t ≡ b → is word t ≡ false
-    tested true e = let same : t.word ≡ word = same_true the_type (search refl) t.word word e in absurd (false≢true (sym p ∙ ap is_plain (sym same) ∙ q))
+    tested : (b : Bool) → is terminal t ≡ b → is terminal t ≡ false
+    tested true e = let same : t.terminal ≡ terminal = same_true the_type (search refl) t.terminal terminal e in absurd (false≢true (sym p ∙ ap is_plain (sym same) ∙ q))
     tested false e = e
 
-ends_in-push : (word : Word) (item : List Lexeme) (t : Lexeme) → ends_in word (item ++ t ∷ []) ≡ is word t
-ends_in-push word [] t = refl
-ends_in-push word (u ∷ []) t = refl
-ends_in-push word (u ∷ v ∷ us) t = ends_in-push word (v ∷ us) t
+ends_in-push : (terminal : Terminal) (item : List Lexeme) (t : Lexeme) → ends_in terminal (item ++ t ∷ []) ≡ is terminal t
+ends_in-push terminal [] t = refl
+ends_in-push terminal (u ∷ []) t = refl
+ends_in-push terminal (u ∷ v ∷ us) t = ends_in-push terminal (v ∷ us) t
 
 -- where a quiet place follows, the item doesn't end there
-ends-quiet : (body : Body) (item : List Lexeme) (t u : Lexeme) (rest : List Lexeme) → is_plain t.word ≡ true → is w.CloseBrace u ≡ false → ends body (item ++ t ∷ []) (u ∷ rest) ≡ false
+ends-quiet : (body : Body) (item : List Lexeme) (t u : Lexeme) (rest : List Lexeme) → is_plain t.terminal ≡ true → is w.CloseBrace u ≡ false → ends body (item ++ t ∷ []) (u ∷ rest) ≡ false
 ends-quiet body item t u rest p q =
     let no_end : is w.Semicolon t ≡ false = plain_no w.Semicolon t refl p in
     let no_close : is w.CloseBrace t ≡ false = plain_no w.CloseBrace t refl p in
@@ -193,7 +193,7 @@ quiet-at body ts i h = by_rest (drop i ts) refl h
     by_rest [] e q = absurd (false≢true q)
     by_rest (t ∷ []) e q = absurd (false≢true q)
     by_rest (t ∷ u ∷ us) e q =
-        let two = both (is_plain t.word) (not (is w.CloseBrace u)) q in
+        let two = both (is_plain t.terminal) (not (is w.CloseBrace u)) q in
         let len : length (drop i ts) ≡ length ts - i = length-drop i ts in
         let long : length (t ∷ u ∷ us) ≡ length ts - i = ap length (sym e) ∙ len in
         let lt : i < length ts = omega arith in

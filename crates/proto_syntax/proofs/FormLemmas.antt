@@ -1,7 +1,7 @@
 -- No part is read from no tokens.
 use Rattle.std.proofs.Common.{◌≡◌, Bool, true, false, [], None, refl}
-use Rattle.syntax_tree.specs.Parts.{literal, run, number, one}
-use Rattle.syntax_tree.specs.Forms.{range, option_part}
+use Rattle.proto_tree.specs.Parts.{literal, run, number, one}
+use Rattle.proto_tree.specs.Forms.{range, option_part}
 
 pub literal-nil : literal [] ≡ None
 unfolding literal run

@@ -1,14 +1,14 @@
 -- Lemmas on reading items.
 use Rattle.std.proofs.Common.{◌≡◌, ℕ, zero, suc, ◌<◌, ◌-◌, true, List, [], ◌∷◌, ◌++◌, length, get_or, refl, sym, ap, ◌∙◌, arith, eqb, append-nil}
 use borrow.Author.Tests.{eqb-true}
-use Rattle.syntax_tree.specs.declared.lexeme.Lexeme.{Lexeme}
-use Rattle.syntax_tree.specs.Parts.{between, last_span, span_of}
-use Rattle.syntax_tree.specs.declared.lexeme.Body.{Body}
-use Rattle.syntax_tree.specs.declared.node.FileTree.{FileTree}
-use Rattle.syntax_tree.specs.declared.node.Node.{Node}
-use Rattle.syntax_tree.specs.declared.node.Fault.{Fault}
-use Rattle.syntax_tree.specs.Cut.{items_from}
-use Rattle.syntax_tree.specs.Read.{body_tree, body_with, finished_tree, deepest_tree, form_tree}
+use Rattle.proto_tree.specs.declared.lexeme.Lexeme.{Lexeme}
+use Rattle.proto_tree.specs.Parts.{between, last_span, span_of}
+use Rattle.proto_tree.specs.declared.lexeme.Body.{Body}
+use Rattle.proto_tree.specs.declared.node.FileTree.{FileTree}
+use Rattle.proto_tree.specs.declared.node.Node.{Node}
+use Rattle.proto_tree.specs.declared.node.Fault.{Fault}
+use Rattle.proto_tree.specs.Cut.{items_from}
+use Rattle.proto_tree.specs.Read.{body_tree, body_with, finished_tree, deepest_tree, form_tree}
 
 last_span-at : (t : Lexeme) (ts : List Lexeme) (d : Lexeme) → last_span t ts ≡ (get_or (t ∷ ts) (length ts) d).span
 last_span-at t [] d = refl

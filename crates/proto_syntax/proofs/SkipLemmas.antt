@@ -2,15 +2,15 @@
 use Rattle.std.proofs.Common.{◌≡◌, ◌⊎◌, inl, inr, subst, ℕ, zero, suc, ◌+◌, ◌<◌, ◌≤◌, ◌-◌, true, false, List, [], ◌∷◌, ◌++◌, length, get_or, take, drop, refl, sym, ap, ◌∙◌, arith, cond, length-drop, length-take}
 use Rattle.std.specs.Prelude.{IsTrue, count_by, min}
 use denote.Enum.Bare.{same_true}
-use Rattle.syntax_tree.specs.contracts.lexeme.Word.{the_type}
+use Rattle.proto_tree.specs.contracts.lexeme.Terminal.{the_type}
 use Rattle.std.proofs.lemmas.Bool.{false≢true}
-use Rattle.syntax_tree.specs.Cut.{begins}
+use Rattle.proto_tree.specs.Cut.{begins}
 use Rattle.std.proofs.lemmas.List.{drop-drop, take-take, drop_more, drop_all, take_all}
 use Rattle.std.proofs.lemmas.List.Sums.{sum_by-append}
-use Rattle.syntax_tree.specs.declared.lexeme.Word.TheVariants as w
-use Rattle.syntax_tree.specs.declared.lexeme.Lexeme.{Lexeme}
-use Rattle.syntax_tree.specs.declared.lexeme.Word.{Word}
-use Rattle.syntax_tree.specs.Lexeme.{is}
+use Rattle.proto_tree.specs.declared.lexeme.Terminal.TheVariants as w
+use Rattle.proto_tree.specs.declared.lexeme.Lexeme.{Lexeme}
+use Rattle.proto_tree.specs.declared.lexeme.Terminal.{Terminal}
+use Rattle.proto_tree.specs.Lexeme.{is}
 use Rattle.proto_syntax.specs.Skips.{opened, closed, IsSkip}
 use Rattle.proto_syntax.specs.Skips as spec
 
@@ -24,8 +24,8 @@ take-add (suc i) m [] = let e : suc i + m ≡ suc (i + m) = omega arith in rw e 
 take-add (suc i) m (t ∷ ts) = let e : suc i + m ≡ suc (i + m) = omega arith in rw e (ap (λ l. t ∷ l) (take-add i m ts))
 
 -- what the first i tokens count, and the m after them
-pub count-add : (word : Word) (i m : ℕ) (ts : List Lexeme) → count_by (is word) (take (i + m) ts) ≡ count_by (is word) (take i ts) + count_by (is word) (take m (drop i ts))
-count-add word i m ts = ap (count_by (is word)) (take-add i m ts) ∙ sum_by-append (λ t. cond (is word t) 1 0) (take i ts) (take m (drop i ts))
+pub count-add : (terminal : Terminal) (i m : ℕ) (ts : List Lexeme) → count_by (is terminal) (take (i + m) ts) ≡ count_by (is terminal) (take i ts) + count_by (is terminal) (take m (drop i ts))
+count-add terminal i m ts = ap (count_by (is terminal)) (take-add i m ts) ∙ sum_by-append (λ t. cond (is terminal t) 1 0) (take i ts) (take m (drop i ts))
 
 -- ---- the skips of a part of the tokens
 
@@ -105,7 +105,7 @@ skips-plain ts ns at d some le same o h =
 
 -- no token is both braces
 open_or_close : (t : Lexeme) → is w.OpenBrace t ≡ true → is w.CloseBrace t ≡ false
-open_or_close t h = let same : t.word ≡ w.OpenBrace = same_true the_type (search refl) t.word w.OpenBrace h in rw same refl
+open_or_close t h = let same : t.terminal ≡ w.OpenBrace = same_true the_type (search refl) t.terminal w.OpenBrace h in rw same refl
 
 -- the first n tokens stand inside the brace that begins them, so many braces deep
 pub record IsInside (ts : List Lexeme) (n depth : ℕ) : Type 0 where

@@ -2,7 +2,7 @@
 use Rattle.std.proofs.Common.{ℕ, zero, suc, ◌≤◌, List, [], ◌∷◌, All, arith}
 use Rattle.proto_lex.specs.declared.token.Token.{Token}
 use Rattle.proto_lex.specs.Laws.{IsOrderedFrom}
-use Rattle.syntax_tree.specs.Lexeme.{IsWithin}
+use Rattle.proto_tree.specs.Lexeme.{IsWithin}
 
 -- where tokens stand in order from an offset on, the offset is no further than the end
 reaches : (len at : ℕ) (ts : List Token) → IsOrderedFrom len at ts → at ≤ len

@@ -1,6 +1,6 @@
 -- What the program's readers give.
 use Rattle.std.specs.Prelude.{◌≡◌, List, Option, Some, None, Result, Ok, Err}
-use Rattle.syntax_tree.specs.declared.lexeme.Lexeme.{Lexeme}
+use Rattle.proto_tree.specs.declared.lexeme.Lexeme.{Lexeme}
 use Rattle.proto_syntax.specs.declared.parts.Unread.{Unread}
 use Rattle.proto_syntax.specs.declared.parts.Unread.TheVariants.{Memory, NoForm}
 

@@ -1,10 +1,10 @@
 -- How many tokens an opening brace lets the reader skip. The braces of a text are matched once, and where a body is
 -- cut into items, what stands between the braces of an item is skipped.
 use Rattle.std.specs.Prelude.{◌≡◌, ℕ, ◌+◌, ◌<◌, ◌≤◌, IsTrue, List, length, take, drop, count_by, slice_index}
-use Rattle.syntax_tree.specs.declared.lexeme.Lexeme.{Lexeme}
-use Rattle.syntax_tree.specs.declared.lexeme.Word.TheVariants as w
-use Rattle.syntax_tree.specs.Lexeme.{is}
-use Rattle.syntax_tree.specs.Cut.{begins}
+use Rattle.proto_tree.specs.declared.lexeme.Lexeme.{Lexeme}
+use Rattle.proto_tree.specs.declared.lexeme.Terminal.TheVariants as w
+use Rattle.proto_tree.specs.Lexeme.{is}
+use Rattle.proto_tree.specs.Cut.{begins}
 
 -- how many of the tokens are opening braces, and how many closing ones
 abbrev pub opened : List Lexeme → ℕ

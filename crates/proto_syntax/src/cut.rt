@@ -1,17 +1,17 @@
 // Cuts the tokens of a body into items.
 
 ghost use Rattle.std.specs.Prelude.{◌≡◌, ℕ, IsTrue, ◌<◌, ◌≤◌, ◌∷◌, length, take, drop, if◌then◌else◌};
-ghost use Rattle.syntax_tree.specs.Lexeme as lexeme;
-ghost use Rattle.syntax_tree.specs.Cut as spec;
+ghost use Rattle.proto_tree.specs.Lexeme as lexeme;
+ghost use Rattle.proto_tree.specs.Cut as spec;
 
 use crate::skips::Matched;
-use syntax_tree::{Body, Lexeme, Word};
+use proto_tree::{Body, Lexeme, Terminal};
 
-pub fn ends_in(word: Word, item: &[Lexeme]) -> bool
-    ensures { result ≡ spec.ends_in word item.now }
+pub fn ends_in(terminal: Terminal, item: &[Lexeme]) -> bool
+    ensures { result ≡ spec.ends_in terminal item.now }
 {
     match item.last() {
-        Some(last) => last.is(word),
+        Some(last) => last.is(terminal),
         None => false,
     }
 }
@@ -20,7 +20,7 @@ fn begins_block(body: Body, item: &[Lexeme]) -> bool
     ensures { result ≡ spec.begins_block body item.now }
 {
     match item.first() {
-        Some(first) => body != Body::Enum && first.word.is_block_word(),
+        Some(first) => body != Body::Enum && first.terminal.is_block_word(),
         None => false,
     }
 }
@@ -31,15 +31,15 @@ fn is_finished(body: Body, item: &[Lexeme], is_at_depth_0: bool) -> bool
     ensures { result ≡ spec.is_finished body item.now }
 {
     is_at_depth_0
-        && (ends_in(Word::Semicolon, item)
-            || (begins_block(body, item) && ends_in(Word::CloseBrace, item)))
+        && (ends_in(Terminal::Semicolon, item)
+            || (begins_block(body, item) && ends_in(Terminal::CloseBrace, item)))
 }
 
 pub fn is_stray(body: Body, item: &[Lexeme]) -> bool
     ensures { result ≡ spec.is_stray body item.now }
 {
     match item {
-        [only] => body == Body::File && only.is(Word::CloseBrace),
+        [only] => body == Body::File && only.is(Terminal::CloseBrace),
         _ => false,
     }
 }
@@ -49,7 +49,7 @@ fn is_cut_off(body: Body, item: &[Lexeme], rest: &[Lexeme], is_at_depth_0: bool)
     ensures { result ≡ spec.is_cut_off body item.now rest.now }
 {
     match rest.first() {
-        Some(next) => body == Body::File && next.is(Word::CloseBrace) && is_at_depth_0,
+        Some(next) => body == Body::File && next.is(Terminal::CloseBrace) && is_at_depth_0,
         None => true,
     }
 }
@@ -78,18 +78,18 @@ pub struct Cut {
     pub is_finished: bool,
 }
 
-fn counted(token: Lexeme, word: Word) -> usize
-    ensures value { result ≡ (if lexeme.is word token then 1 else 0) }
+fn counted(token: Lexeme, terminal: Terminal) -> usize
+    ensures value { result ≡ (if lexeme.is terminal token then 1 else 0) }
     ensures small { result ≤ 1 }
 {
-    if token.is(word) { 1 } else { 0 }
+    if token.is(terminal) { 1 } else { 0 }
 }
 
 fn is_quiet(ts: &[Lexeme]) -> bool
     ensures { result ≡ spec.is_quiet ts.now }
 {
     match ts {
-        [first, second, ..] => first.word.is_plain() && !second.is(Word::CloseBrace),
+        [first, second, ..] => first.terminal.is_plain() && !second.is(Terminal::CloseBrace),
         _ => false,
     }
 }
@@ -125,7 +125,7 @@ pub fn next_item(body: Body, rest: Matched<'_>) -> Cut
             end += run;
             continue;
         }
-        if closed <= opened && ts[end].is(Word::OpenBrace) {
+        if closed <= opened && ts[end].is(Terminal::OpenBrace) {
             // Nothing ends inside braces.
             let inner = rest.skip_at(end).min(ts.len() - end);
             if inner == ts.len() - end {
@@ -138,8 +138,8 @@ pub fn next_item(body: Body, rest: Matched<'_>) -> Cut
             end += inner;
             continue;
         }
-        opened += counted(ts[end], Word::OpenBrace);
-        closed += counted(ts[end], Word::CloseBrace);
+        opened += counted(ts[end], Terminal::OpenBrace);
+        closed += counted(ts[end], Terminal::CloseBrace);
         end += 1;
         let is_at_depth_0 = opened == closed;
         let is_finished = is_finished(body, &ts[..end], is_at_depth_0);

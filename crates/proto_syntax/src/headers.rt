@@ -1,37 +1,37 @@
 // What stands before the braces of a block.
 
 ghost use Rattle.std.specs.Prelude.{◌≡◌, IfOk, option_map};
-ghost use Rattle.syntax_tree.specs.Forms as spec;
+ghost use Rattle.proto_tree.specs.Forms as spec;
 ghost use Rattle.proto_syntax.specs.Reads.{Reads};
 
 use crate::parts::{TokenReader, Unread};
+use proto_tree::{Body, Header, Lexeme, Span, Terminal};
 use sqlite_items::Boxed;
 use std::alloc::{AllocError, Global};
-use syntax_tree::{Body, Header, Lexeme, Span, Word};
 
-fn block_name(tokens: &mut TokenReader<'_>, word: Word) -> Result<Span, Unread>
-    ensures { Reads (spec.block_name word tokens.old.rest.now) result tokens.new.rest.now }
+fn block_name(tokens: &mut TokenReader<'_>, terminal: Terminal) -> Result<Span, Unread>
+    ensures { Reads (spec.block_name terminal tokens.old.rest.now) result tokens.new.rest.now }
 {
-    tokens.word(word)?;
+    tokens.terminal(terminal)?;
     tokens.identifier()
 }
 
-#[tactic(auto, unfolding(syntax_tree::specs::Forms::extend_header))]
+#[tactic(auto, unfolding(proto_tree::specs::Forms::extend_header))]
 fn extend_header(alloc: Global, tokens: &mut TokenReader<'_>) -> Result<Header, Unread>
     ensures { Reads (spec.extend_header tokens.old.rest.now) result tokens.new.rest.now }
 {
-    tokens.word(Word::Extend)?;
+    tokens.terminal(Terminal::Extend)?;
     Ok(Header::Extend(Boxed::new(alloc, tokens.type_name(alloc)?)?))
 }
 
-#[tactic(auto, unfolding(syntax_tree::specs::Forms::rpc_header))]
+#[tactic(auto, unfolding(proto_tree::specs::Forms::rpc_header))]
 pub fn rpc_header(alloc: Global, tokens: &mut TokenReader<'_>) -> Result<Header, Unread>
     ensures { Reads (spec.rpc_header tokens.old.rest.now) result tokens.new.rest.now }
 {
-    tokens.word(Word::Rpc)?;
+    tokens.terminal(Terminal::Rpc)?;
     let name = Boxed::new(alloc, tokens.identifier()?)?;
     let request = tokens.in_parentheses(alloc)?;
-    tokens.word(Word::Returns)?;
+    tokens.terminal(Terminal::Returns)?;
     let response = tokens.in_parentheses(alloc)?;
     Ok(Header::Rpc {
         name,
@@ -40,30 +40,34 @@ pub fn rpc_header(alloc: Global, tokens: &mut TokenReader<'_>) -> Result<Header,
     })
 }
 
-fn header_form(alloc: Global, tokens: &mut TokenReader<'_>, word: Word) -> Result<Header, Unread>
-    ensures { Reads (spec.header_form word tokens.old.rest.now) result tokens.new.rest.now }
+fn header_form(
+    alloc: Global,
+    tokens: &mut TokenReader<'_>,
+    terminal: Terminal,
+) -> Result<Header, Unread>
+    ensures { Reads (spec.header_form terminal tokens.old.rest.now) result tokens.new.rest.now }
 {
-    match word {
-        Word::Message => Ok(Header::Message(block_name(tokens, word)?)),
-        Word::Enum => Ok(Header::Enum(block_name(tokens, word)?)),
-        Word::Service => Ok(Header::Service(block_name(tokens, word)?)),
-        Word::Oneof => Ok(Header::Oneof(block_name(tokens, word)?)),
-        Word::Extend => extend_header(alloc, tokens),
-        Word::Rpc => rpc_header(alloc, tokens),
+    match terminal {
+        Terminal::Message => Ok(Header::Message(block_name(tokens, terminal)?)),
+        Terminal::Enum => Ok(Header::Enum(block_name(tokens, terminal)?)),
+        Terminal::Service => Ok(Header::Service(block_name(tokens, terminal)?)),
+        Terminal::Oneof => Ok(Header::Oneof(block_name(tokens, terminal)?)),
+        Terminal::Extend => extend_header(alloc, tokens),
+        Terminal::Rpc => rpc_header(alloc, tokens),
         _ => Err(Unread::NoForm),
     }
 }
 
 // A header and its `{`.
-#[tactic(auto, unfolding(syntax_tree::specs::Forms::header_and_brace))]
+#[tactic(auto, unfolding(proto_tree::specs::Forms::header_and_brace))]
 fn header_and_brace(alloc: Global, tokens: &mut TokenReader<'_>) -> Result<Header, Unread>
     ensures { Reads (spec.header_and_brace tokens.old.rest.now) result tokens.new.rest.now }
 {
     let Some(first) = tokens.rest.first() else {
         return Err(Unread::NoForm);
     };
-    let header = header_form(alloc, tokens, first.word)?;
-    tokens.word(Word::OpenBrace)?;
+    let header = header_form(alloc, tokens, first.terminal)?;
+    tokens.terminal(Terminal::OpenBrace)?;
     Ok(header)
 }
 
@@ -82,19 +86,19 @@ pub fn header_and_rest(
     }
 }
 
-pub fn opens(body: Body, word: Word) -> bool
-    ensures { result ≡ spec.opens body word }
+pub fn opens(body: Body, terminal: Terminal) -> bool
+    ensures { result ≡ spec.opens body terminal }
 {
     match body {
         Body::File => matches!(
-            word,
-            Word::Message | Word::Enum | Word::Service | Word::Extend
+            terminal,
+            Terminal::Message | Terminal::Enum | Terminal::Service | Terminal::Extend
         ),
         Body::Message => matches!(
-            word,
-            Word::Message | Word::Enum | Word::Extend | Word::Oneof
+            terminal,
+            Terminal::Message | Terminal::Enum | Terminal::Extend | Terminal::Oneof
         ),
-        Body::Service => matches!(word, Word::Rpc),
+        Body::Service => matches!(terminal, Terminal::Rpc),
         _ => false,
     }
 }

@@ -2,7 +2,7 @@
 //!
 //! `parse` cuts the tokens of a text into statements, reads each by the forms of the language's grammar, and goes on
 //! inside the braces of a block. A statement that can't be read costs itself alone. The types of the tree, and what the tree
-//! of a text is, stand in `syntax_tree`; the types are offered here again.
+//! of a text is, stand in `proto_tree`; the types are offered here again.
 #![tactic(auto)]
 
 mod cut;
@@ -15,8 +15,8 @@ mod scan;
 mod skips;
 
 pub use parser::{parse, parse_text};
-pub use sqlite_items::Items;
-pub use syntax_tree::{
+pub use proto_tree::{
     Fault, Field, FileTree, Literal, MapField, Node, Number, RangeEnd, ReservedList, ReservedRange,
     Span, SyntaxProblem, TypeName,
 };
+pub use sqlite_items::Items;

@@ -1,17 +1,17 @@
 // The tree of a whole text.
 ghost use Rattle.std.specs.Prelude.{◌≡◌, [], All, IfOk, length};
 ghost use Rattle.proto_lex.specs.Tokens as lexer;
-ghost use Rattle.syntax_tree.specs.Lexeme.{IsWithin};
-ghost use Rattle.syntax_tree.specs.Read as spec;
-ghost use Rattle.syntax_tree.specs.declared.lexeme.Body.TheVariants as b;
+ghost use Rattle.proto_tree.specs.Lexeme.{IsWithin};
+ghost use Rattle.proto_tree.specs.Read as spec;
+ghost use Rattle.proto_tree.specs.declared.lexeme.Body.TheVariants as b;
 
 use crate::read::{BodyReader, body_tree};
 use crate::scan::{lexemes, text_lexemes};
 use crate::skips::Matched;
 use proto_lex::{Token, ordered_tokens};
+use proto_tree::{Body, Fault, FileTree, Lexeme};
 use sqlite_items::Items;
 use std::alloc::{AllocError, Global};
-use syntax_tree::{Body, Fault, FileTree, Lexeme};
 
 // How many blocks may stand one inside the other.
 const MAX_BLOCKS: usize = 64;
@@ -40,7 +40,7 @@ pub fn parse(alloc: Global, text: &str, tokens: &[Token]) -> Result<FileTree, Al
 /// # Errors
 ///
 /// `AllocError` where the tree can't grow. The text stays as it is, so the call may be made again.
-#[tactic(auto, unfolding(syntax_tree::specs::Read::read, syntax_tree::specs::Read::tree_of))]
+#[tactic(auto, unfolding(proto_tree::specs::Read::read, proto_tree::specs::Read::tree_of))]
 pub fn parse_text(alloc: Global, text: &str) -> Result<FileTree, AllocError>
     ensures { IfOk result (λ tree. tree ≡ spec.read text.now) }
 {
@@ -50,7 +50,7 @@ pub fn parse_text(alloc: Global, text: &str) -> Result<FileTree, AllocError>
 }
 
 // The tree of a text and of tokens that lie in it.
-#[tactic(auto, unfolding(syntax_tree::specs::Read::tree_of))]
+#[tactic(auto, unfolding(proto_tree::specs::Read::tree_of))]
 fn tree_of(alloc: Global, text: &str, tokens: &[Token]) -> Result<FileTree, AllocError>
     requires { All (IsWithin (length text.now)) tokens.now }
     ensures { IfOk result (λ tree. tree ≡ spec.tree_of text.now tokens.now) }

@@ -2,14 +2,14 @@
 
 ghost use Rattle.std.specs.Prelude.{◌≡◌, ◌≤◌, [], length, reverse, IfOk};
 ghost use Rattle.proto_syntax.specs.Brackets.{TakesBracket};
-ghost use Rattle.syntax_tree.specs.Parts as spec;
-ghost use Rattle.syntax_tree.specs.Forms as forms;
-ghost use Rattle.syntax_tree.specs.Cut as cut;
+ghost use Rattle.proto_tree.specs.Parts as spec;
+ghost use Rattle.proto_tree.specs.Forms as forms;
+ghost use Rattle.proto_tree.specs.Cut as cut;
 
 use crate::cut::ends_in;
+use proto_tree::{Lexeme, Literal, Number, Span, Spans, Terminal, TypeName};
 use sqlite_items::{Boxed, Items};
 use std::alloc::{AllocError, Global};
-use syntax_tree::{Lexeme, Literal, Number, Span, Spans, TypeName, Word};
 
 // Why a part wasn't read.
 #[derive(Debug, Drop)]
@@ -35,16 +35,16 @@ pub struct TokenReader<'a> {
 }
 
 impl<'a> TokenReader<'a> {
-    ghost use Rattle.syntax_tree.specs.Parts as spec;
+    ghost use Rattle.proto_tree.specs.Parts as spec;
     ghost use Rattle.proto_syntax.specs.Reads.{Reads};
 
-    #[tactic(auto, unfolding(syntax_tree::specs::Parts::one))]
-    pub fn word(&mut self, word: Word) -> Result<Span, Unread>
-        ensures reads { Reads (spec.word word self.old.rest.now) result self.new.rest.now }
+    #[tactic(auto, unfolding(proto_tree::specs::Parts::one))]
+    pub fn terminal(&mut self, terminal: Terminal) -> Result<Span, Unread>
+        ensures reads { Reads (spec.terminal terminal self.old.rest.now) result self.new.rest.now }
         ensures left { length self.new.rest.now ≤ length self.old.rest.now }
     {
         match self.rest {
-            [first, rest @ ..] if first.word == word => {
+            [first, rest @ ..] if first.terminal == terminal => {
                 self.rest = rest;
                 Ok(first.span)
             }
@@ -52,13 +52,13 @@ impl<'a> TokenReader<'a> {
         }
     }
 
-    #[tactic(auto, unfolding(syntax_tree::specs::Parts::one))]
+    #[tactic(auto, unfolding(proto_tree::specs::Parts::one))]
     pub fn identifier(&mut self) -> Result<Span, Unread>
         ensures reads { Reads (spec.identifier self.old.rest.now) result self.new.rest.now }
         ensures left { length self.new.rest.now ≤ length self.old.rest.now }
     {
         match self.rest {
-            [first, rest @ ..] if first.word.is_identifier() => {
+            [first, rest @ ..] if first.terminal.is_identifier() => {
                 self.rest = rest;
                 Ok(first.span)
             }
@@ -66,13 +66,13 @@ impl<'a> TokenReader<'a> {
         }
     }
 
-    #[tactic(auto, unfolding(syntax_tree::specs::Parts::eat))]
-    pub fn eat(&mut self, word: Word) -> bool
-        ensures reads { spec.eat word self.old.rest.now ≡ Some (result, self.new.rest.now) }
+    #[tactic(auto, unfolding(proto_tree::specs::Parts::eat))]
+    pub fn eat(&mut self, terminal: Terminal) -> bool
+        ensures reads { spec.eat terminal self.old.rest.now ≡ Some (result, self.new.rest.now) }
         ensures left { length self.new.rest.now ≤ length self.old.rest.now }
     {
         match self.rest {
-            [first, rest @ ..] if first.is(word) => {
+            [first, rest @ ..] if first.is(terminal) => {
                 self.rest = rest;
                 true
             }
@@ -80,22 +80,22 @@ impl<'a> TokenReader<'a> {
         }
     }
 
-    pub fn begins(&self, word: Word) -> bool
-        ensures { result ≡ cut.begins word self.now.rest.now }
+    pub fn begins(&self, terminal: Terminal) -> bool
+        ensures { result ≡ cut.begins terminal self.now.rest.now }
     {
         match self.rest.first() {
-            Some(first) => first.is(word),
+            Some(first) => first.is(terminal),
             None => false,
         }
     }
 
-    #[tactic(auto, unfolding(syntax_tree::specs::Parts::number))]
+    #[tactic(auto, unfolding(proto_tree::specs::Parts::number))]
     pub fn number(&mut self, may_be_negative: bool) -> Result<Number, Unread>
         ensures reads { Reads (spec.number may_be_negative self.old.rest.now) result self.new.rest.now }
         ensures left { length self.new.rest.now ≤ length self.old.rest.now }
     {
         if !may_be_negative {
-            let digits = self.word(Word::Int)?;
+            let digits = self.terminal(Terminal::Int)?;
             return Ok(Number {
                 span: digits,
                 is_negative: false,
@@ -105,8 +105,8 @@ impl<'a> TokenReader<'a> {
         let Some(first) = self.rest.first() else {
             return Err(Unread::NoForm);
         };
-        let is_negative = self.eat(Word::Minus);
-        let digits = self.word(Word::Int)?;
+        let is_negative = self.eat(Terminal::Minus);
+        let digits = self.terminal(Terminal::Int)?;
         Ok(Number {
             span: Span {
                 start: first.span.start,
@@ -126,13 +126,13 @@ impl<'a> TokenReader<'a> {
         'parts: loop {
             let name = self.identifier()?;
             found.push(name)?;
-            if !self.eat(Word::Dot) {
+            if !self.eat(Terminal::Dot) {
                 return Ok(found);
             }
         }
     }
 
-    #[tactic(auto, unfolding(syntax_tree::specs::Parts::type_name))]
+    #[tactic(auto, unfolding(proto_tree::specs::Parts::type_name))]
     pub fn type_name(&mut self, alloc: Global) -> Result<TypeName, Unread>
         ensures reads { Reads (spec.type_name self.old.rest.now) result self.new.rest.now }
         ensures left { length self.new.rest.now ≤ length self.old.rest.now }
@@ -140,7 +140,7 @@ impl<'a> TokenReader<'a> {
         let Some(first) = self.rest.first() else {
             return Err(Unread::NoForm);
         };
-        let is_absolute = self.eat(Word::Dot);
+        let is_absolute = self.eat(Terminal::Dot);
         let components = Spans::of(self.full(alloc)?);
         let last = last_of(first.span, components.as_slice());
         Ok(TypeName {
@@ -157,7 +157,7 @@ impl<'a> TokenReader<'a> {
     {
         let mut found = room_for_one(alloc)?;
         'texts: while let [first, rest @ ..] = self.rest {
-            if first.word != Word::PlainText {
+            if first.terminal != Terminal::PlainText {
                 return Ok(found);
             }
             found.push(first.span)?;
@@ -166,7 +166,7 @@ impl<'a> TokenReader<'a> {
         Ok(found)
     }
 
-    #[tactic(auto, unfolding(syntax_tree::specs::Parts::literal))]
+    #[tactic(auto, unfolding(proto_tree::specs::Parts::literal))]
     pub fn literal(&mut self, alloc: Global) -> Result<Literal, Unread>
         ensures reads { Reads (spec.literal self.old.rest.now) result self.new.rest.now }
         ensures left { length self.new.rest.now ≤ length self.old.rest.now }
@@ -197,18 +197,19 @@ impl<'a> TokenReader<'a> {
         ensures { Reads (forms.numbered self.old.rest.now) result self.new.rest.now }
     {
         let name = self.identifier()?;
-        self.word(Word::Equals)?;
-        let number = self.word(Word::Int)?;
+        self.terminal(Terminal::Equals)?;
+        let number = self.terminal(Terminal::Int)?;
         self.options_end(alloc)?;
         Ok((name, number))
     }
 
-    #[tactic(auto, unfolding(syntax_tree::specs::Forms::label))]
+    #[tactic(auto, unfolding(proto_tree::specs::Forms::label))]
     fn label(&mut self) -> Option<Span>
         ensures { forms.label self.old.rest.now ≡ Some (result, self.new.rest.now) }
     {
         match self.rest {
-            [first, rest @ ..] if matches!(first.word, Word::Repeated | Word::Optional) => {
+            [first, rest @ ..]
+                if matches!(first.terminal, Terminal::Repeated | Terminal::Optional) => {
                 self.rest = rest;
                 Some(first.span)
             }
@@ -216,7 +217,7 @@ impl<'a> TokenReader<'a> {
         }
     }
 
-    #[tactic(auto, unfolding(syntax_tree::specs::Forms::labels))]
+    #[tactic(auto, unfolding(proto_tree::specs::Forms::labels))]
     pub fn labels(&mut self, alloc: Global) -> Result<Spans, Unread>
         ensures { Reads (forms.labels self.old.rest.now) result self.new.rest.now }
     {
@@ -232,14 +233,14 @@ impl<'a> TokenReader<'a> {
         Ok(Spans::of(both))
     }
 
-    #[tactic(auto, unfolding(syntax_tree::specs::Forms::in_parentheses))]
+    #[tactic(auto, unfolding(proto_tree::specs::Forms::in_parentheses))]
     pub fn in_parentheses(&mut self, alloc: Global) -> Result<Boxed<TypeName>, Unread>
         ensures { Reads (forms.in_parentheses self.old.rest.now) result self.new.rest.now }
     {
-        self.word(Word::OpenParen)?;
-        self.eat(Word::Stream);
+        self.terminal(Terminal::OpenParen)?;
+        self.eat(Terminal::Stream);
         let type_name = Boxed::new(alloc, self.type_name(alloc)?)?;
-        self.word(Word::CloseParen)?;
+        self.terminal(Terminal::CloseParen)?;
         Ok(type_name)
     }
 }
@@ -252,39 +253,39 @@ pub fn room_for_one(alloc: Global) -> Result<Items<Span>, AllocError>
     Ok(Items::from_vec(items))
 }
 
-fn opener(word: Word) -> Option<Word>
-    ensures { result ≡ spec.opener word }
+fn opener(terminal: Terminal) -> Option<Terminal>
+    ensures { result ≡ spec.opener terminal }
 {
-    match word {
-        Word::OpenBrace => Some(Word::CloseBrace),
-        Word::OpenBracket => Some(Word::CloseBracket),
-        Word::OpenParen => Some(Word::CloseParen),
+    match terminal {
+        Terminal::OpenBrace => Some(Terminal::CloseBrace),
+        Terminal::OpenBracket => Some(Terminal::CloseBracket),
+        Terminal::OpenParen => Some(Terminal::CloseParen),
         _ => None,
     }
 }
 
-fn is_closer(word: Word) -> bool
-    ensures { result ≡ spec.is_closer word }
+fn is_closer(terminal: Terminal) -> bool
+    ensures { result ≡ spec.is_closer terminal }
 {
     matches!(
-        word,
-        Word::CloseBrace | Word::CloseBracket | Word::CloseParen
+        terminal,
+        Terminal::CloseBrace | Terminal::CloseBracket | Terminal::CloseParen
     )
 }
 
 // Takes one token: an opening one is pending until its closing one comes. False where a closing one closes nothing.
-fn take_bracket(pending: &mut Vec<Word>, word: Word) -> Result<bool, AllocError>
-    ensures { IfOk result (λ goes_on. TakesBracket (reverse pending.old.items) word goes_on (reverse pending.new.items)) }
+fn take_bracket(pending: &mut Vec<Terminal>, terminal: Terminal) -> Result<bool, AllocError>
+    ensures { IfOk result (λ goes_on. TakesBracket (reverse pending.old.items) terminal goes_on (reverse pending.new.items)) }
 {
-    if let Some(close) = opener(word) {
+    if let Some(close) = opener(terminal) {
         pending.push(close)?;
         return Ok(true);
     }
-    if !is_closer(word) {
+    if !is_closer(terminal) {
         return Ok(true);
     }
     match pending.pop() {
-        Some(close) => Ok(word == close),
+        Some(close) => Ok(terminal == close),
         None => Ok(false),
     }
 }
@@ -293,9 +294,9 @@ fn take_bracket(pending: &mut Vec<Word>, word: Word) -> Result<bool, AllocError>
 fn is_balanced(alloc: Global, ts: &[Lexeme]) -> Result<bool, AllocError>
     ensures { IfOk result (λ found. found ≡ spec.is_balanced ts.now) }
 {
-    let mut pending: Vec<Word> = Vec::new(alloc);
+    let mut pending: Vec<Terminal> = Vec::new(alloc);
     'tokens: for t in ts {
-        if !take_bracket(&mut pending, t.word)? {
+        if !take_bracket(&mut pending, t.terminal)? {
             return Ok(false);
         }
     }
@@ -311,17 +312,17 @@ pub fn is_content(alloc: Global, ts: &[Lexeme]) -> Result<bool, AllocError>
     is_balanced(alloc, ts)
 }
 
-#[tactic(auto, unfolding(syntax_tree::specs::Parts::is_options_end))]
+#[tactic(auto, unfolding(proto_tree::specs::Parts::is_options_end))]
 fn is_options_end(alloc: Global, ts: &[Lexeme]) -> Result<bool, AllocError>
     ensures { IfOk result (λ found. found ≡ spec.is_options_end ts.now) }
 {
     match ts {
         [] => Ok(false),
-        [only] => Ok(only.is(Word::Semicolon)),
+        [only] => Ok(only.is(Terminal::Semicolon)),
         [first, more @ ..] => {
-            let is_in_brackets = first.is(Word::OpenBracket)
-                && ends_in(Word::Semicolon, more)
-                && ends_in(Word::CloseBracket, &more[..more.len() - 1]);
+            let is_in_brackets = first.is(Terminal::OpenBracket)
+                && ends_in(Terminal::Semicolon, more)
+                && ends_in(Terminal::CloseBracket, &more[..more.len() - 1]);
             Ok(is_in_brackets && is_content(alloc, &more[..more.len().saturating_sub(2)])?)
         }
     }

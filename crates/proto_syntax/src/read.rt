@@ -1,18 +1,18 @@
 // Reads the items of a body, and the bodies inside them.
 
 ghost use Rattle.std.specs.Prelude.{◌≡◌, ◌<◌, ◌≤◌, ◌-◌, ◌∷◌, ◌++◌, [], length, take, drop, IfOk, OnOk, option_map, IsTrue, ◌↔◌};
-ghost use Rattle.syntax_tree.specs.Read as spec;
-ghost use Rattle.syntax_tree.specs.Cut as cut;
-ghost use Rattle.syntax_tree.specs.Forms as forms;
+ghost use Rattle.proto_tree.specs.Read as spec;
+ghost use Rattle.proto_tree.specs.Cut as cut;
+ghost use Rattle.proto_tree.specs.Forms as forms;
 
 use crate::cut::{ends_in, is_stray, next_item};
 use crate::forms::statement;
 use crate::headers::{header_and_rest, opens};
 use crate::parts::span_of;
 use crate::skips::{Matched, skips};
+use proto_tree::{Body, Fault, Header, Lexeme, Node, Span, SyntaxProblem, Terminal, make_room};
 use sqlite_items::{Boxed, Items};
 use std::alloc::{AllocError, Global};
-use syntax_tree::{Body, Fault, Header, Lexeme, Node, Span, SyntaxProblem, Word, make_room};
 
 // How many tokens a statement and a block may be expected to have.
 const TOKENS_OF_A_STATEMENT: usize = 7;
@@ -115,17 +115,19 @@ fn nests(alloc: Global, item: &[Lexeme]) -> Result<bool, AllocError>
     ensures { IfOk result (λ found. found ≡ spec.nests item.now) }
 {
     match item.first() {
-        Some(first) if is_nesting_word(first.word) => Ok(header_and_rest(alloc, item)?.is_some()),
+        Some(first) if is_nesting_word(first.terminal) => Ok(header_and_rest(
+            alloc, item,
+        )?.is_some()),
         _ => Ok(false),
     }
 }
 
-fn is_nesting_word(word: Word) -> bool
-    ensures { result ≡ spec.is_nesting_word word }
+fn is_nesting_word(terminal: Terminal) -> bool
+    ensures { result ≡ spec.is_nesting_word terminal }
 {
     matches!(
-        word,
-        Word::Message | Word::Enum | Word::Oneof | Word::Extend
+        terminal,
+        Terminal::Message | Terminal::Enum | Terminal::Oneof | Terminal::Extend
     )
 }
 
@@ -133,7 +135,7 @@ fn may_open(body: Body, item: &[Lexeme]) -> bool
     ensures { result ≡ spec.may_open body item.now }
 {
     match item.first() {
-        Some(first) => opens(body, first.word),
+        Some(first) => opens(body, first.terminal),
         None => false,
     }
 }
@@ -189,7 +191,7 @@ fn form_tree(
     match header_and_inside(reader.alloc, item)? {
         None => statement_tree(reader.alloc, reader.body, item.tokens, nodes, faults),
         Some((header, rest)) => {
-            if !ends_in(Word::CloseBrace, rest.tokens) {
+            if !ends_in(Terminal::CloseBrace, rest.tokens) {
                 return bad(SyntaxProblem::NotUnderstood, item.tokens, faults);
             }
             let (inner, _) = rest.split_at(rest.tokens.len() - 1);

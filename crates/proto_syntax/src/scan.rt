@@ -1,103 +1,103 @@
-// The words of a text's tokens.
+// The terminals of a text's tokens.
 
 ghost use Rattle.std.specs.Prelude.{◌≡◌, ◌≤◌, ◌<◌, ◌∷◌, [], ◌++◌, ◌==◌, length, unwrap_or, All, IfOk, OnOk};
 ghost use Rattle.std.specs.List.{list_any};
 ghost use Rattle.std.specs.Map.{lookup};
 ghost use Rattle.std.specs.Str.{bytes_eq};
 ghost use Rattle.proto_lex.specs.Tokens.{tokens};
-ghost use Rattle.syntax_tree.specs.Lexeme as spec;
-ghost use Rattle.syntax_tree.specs.Read as tree;
-ghost use Rattle.syntax_tree.specs.declared.lexeme.Word.TheVariants as w;
+ghost use Rattle.proto_tree.specs.Lexeme as spec;
+ghost use Rattle.proto_tree.specs.Read as tree;
+ghost use Rattle.proto_tree.specs.declared.lexeme.Terminal.TheVariants as w;
 
 use proto_lex::{Kind, Token, first_offset, next_token};
+use proto_tree::{Fault, Lexeme, Span, SyntaxProblem, Terminal};
 use sqlite_items::Items;
 use std::alloc::{AllocError, Global};
-use syntax_tree::{Fault, Lexeme, Span, SyntaxProblem, Word};
 
-fn is(name: &[u8], word: &str) -> bool
-    ensures { result ≡ bytes_eq name.now word.now }
+fn is(name: &[u8], terminal: &str) -> bool
+    ensures { result ≡ bytes_eq name.now terminal.now }
 {
-    name == word.as_bytes()
+    name == terminal.as_bytes()
 }
 
-#[tactic(auto, unfolding(syntax_tree::specs::Lexeme::keyword))]
-fn keyword(name: &[u8]) -> Word
+#[tactic(auto, unfolding(proto_tree::specs::Lexeme::keyword))]
+fn keyword(name: &[u8]) -> Terminal
     ensures { result ≡ spec.keyword name.now }
 {
     if is(name, "message") {
-        Word::Message
+        Terminal::Message
     } else if is(name, "enum") {
-        Word::Enum
+        Terminal::Enum
     } else if is(name, "service") {
-        Word::Service
+        Terminal::Service
     } else if is(name, "oneof") {
-        Word::Oneof
+        Terminal::Oneof
     } else if is(name, "extend") {
-        Word::Extend
+        Terminal::Extend
     } else if is(name, "rpc") {
-        Word::Rpc
+        Terminal::Rpc
     } else if is(name, "syntax") {
-        Word::Syntax
+        Terminal::Syntax
     } else if is(name, "import") {
-        Word::Import
+        Terminal::Import
     } else if is(name, "package") {
-        Word::Package
+        Terminal::Package
     } else if is(name, "option") {
-        Word::Option
+        Terminal::Option
     } else if is(name, "reserved") {
-        Word::Reserved
+        Terminal::Reserved
     } else {
         inner_keyword(name)
     }
 }
 
-// A word that stands inside a statement.
-fn inner_keyword(name: &[u8]) -> Word
+// A terminal that stands inside a statement.
+fn inner_keyword(name: &[u8]) -> Terminal
     ensures { result ≡ unwrap_or (lookup (bytes_eq name.now) spec.inner_words) w.Name }
 {
     if is(name, "weak") {
-        Word::Weak
+        Terminal::Weak
     } else if is(name, "public") {
-        Word::Public
+        Terminal::Public
     } else if is(name, "repeated") {
-        Word::Repeated
+        Terminal::Repeated
     } else if is(name, "optional") {
-        Word::Optional
+        Terminal::Optional
     } else if is(name, "map") {
-        Word::Map
+        Terminal::Map
     } else if is(name, "stream") {
-        Word::Stream
+        Terminal::Stream
     } else if is(name, "returns") {
-        Word::Returns
+        Terminal::Returns
     } else if is(name, "to") {
-        Word::To
+        Terminal::To
     } else if is(name, "max") {
-        Word::Max
+        Terminal::Max
     } else {
-        Word::Name
+        Terminal::Name
     }
 }
 
-fn symbol(byte: u8) -> Word
+fn symbol(byte: u8) -> Terminal
     ensures { result ≡ spec.symbol byte }
 {
     match byte {
-        b'{' => Word::OpenBrace,
-        b'}' => Word::CloseBrace,
-        b'(' => Word::OpenParen,
-        b')' => Word::CloseParen,
-        b'[' => Word::OpenBracket,
-        b']' => Word::CloseBracket,
-        b'<' => Word::Less,
-        b'>' => Word::Greater,
-        b';' => Word::Semicolon,
-        b',' => Word::Comma,
-        b'=' => Word::Equals,
-        b'.' => Word::Dot,
-        b':' => Word::Colon,
-        b'+' => Word::Plus,
-        b'-' => Word::Minus,
-        _ => Word::Slash,
+        b'{' => Terminal::OpenBrace,
+        b'}' => Terminal::CloseBrace,
+        b'(' => Terminal::OpenParen,
+        b')' => Terminal::CloseParen,
+        b'[' => Terminal::OpenBracket,
+        b']' => Terminal::CloseBracket,
+        b'<' => Terminal::Less,
+        b'>' => Terminal::Greater,
+        b';' => Terminal::Semicolon,
+        b',' => Terminal::Comma,
+        b'=' => Terminal::Equals,
+        b'.' => Terminal::Dot,
+        b':' => Terminal::Colon,
+        b'+' => Terminal::Plus,
+        b'-' => Terminal::Minus,
+        _ => Terminal::Slash,
     }
 }
 
@@ -107,26 +107,26 @@ fn has_backslash(text: &[u8]) -> bool
     text.iter().any(|b| *b == b'\\')
 }
 
-fn string_word(text: &[u8]) -> Word
-    ensures { result ≡ spec.string_word text.now }
+fn string_terminal(text: &[u8]) -> Terminal
+    ensures { result ≡ spec.string_terminal text.now }
 {
     if has_backslash(text) {
-        Word::EscapedText
+        Terminal::EscapedText
     } else {
-        Word::PlainText
+        Terminal::PlainText
     }
 }
 
-fn word_of(kind: Kind, text: &[u8]) -> Word
-    ensures { result ≡ spec.word_of kind text.now }
+fn terminal_of(kind: Kind, text: &[u8]) -> Terminal
+    ensures { result ≡ spec.terminal_of kind text.now }
 {
     match kind {
         Kind::Ident => keyword(text),
-        Kind::Int => Word::Int,
-        Kind::Float => Word::Float,
-        Kind::Str => string_word(text),
+        Kind::Int => Terminal::Int,
+        Kind::Float => Terminal::Float,
+        Kind::Str => string_terminal(text),
         Kind::Symbol => symbol(text.first().copied().unwrap_or(0)),
-        Kind::Bad(_) => Word::Slash,
+        Kind::Bad(_) => Terminal::Slash,
     }
 }
 
@@ -144,7 +144,7 @@ fn lexeme_of(text: &[u8], token: Token) -> Lexeme
     ensures { result ≡ spec.lexeme_of text.now token }
 {
     Lexeme {
-        word: word_of(token.kind, &text[token.start..token.end]),
+        terminal: terminal_of(token.kind, &text[token.start..token.end]),
         span: span_of_token(token),
     }
 }

@@ -1,12 +1,12 @@
 // Matches the braces of a text, so that what stands between them can be skipped.
 ghost use Rattle.std.specs.Prelude.{◌≡◌, ◌<◌, ◌≤◌, ◌-◌, IsTrue, IfOk, length, take, drop, slice_index_or};
-ghost use Rattle.syntax_tree.specs.Cut as cut;
+ghost use Rattle.proto_tree.specs.Cut as cut;
 ghost use Rattle.std.proofs.Props.{props};
 ghost use Rattle.proto_syntax.specs.Skips as spec;
-ghost use Rattle.syntax_tree.specs.declared.lexeme.Word.TheVariants as w;
+ghost use Rattle.proto_tree.specs.declared.lexeme.Terminal.TheVariants as w;
 
+use proto_tree::{Lexeme, Terminal};
 use std::alloc::{AllocError, Global};
-use syntax_tree::{Lexeme, Word};
 
 // Tokens, and for each of the first of them how many may be skipped from there on if it is an opening brace. With no
 // such numbers the tokens are looked through.
@@ -19,8 +19,8 @@ pub struct Matched<'a> {
 
 impl<'a> Matched<'a> {
     ghost use Rattle.proto_syntax.specs.Skips as spec;
-    ghost use Rattle.syntax_tree.specs.Cut as cut;
-    ghost use Rattle.syntax_tree.specs.declared.lexeme.Word.TheVariants as w;
+    ghost use Rattle.proto_tree.specs.Cut as cut;
+    ghost use Rattle.proto_tree.specs.declared.lexeme.Terminal.TheVariants as w;
 
     // How many tokens may be skipped from the opening brace at the place on.
     pub fn skip_at(self, at: usize) -> usize
@@ -74,14 +74,14 @@ fn skip(ts: &[Lexeme], skips: &[usize]) -> usize
     let mut depth = 1usize;
     let mut end = 1usize;
     'places: while end < ts.len() {
-        if ts[end].is(Word::OpenBrace) {
+        if ts[end].is(Terminal::OpenBrace) {
             let inner = known_skip(skips, end - 1).min(ts.len() - end);
             if inner == ts.len() - end {
                 return ts.len();
             }
             depth += 1;
             end += inner;
-        } else if !ts[end].is(Word::CloseBrace) {
+        } else if !ts[end].is(Terminal::CloseBrace) {
             end += 1;
         } else if depth == 1 {
             return end;
@@ -102,7 +102,7 @@ pub fn skips(alloc: Global, ts: &[Lexeme]) -> Result<Vec<usize>, AllocError>
     let mut at = ts.len();
     'places: while 0 < at {
         at -= 1;
-        if ts[at].is(Word::OpenBrace) {
+        if ts[at].is(Terminal::OpenBrace) {
             found[at] = skip(&ts[at..], &found.as_slice()[at + 1..]);
         }
     }

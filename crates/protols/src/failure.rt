@@ -1,7 +1,7 @@
 // Why the program ended before its session or its check did.
 
 use lsp_session::ServeFault;
-use proto_folder::FolderFault;
+use program_folder::FolderFault;
 use std::alloc::{AllocError, AllocFailed};
 use std::io;
 use thiserror::Error;

@@ -1,25 +1,24 @@
 // What a session or a check is started with: the roots, and the files below them.
-ghost use Rattle.std.specs.Prelude.{◌≡◌, codes, map, string_bytes, vec_len, All, IfOk};
+ghost use Rattle.std.specs.Prelude.{◌≡◌, ◌≢◌, [], ◌∷◌, codes, length, map, max, replicate, string_bytes, IfOk};
 ghost use Rattle.program_options.specs.Path as url;
+ghost use Rattle.work_files.specs.Disk.{disk_view};
 
 use crate::failure::Failure;
 use crate::named_files::named_paths;
 use crate::summary::tell_empty_folders;
-use lsp_check::{Asked, Format, Listing};
 use lsp_session::{Config, DiskFile};
+use program_folder::{FolderReader, FoundFile, read_folders};
 use program_options::root_url;
 use program_options::words::Options;
-use proto_folder::{FolderReader, FoundFile, read_folders};
 use std::alloc::{AllocError, Global};
 use std::rt::Files;
 use std::sync::Wait;
 use std::thread::Threads;
+use work_check::{Asked, Format, Listing};
 
 // The files that were found, each with the number of its root.
 fn disk_files(alloc: Global, found: Vec<FoundFile>) -> Result<Vec<DiskFile>, AllocError>
-    ensures roots { IfOk result (λ files. map (λ f. f.root) files.items ≡ map (λ f. f.root) found.items) }
-    ensures paths { IfOk result (λ files. map (λ f. f.path) files.items ≡ map (λ f. f.path) found.items) }
-    ensures texts { IfOk result (λ files. map (λ f. f.text) files.items ≡ map (λ f. f.text) found.items) }
+    ensures { IfOk result (λ files. map disk_view files.items ≡ map (λ f. record { root = f.root; path = string_bytes f.path; text = string_bytes f.text }) found.items) }
 {
     let mut files = Vec::with_capacity(alloc, found.len())?;
     for FoundFile { root, path, text } in found {
@@ -41,8 +40,7 @@ fn roots_of(alloc: Global, dirs: &[&str]) -> Result<Vec<String>, AllocError>
 
 // As many times the root of all paths.
 fn roots_of_all(alloc: Global, count: usize) -> Result<Vec<String>, AllocError>
-    ensures count { IfOk result (λ roots. vec_len roots ≡ count) }
-    ensures root { IfOk result (λ roots. All (λ root. string_bytes root ≡ url.root_url (codes "/")) roots.items) }
+    ensures { IfOk result (λ roots. map string_bytes roots.items ≡ replicate count (url.root_url (codes "/"))) }
 {
     let mut roots = Vec::with_capacity(alloc, count)?;
     for _root in 0..count {
@@ -56,7 +54,10 @@ fn with_files<'d>(
     alloc: Global,
     roots: Vec<String>,
     found: Vec<FoundFile>,
-) -> Result<Config, Failure<'d>> {
+) -> Result<Config, Failure<'d>>
+    ensures roots { IfOk result (λ config. config.roots ≡ map string_bytes roots.items) }
+    ensures files { IfOk result (λ config. config.files ≡ map (λ f. record { root = f.root; path = string_bytes f.path; text = string_bytes f.text }) found.items) }
+{
     let files = disk_files(alloc, found)?;
     Ok(Config::make(alloc, roots, files)?)
 }
@@ -67,7 +68,10 @@ pub(crate) fn configuration<'d, R: FolderReader + Eprint + AllocGlobal + Threads
     rt: &R,
     dirs: &[&'d str],
     threads: u8,
-) -> Result<Config, Failure<'d>> {
+) -> Result<Config, Failure<'d>>
+    ensures folders { dirs.now ≢ [] → IfOk result (λ config. config.roots ≡ map (λ dir. url.root_url dir.now) dirs.now) }
+    ensures all_paths { dirs.now ≡ [] → IfOk result (λ config. config.roots ≡ url.root_url (codes "/") ∷ []) }
+{
     let roots = if dirs.is_empty() {
         roots_of_all(rt.alloc(), 1)?
     } else {
@@ -78,13 +82,14 @@ pub(crate) fn configuration<'d, R: FolderReader + Eprint + AllocGlobal + Threads
 }
 
 // The folders that are checked: these, or the current one if there are none.
-fn checked_dirs<'d>(alloc: Global, dirs: &[&'d str]) -> Result<Vec<&'d str>, AllocError> {
+fn checked_dirs<'d>(alloc: Global, dirs: &[&'d str]) -> Result<Vec<&'d str>, AllocError>
+    ensures { IfOk result (λ checked. length checked.items ≡ max 1 (length dirs.now)) }
+{
     let mut checked = Vec::new(alloc);
     if dirs.is_empty() {
         checked.push(".")?;
-    }
-    for dir in dirs {
-        checked.push(*dir)?;
+    } else {
+        checked.extend_from_slice(dirs)?;
     }
     Ok(checked)
 }
@@ -117,7 +122,9 @@ fn listing<'d, R: Files + AllocGlobal>(
 pub(crate) fn check_of<'d, R: FolderReader + Files + Eprint + AllocGlobal + Threads + Wait>(
     rt: &R,
     options: &Options<'d>,
-) -> Result<Asked, Failure<'d>> {
+) -> Result<Asked, Failure<'d>>
+    ensures { IfOk result (λ asked. (let config = asked.config in config.roots) ≡ replicate (max 1 (length options.now.dirs.items)) (url.root_url (codes "/"))) }
+{
     let alloc = rt.alloc();
     let dirs = checked_dirs(alloc, options.dirs.as_slice())?;
     let found = read_folders(rt, dirs.as_slice(), usize::from(options.workers))?;

@@ -12,12 +12,11 @@ use crate::failure::Failure;
 use crate::folders::{check_of, configuration};
 use crate::status::{fail, status_of, status_of_check};
 use crate::summary::tell_summary;
-use lsp_check::{Asked, Checked, check_as};
 use lsp_frame::{FrameReader, FromRead, ToWrite};
 use lsp_session::{Config, Ended, OpenGate, ServeFault, serve};
+use program_folder::FolderReader;
 use program_options::options;
 use program_options::words::Options;
-use proto_folder::FolderReader;
 use std::alloc::{AllocError, Global};
 use std::env::{self, Args, Env};
 use std::io::{self, BufReader, ErrorKind};
@@ -26,6 +25,7 @@ use std::process::ExitCode;
 use std::rt::Files;
 use std::sync::{Arc, Wait};
 use std::thread::Threads;
+use work_check::{Asked, Checked, check_as};
 
 const NOT_UTF8: &str = "error: a word of the command line isn't UTF-8
 

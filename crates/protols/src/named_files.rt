@@ -1,7 +1,7 @@
 // Which of the files that were found the command line names.
 
 use crate::failure::{Failure, FileFault};
-use proto_folder::FoundFile;
+use program_folder::FoundFile;
 use std::alloc::{AllocError, Global};
 use std::collections::{BTreeMap, BTreeSet};
 use std::io::{self, ErrorKind};

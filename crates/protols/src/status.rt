@@ -3,7 +3,7 @@
 
 use crate::failure::{Failure, FileFault};
 use lsp_session::Ended;
-use proto_folder::FolderFault;
+use program_folder::FolderFault;
 use std::process::ExitCode;
 
 // Says which fault it was.

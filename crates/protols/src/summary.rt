@@ -1,8 +1,8 @@
 // What a check says on standard error of how much it checked. A standard error that is closed changes nothing.
 
-use lsp_check::Checked;
-use proto_folder::FoundFile;
+use program_folder::FoundFile;
 use std::alloc::{AllocError, Global};
+use work_check::Checked;
 
 // Whether there is a file below each of so many folders.
 fn have_files(alloc: Global, count: usize, found: &[FoundFile]) -> Result<Vec<bool>, AllocError> {

@@ -4,9 +4,12 @@ use crate::frames::put_body;
 use crate::settings::bytes_of;
 use library_cases::{Line, Names, field, first_word, number, plain, verdict_word};
 use lsp_session::{
-    Core, CoreEvent, CoreFault, CoreRun, Done, FileWork, Job, Piece, Reply, Verdict, run_core,
+    Core, CoreEvent, CoreFault, CoreRun, Done, FileWork, Job, OpenGate, Piece, Reply, Verdict,
+    run_core,
 };
 use std::alloc::{AllocError, Global};
+use std::sync::Wait;
+use std::thread::Threads;
 
 fn put_replies(names: &Names, line: &mut Line, replies: &[Reply]) {
     for reply in replies {
@@ -104,8 +107,8 @@ pub fn answer_run(names: &Names, line: &mut Line, given: &str) -> Result<(), All
 
 // ---- calls on a core
 
-fn advance(names: &Names, line: &mut Line, core: &mut Core) {
-    match core.advance() {
+fn put_advance(names: &Names, line: &mut Line, advanced: Result<Vec<Reply>, CoreFault>) {
+    match advanced {
         Ok(replies) => put_replies(names, line, replies.as_slice()),
         Err(fault) => put_fault(line, fault),
     }
@@ -147,15 +150,26 @@ fn bring(alloc: Global, line: &mut Line, core: &mut Core, step: &str) -> Result<
     }
 }
 
-fn step(names: &Names, line: &mut Line, core: &mut Core, step: &str) -> Result<(), AllocError> {
+fn step<R: Threads + Wait>(
+    rt: &R,
+    names: &Names,
+    line: &mut Line,
+    core: &mut Core,
+    step: &str,
+) -> Result<(), AllocError> {
     match step {
-        "advance" => Ok(advance(names, line, core)),
+        "advance" => Ok(put_advance(names, line, core.advance())),
+        "advance in shares" => {
+            let advanced = core.advance_in_shares(rt, 2, &OpenGate);
+            Ok(put_advance(names, line, advanced))
+        }
         "job" => Ok(next_job(line, core)),
         _ => bring(names.alloc(), line, core, step),
     }
 }
 
-fn put_steps(
+fn put_steps<R: Threads + Wait>(
+    rt: &R,
     names: &Names,
     line: &mut Line,
     mut core: Core,
@@ -165,7 +179,7 @@ fn put_steps(
     line.put_bool(core.waits());
     for field in given.split(" :: ").skip(behind) {
         if let Some(what) = field.strip_prefix("> ") {
-            step(names, line, &mut core, what)?;
+            step(rt, names, line, &mut core, what)?;
         }
         line.put(" ");
         line.put_bool(core.waits());
@@ -186,14 +200,15 @@ fn begun(alloc: Global, given: &str, behind: usize) -> Result<Result<Core, CoreF
 
 /// Calls on a core, one after the other: what each answers, and whether a message waits at first and after each. The files and the
 /// calls are the fields behind so many.
-pub fn answer_core(
+pub fn answer_core<R: Threads + Wait>(
+    rt: &R,
     names: &Names,
     line: &mut Line,
     given: &str,
     behind: usize,
 ) -> Result<(), AllocError> {
     match begun(names.alloc(), given, behind)? {
-        Ok(core) => put_steps(names, line, core, given, behind),
+        Ok(core) => put_steps(rt, names, line, core, given, behind),
         Err(fault) => Ok(put_fault(line, fault)),
     }
 }

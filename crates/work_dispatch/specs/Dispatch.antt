@@ -1,19 +1,39 @@
 -- What is done to the board of a workspace where jobs go out, and where what became of one comes back.
-use Rattle.std.specs.Prelude.{◌≡◌, ◌⊎◌, ℕ, List, [], ◌∷◌, ◌++◌, None, replicate, string_bytes}
-use Rattle.piece_collector.specs.Board.{IsFirstWanted}
+use Rattle.std.specs.Prelude.{◌≡◌, ◌⊎◌, ℕ, ◌+◌, List, [], ◌∷◌, ◌++◌, ⊤, Some, None, option_map, length, map, replicate, string_bytes}
+use Rattle.piece_collector.specs.Board.{IsFirstWanted, current_text, WhateverCame, Records}
 use Rattle.piece_collector.specs.Events.{Event, NextJob, Offer, Fail}
 use Rattle.piece_collector.specs.History.{failure_on, stands_at}
-use Rattle.piece_collector.specs.Views.{BoardView}
+use Rattle.piece_collector.specs.Views.{TextAt, BoardView}
 use Rattle.piece_collector.specs.declared.verdict.Verdict.TheVariants.{Taken}
 use Rattle.work_index.specs.declared.done.Done.{Done}
 use Rattle.work_index.specs.declared.done.Done.TheVariants as job
-use Rattle.lsp_workspace.specs.Recorded.{WhateverCame, Records}
+use Rattle.work_pool.specs.Outcome.{stamp_of}
+use Rattle.work_pool.specs.SentJobs.{noted, without_job, HasRoom}
+use Rattle.work_pool.specs.declared.sent_jobs.SentJob.{SentJob}
 
--- so many jobs were asked for, until no text was wanted or there was no room for more
-pub record HandsOut (old new : BoardView) (no_room : Type 0) : Type 0 where
-  pub jobs : ℕ
-  pub records : Records old new (replicate jobs NextJob)
-  pub stops : no_room ⊎ WhateverCame old (λ opening events. IsFirstWanted opening (replicate jobs NextJob ++ events) None)
+-- the job for the first wanted path, with the current stamp and text of that path
+pub record IsNextJob (opening : ℕ) (events : List Event) (job : TextAt) : Type 0 where
+  pub first : IsFirstWanted opening events (Some job.path)
+  pub current : option_map (current_text job.path) (stands_at opening events job.path) ≡ Some job
+
+-- these are the jobs that come next, in order
+abbrev pub AreNextJobs : ℕ → List Event → List TextAt → Type 0
+AreNextJobs opening events [] = ⊤
+AreNextJobs opening events (job ∷ jobs) = IsNextJob opening events job × AreNextJobs opening (NextJob ∷ events) jobs
+
+-- these jobs, which come next, were sent, in order
+pub record Sends (board : BoardView) (before after : List SentJob) (jobs : List TextAt) : Type 0 where
+  pub given : WhateverCame board (λ opening events. AreNextJobs opening events jobs)
+  pub sent : after ≡ before ++ map noted jobs
+
+-- So many jobs were asked for, and these were sent: all of them, until there was no room for more; or all but the last, where behind these
+-- no text was wanted.
+pub record HandsOut (old new : BoardView) (before after : List SentJob) : Type 0 where
+  pub asked : ℕ
+  pub records : Records old new (replicate asked NextJob)
+  pub jobs : List TextAt
+  pub sends : Sends old before after jobs
+  pub stops : ((asked ≡ length jobs) × (¬ HasRoom after)) ⊎ ((asked ≡ length jobs + 1) × WhateverCame old (λ opening events. IsFirstWanted opening (replicate (length jobs) NextJob ++ events) None))
 
 -- what became of a job, as what is done to the board
 abbrev pub event_of : Done → Event
@@ -25,8 +45,9 @@ abbrev pub IsCountedFailure : ℕ → List Event → Done → Type 0
 IsCountedFailure opening events (job.Made piece) = ⊥
 IsCountedFailure opening events (job.Failed path stamp) = failure_on stamp (stands_at opening events (string_bytes path)) ≡ Taken
 
--- what became of a job was brought, and it isn't a failure that counts
-pub record BringsResult (old new : BoardView) : Type 0 where
+-- a result was received, by its stamp, and what was brought has that stamp and isn't a failure that counts
+pub record BringsResult (old new : BoardView) (before after : List SentJob) : Type 0 where
   pub done : Done
+  pub received : after ≡ without_job (stamp_of done) before
   pub records : Records old new (event_of done ∷ [])
   pub uncounted : WhateverCame old (λ opening events. ¬ (IsCountedFailure opening events done))

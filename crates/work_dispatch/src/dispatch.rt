@@ -1,17 +1,15 @@
 // Jobs go out to the workers of a pool, and what became of them comes back.
-ghost use Rattle.std.specs.Prelude.{◌≡◌, ◌+◌, ◌<◌, [], ◌∷◌, true, false, None, IfOk, OnOk};
-ghost use Rattle.piece_collector.specs.Board.{IsFirstWanted};
+ghost use Rattle.std.specs.Prelude.{◌≡◌, ◌+◌, ◌<◌, [], ◌∷◌, true, false, None, IfOk, IfErr, OnOk, OnErr};
+ghost use Rattle.piece_collector.specs.Board.{IsFirstWanted, WhateverCame, Records};
 ghost use Rattle.piece_collector.specs.Events.{NextJob};
-ghost use Rattle.lsp_workspace.specs.Recorded.{WhateverCame, Records};
-ghost use Rattle.work_dispatch.specs.Dispatch.{event_of, IsCountedFailure, HandsOut, BringsResult};
-ghost use Rattle.worker_pool.specs.SentJobs.{HasRoom};
+ghost use Rattle.piece_collector.specs.Views.{TextAt};
+ghost use Rattle.work_dispatch.specs.Dispatch.{event_of, IsCountedFailure, Sends, HandsOut, BringsResult};
 
-use collector_laws::jobs_and_pieces;
-use lsp_workspace::Workspace;
 use piece_collector::Verdict;
 use std::sync::Wait;
+use work_files::Workspace;
 use work_index::Done;
-use worker_pool::{Pool, PoolFault};
+use work_pool::{Pool, PoolFault};
 
 // Hands out the next job, and says whether there was one.
 fn hand_out_next<R: Wait>(
@@ -23,6 +21,8 @@ fn hand_out_next<R: Wait>(
     ensures files { workspace.new.files ≡ workspace.old.files }
     ensures gives { OnOk result (Records workspace.old.board workspace.new.board (NextJob ∷ [])) }
     ensures none { IfOk result (λ more. more ≡ false → WhateverCame workspace.old.board (λ opening events. IsFirstWanted opening events None)) }
+    ensures rest { IfOk result (λ more. more ≡ false → pool.new.sent ≡ pool.old.sent) }
+    ensures sends { IfOk result (λ more. more ≡ true → (job : TextAt) × Sends workspace.old.board pool.old.sent pool.new.sent (job ∷ [])) }
     ensures out { IfOk result (λ more. more ≡ true → pool.new.out ≡ pool.old.out + 1) }
 {
     let Some(job) = workspace.next_job()? else {
@@ -42,9 +42,8 @@ pub fn hand_out_jobs<R: Wait>(
     pool: &mut Pool,
 ) -> Result<(), PoolFault>
     ensures files { workspace.new.files ≡ workspace.old.files }
-    ensures hands { OnOk result (HandsOut workspace.old.board workspace.new.board (¬ HasRoom pool.new.sent)) }
+    ensures hands { OnOk result (HandsOut workspace.old.board workspace.new.board pool.old.sent pool.new.sent) }
 {
-    jobs_and_pieces();
     'jobs: while pool.has_room() {
         if !hand_out_next(rt, workspace, pool)? {
             return Ok(());
@@ -58,8 +57,10 @@ fn bring(workspace: &mut Workspace, done: Done) -> Result<(), PoolFault>
     ensures files { workspace.new.files ≡ workspace.old.files }
     ensures brings { Records workspace.old.board workspace.new.board (event_of done ∷ []) }
 
-    // A failure that counts is never passed over.
+    // An error is a failure that counts, and none of these is passed over.
     ensures failed { OnOk result (WhateverCame workspace.old.board (λ opening events. ¬ (IsCountedFailure opening events done))) }
+    ensures counted { OnErr result (WhateverCame workspace.old.board (λ opening events. IsCountedFailure opening events done)) }
+    ensures memory { IfErr result (λ fault. fault ≡ PoolFault.Memory) }
 {
     match done {
         Done::Made(piece) => {
@@ -81,7 +82,8 @@ pub fn bring_result<R: Wait>(
     pool: &mut Pool,
 ) -> Result<(), PoolFault>
     ensures files { workspace.new.files ≡ workspace.old.files }
-    ensures brings { OnOk result (BringsResult workspace.old.board workspace.new.board) }
+    ensures brings { OnOk result (BringsResult workspace.old.board workspace.new.board pool.old.sent pool.new.sent) }
+    ensures received { OnOk result (pool.old.out ≡ pool.new.out + 1) }
 {
     match pool.receive(rt) {
         Some(done) => bring(workspace, done),

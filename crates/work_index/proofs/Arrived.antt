@@ -13,9 +13,9 @@ use Rattle.std.proofs.lemmas.List.Edits.{get_or-insert_at, get_or-insert_below, 
 use Rattle.std.proofs.lemmas.List.Elements.{All-map}
 use Rattle.std.proofs.lemmas.List.FromFn.{length-map-range_with_len, get_or-map-range_with_len}
 use Rattle.std.proofs.lemmas.Option.{same_Some}
-use Rattle.file_facts.specs.declared.diagnostic.Diag.{Diag}
-use Rattle.file_facts.specs.declared.fact.FileFacts.{FileFacts}
-use Rattle.file_facts.specs.declared.named_facts.NamedFacts.{NamedFacts}
+use Rattle.proto_decls.specs.declared.diagnostic.Diag.{Diag}
+use Rattle.proto_decls.specs.declared.fact.FileFacts.{FileFacts}
+use Rattle.proto_decls.specs.declared.named_facts.NamedFacts.{NamedFacts}
 use Rattle.import_graph.specs.Arrivals.{ArrivalLaw, NobodyImports}
 use Rattle.import_graph.specs.Moves.{place}
 use Rattle.import_graph.specs.Paths.{IsInPathOrder}
@@ -25,14 +25,15 @@ use Rattle.proto_names.specs.declared.decl_ref.DeclRef.{DeclRef}
 use Rattle.proto_resolve.specs.declared.target.Target.{Target}
 use Rattle.proto_resolve.specs.declared.target.Target.TheVariants.{Declared, Package}
 use Rattle.proto_resolve.specs.declared.uses.NameUse.{NameUse}
-use Rattle.link_changes.specs.Laws.{MovedLaw, decl_moved}
-use Rattle.link_changes.specs.Touched.{links_after, target_after, use_after}
+use Rattle.work_links.specs.Laws.{MovedLaw, decl_moved}
+use Rattle.work_links.specs.Touched.{links_after, target_after, use_after}
 use Rattle.work_index.specs.Arrivals.{Arrives, NoneImports, numbers_with}
 use Rattle.work_index.specs.FilesMoves.{HasCome}
+use Rattle.work_index.specs.Known.{HoldTogether, analysis_with}
 use Rattle.work_index.specs.Stayed.{Stay}
 use Rattle.work_index.specs.Workspace.{Workspace, AnalysisData, all_facts, named_facts}
 use Rattle.work_index.proofs.Ascending.{ordered_files}
-use Rattle.work_index.proofs.Changed.{AreParts, nothing}
+use Rattle.work_index.proofs.Changed.{nothing, parts}
 use Rattle.work_index.proofs.Unimported.{AreWithIt, ComesUnimported, with_it}
 
 -- ---- the numbers of files
@@ -154,29 +155,21 @@ module _ (old : Workspace) (at : ℕ) (file : List ℕ × List ℕ) (within : at
   in_order : IsStrictlySortedBy (slice_cmp nat_cmp) (map (λ f. f.0) w) → IsInPathOrder (insert (all_facts old) at (named_facts file))
   in_order ordered = subst (λ (files : List NamedFacts). IsInPathOrder files) (map_insert named_facts old at file) (ordered_files w ordered)
 
--- the parts of the analysis with the file, which gets this number
+-- the parts of the analysis with the file, which gets the number at which its path goes among those of the files
 pub arrived : (a : AnalysisData) (file : List ℕ × List ℕ) (arrives : Arrives a file) (k : ℕ) (table : List NamedFacts) (files : Workspace) (links : List Links) (diagnostics : List (List Diag))
-    → AreParts table files links diagnostics arrives.old → map (λ f. f.facts) table ≡ a.facts → k ≡ arrives.at → MovedLaw → ArrivalLaw
+    → HoldTogether table files links diagnostics → analysis_with table files links diagnostics ≡ a
+    → ((at : ℕ) (f : NamedFacts) → f.path ≡ file.0 → at ≤ length table → IsInPathOrder (insert table at f) → k ≡ at) → MovedLaw → ArrivalLaw
     → AreWithIt (insert arrives.old arrives.at file) (numbers_with k (length files)) k file table files links diagnostics
-arrived a file arrives k table files links diagnostics of facts here moved_law arrival_law =
+arrived a file arrives k table files links diagnostics hold is placed moved_law arrival_law =
     let old = arrives.old in
+    let of = parts table files links diagnostics old hold.3 (is ∙ arrives.is) in
     let many : length files ≡ length old = ap length of.files_are in
+    let facts = ap (λ (b : AnalysisData). b.facts) is in
     let nobody : NobodyImports (all_facts old) file.0 = nobody_imports (all_facts old) file.0 (subst (λ (facts : List FileFacts). NoneImports facts file.0) (sym facts ∙ ap (map (λ (f : NamedFacts). f.facts)) of.table_is) arrives.nobody) in
+    let ordered : IsInPathOrder (insert table arrives.at (named_facts file)) =
+    subst (λ (files : List NamedFacts). IsInPathOrder (insert files arrives.at (named_facts file))) (sym of.table_is) (in_order old arrives.at file arrives.within arrives.ordered) in
+    let here : k ≡ arrives.at = placed arrives.at (named_facts file) refl (omega (arith, arrives.within, ap length of.table_is, length-map old named_facts)) ordered in
     subst (λ k. AreWithIt (insert old arrives.at file) (numbers_with k (length files)) k file table files links diagnostics) (sym here)
     (subst (λ n. AreWithIt (insert old arrives.at file) (numbers_with arrives.at n) arrives.at file table files links diagnostics) (sym many)
-    (with_it old (insert old arrives.at file) (numbers_with arrives.at (length old)) arrives.at file table files links diagnostics of (stay old arrives.at file arrives.within)
+    (with_it old (insert old arrives.at file) (numbers_with arrives.at (length old)) arrives.at file table files links diagnostics of ordered (stay old arrives.at file arrives.within)
     (comes old arrives.at file arrives.within nobody) (get_or-insert_at old arrives.at file nothing arrives.within) moved_law arrival_law))
-
--- the number at which the path goes among those of the files is that of the file
-pub place_is : (a : AnalysisData) (file : List ℕ × List ℕ) (arrives : Arrives a file) (k : ℕ) (table : List NamedFacts) → table ≡ all_facts arrives.old
-    → ((at : ℕ) (f : NamedFacts) → f.path ≡ file.0 → at ≤ length table → IsInPathOrder (insert table at f) → k ≡ at) → k ≡ arrives.at
-place_is a file arrives k table is placed =
-    let old = arrives.old in
-    placed arrives.at (named_facts file) refl (omega (arith, arrives.within, ap length is, length-map old named_facts))
-    (subst (λ (files : List NamedFacts). IsInPathOrder (insert files arrives.at (named_facts file))) (sym is) (in_order old arrives.at file arrives.within arrives.ordered))
-
--- with it the files are in the order of their paths
-pub still_ordered : (a : AnalysisData) (file : List ℕ × List ℕ) (arrives : Arrives a file) (k : ℕ) (table : List NamedFacts) → table ≡ all_facts arrives.old → k ≡ arrives.at → IsInPathOrder (insert table k (named_facts file))
-still_ordered a file arrives k table is here =
-    subst (λ (files : List NamedFacts). IsInPathOrder (insert files k (named_facts file))) (sym is)
-    (subst (λ k. IsInPathOrder (insert (all_facts arrives.old) k (named_facts file))) (sym here) (in_order arrives.old arrives.at file arrives.within arrives.ordered))

@@ -7,7 +7,7 @@ use Rattle.std.specs.List.{AllByRecursion}
 use Rattle.std.specs.List.Sorted.{IsStrictlySortedBy}
 use Rattle.std.proofs.lemmas.Simd.{map-map}
 use Rattle.import_graph.specs.Paths.{IsInPathOrder}
-use Rattle.file_facts.specs.declared.named_facts.NamedFacts.{NamedFacts}
+use Rattle.proto_decls.specs.declared.named_facts.NamedFacts.{NamedFacts}
 use Rattle.piece_collector.specs.Views.{TextAt}
 use Rattle.piece_collector.specs.Board.{Ascends}
 use Rattle.work_index.specs.Pieces.{workspace_of}

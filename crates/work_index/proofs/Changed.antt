@@ -11,25 +11,25 @@ use Rattle.std.proofs.lemmas.List.Kept.{IsStrictlyIncreasing-filter}
 use Rattle.std.proofs.lemmas.List.{length-map, length-set, get_or-map}
 use Rattle.std.proofs.lemmas.List.FromFn.{length-enumerate_from, get_or-enumerate_from}
 use Rattle.piece_collector.specs.Views.{TextAt}
-use Rattle.file_facts.specs.declared.fact.FileFacts.{FileFacts}
-use Rattle.file_facts.specs.Facts.{facts_of}
+use Rattle.proto_decls.specs.declared.fact.FileFacts.{FileFacts}
+use Rattle.proto_decls.specs.Facts.{facts_of}
 use Rattle.import_graph.specs.declared.imports.FileImports.{FileImports}
-use Rattle.file_facts.specs.declared.named_facts.NamedFacts.{NamedFacts}
+use Rattle.proto_decls.specs.declared.named_facts.NamedFacts.{NamedFacts}
 use Rattle.import_graph.specs.Closures.{seers_of, sees, view_of}
 use Rattle.import_graph.specs.Imports.{graph_of, imports_of}
 use Rattle.import_graph.proofs.ImportEdges.{filter_from, filter_to}
 use Rattle.import_graph.proofs.OneView.{in_range, rising}
-use Rattle.file_facts.specs.declared.diagnostic.Diag.{Diag}
+use Rattle.proto_decls.specs.declared.diagnostic.Diag.{Diag}
 use Rattle.proto_resolve.specs.declared.resolve.Links.{Links}
 use Rattle.proto_names.specs.Files.{facts_at, is_seen}
 use Rattle.proto_resolve.specs.Outlines.{import_outline}
 use Rattle.proto_names.specs.Outlines.{with_facts, exports}
-use Rattle.proto_resolve.proofs.Outlines.{asking, same_graph}
-use Rattle.link_changes.specs.declared.touched.Touched.{Touched}
-use Rattle.link_changes.specs.Touched.{Tells}
+use Rattle.proto_resolve.proofs.Outlines.{asks_alike, same_graph}
+use Rattle.work_links.specs.declared.touched.Touched.{Touched}
+use Rattle.work_links.specs.Touched.{Tells}
 use Rattle.work_index.specs.Changes.{DifferAt}
-use Rattle.work_index.specs.declared.again.Told.{Told}
-use Rattle.work_index.specs.declared.again.FileChange.{FileChange}
+use Rattle.work_index.specs.declared.update_texts.Told.{Told}
+use Rattle.work_index.specs.declared.update_texts.FileChange.{FileChange}
 use Rattle.work_index.specs.Known.{analysis_with}
 use Rattle.work_index.specs.Pieces.{workspace_of}
 use Rattle.work_index.specs.Workspace.{Workspace, AnalysisData, all_facts, analysis, diagnostics_of, resolution_of, named_facts}
@@ -76,11 +76,6 @@ is_put [] f other there = absurd (omega (arith, there))
 is_put (x ∷ files) zero other there = refl
 is_put (x ∷ files) (suc f) other there = is_put files f other (omega (arith, there))
 
-asks_alike : (files : List NamedFacts) (f : ℕ) (other : FileFacts) → import_outline other ≡ import_outline (facts_at files f) → map asking (with_facts files f other) ≡ map asking files
-asks_alike [] f other same = refl
-asks_alike (x ∷ files) zero other same = ap (λ o. (x.path, o) ∷ map asking files) same
-asks_alike (x ∷ files) (suc f) other same = ap (λ xs. asking x ∷ xs) (asks_alike files f other same)
-
 -- a graph that is kept has as many files
 pub kept_count : (old new : List NamedFacts) (change : FileChange) → DifferAt old new change → IfSome change.before (λ graph. length graph ≡ length new)
 kept_count old new change differ = by change.before differ.graph
@@ -89,10 +84,10 @@ kept_count old new change differ = by change.before differ.graph
     by None same = tt
     by (Some g) is = ap length is ∙ length-map old (λ f. imports_of old f.facts) ∙ differ.files
 
--- what is kept is still what is equal to that, and where nothing is, what followed from that follows
-pub kept_as : {X Y : Type 0} (of : X → Y) (o : Option X) (A B : Type 0) (old new : Y) → (A → B) → old ≡ new → MatchOption o A (λ x. of x ≡ old) → MatchOption o B (λ x. of x ≡ new)
-kept_as of None A B old new follows same h = follows h
-kept_as of (Some x) A B old new follows same h = h ∙ same
+-- what is kept is still so, and where nothing is, what follows from that follows
+pub kept_as : {X : Type 0} (P : X → Type 0) (A B : Type 0) → (A → B) → (o : Option X) → MatchOption o A P → MatchOption o B P
+kept_as P A B follows None h = follows h
+kept_as P A B follows (Some x) h = h
 
 -- what is told with what is touched is still so by what is equal
 pub told_as : (o : Option Told) (A B : Type 0) (before after : List ℕ) (touched : Option Touched) (Tell : Touched → Type 0) → (A → B) → before ≡ after → IfSome touched Tell
@@ -139,7 +134,7 @@ module _ (files : List NamedFacts) (file : ℕ) (facts : FileFacts) (there : fil
 
   graph_kept : (graph : Option (List FileImports)) → MatchOption graph (import_outline facts ≡ import_outline (facts_at files file)) (λ g. g ≡ graph_of files)
       → MatchOption graph (graph_of files ≡ graph_of after) (λ g. g ≡ graph_of files)
-  graph_kept None imports = same_graph files after (sym (asks_alike files file facts imports))
+  graph_kept None imports = same_graph files after (asks_alike files file facts there imports)
   graph_kept (Some g) is = is
 
   abbrev ToldAfter : Option Told → FileFacts → Type 0

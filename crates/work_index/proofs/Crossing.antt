@@ -7,24 +7,24 @@ use denote.Struct.Tuple.{TupleAt, type_at}
 use mathlib.Core.List.{[], ◌∷◌}
 use mir.Syntax.{Sym}
 use Rattle.std.proofs.Crossing.{crosses}
-use Rattle.syntax_tree.specs.contracts.node.FileTree as FileTree
-use Rattle.syntax_tree.specs.contracts.node.Node as Node
-use Rattle.syntax_tree.proofs.node.Node.TheLaws.TheKnot as knot
-use Rattle.syntax_tree.proofs.node.Fault.TheSendSync as Fault
-use Rattle.syntax_tree.proofs.node.Field.TheSendSync as Field
-use Rattle.syntax_tree.proofs.node.Literal.TheSendSync as Literal
-use Rattle.syntax_tree.proofs.node.MapField.TheSendSync as MapField
-use Rattle.syntax_tree.proofs.node.Number.TheSendSync as Number
-use Rattle.syntax_tree.proofs.node.ReservedList.TheSendSync as ReservedList
-use Rattle.syntax_tree.proofs.node.Span.TheSendSync as Span
-use Rattle.syntax_tree.proofs.node.TypeName.TheSendSync as TypeName
+use Rattle.proto_tree.specs.contracts.node.FileTree as FileTree
+use Rattle.proto_tree.specs.contracts.node.Node as Node
+use Rattle.proto_tree.proofs.node.Node.TheLaws.TheKnot as knot
+use Rattle.proto_tree.proofs.node.Fault.TheSendSync as Fault
+use Rattle.proto_tree.proofs.node.Field.TheSendSync as Field
+use Rattle.proto_tree.proofs.node.Literal.TheSendSync as Literal
+use Rattle.proto_tree.proofs.node.MapField.TheSendSync as MapField
+use Rattle.proto_tree.proofs.node.Number.TheSendSync as Number
+use Rattle.proto_tree.proofs.node.ReservedList.TheSendSync as ReservedList
+use Rattle.proto_tree.proofs.node.Span.TheSendSync as Span
+use Rattle.proto_tree.proofs.node.TypeName.TheSendSync as TypeName
 use Rattle.sqlite_items.proofs.boxed.Boxed.TheSendSync as Boxed
 use Rattle.sqlite_items.proofs.items.Items.TheSendSync as Items
-use Rattle.file_facts.proofs.shared_facts.SharedFacts.TheSendSync as SharedFacts
-use Rattle.link_changes.proofs.asked.Asked.TheSendSync as Asked
+use Rattle.proto_decls.proofs.shared_facts.SharedFacts.TheSendSync as SharedFacts
+use Rattle.work_links.proofs.asked.Asked.TheSendSync as Asked
 use Rattle.proto_resolve.proofs.table.Table.TheSendSync as Table
 use Rattle.work_index.proofs.shared_links.SharedLinks.TheSendSync as SharedLinks
-use Rattle.file_facts.proofs.diagnostic.Diag.TheSendSync as Diag
+use Rattle.proto_decls.proofs.diagnostic.Diag.TheSendSync as Diag
 use Rattle.proto_resolve.specs.contracts.table.Table as TableRow
 use Rattle.work_index.specs.contracts.file_work.FileOut as FileOut
 use Rattle.std.specs.contracts.alloc.Global as Global

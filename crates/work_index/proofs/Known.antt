@@ -2,8 +2,8 @@
 use Rattle.std.proofs.Common.{◌≡◌, ◌∙◌, List, length, map, sym, ap, ap₂, subst}
 use Rattle.std.proofs.lemmas.List.{length-map}
 use Rattle.std.proofs.lemmas.Simd.{map-map}
-use Rattle.file_facts.specs.declared.diagnostic.Diag.{Diag}
-use Rattle.file_facts.specs.declared.named_facts.NamedFacts.{NamedFacts}
+use Rattle.proto_decls.specs.declared.diagnostic.Diag.{Diag}
+use Rattle.proto_decls.specs.declared.named_facts.NamedFacts.{NamedFacts}
 use Rattle.proto_names.specs.Files.{all_decls}
 use Rattle.proto_resolve.specs.declared.resolve.Links.{Links}
 use Rattle.work_index.specs.Known.{HoldTogether, analysis_with}
@@ -14,7 +14,7 @@ use Rattle.work_index.proofs.Changed.{AreParts, made, made_length, parts, zipped
 pub known_workspace : (w : Workspace) → workspace_in (analysis w) ≡ w
 known_workspace w = zipped w
 
-is_known : (a : AnalysisData) (w : Workspace) → a ≡ analysis w → IsKnown a
+pub is_known : (a : AnalysisData) (w : Workspace) → a ≡ analysis w → IsKnown a
 is_known a w is = record { is = is ∙ ap analysis (sym (ap workspace_in is ∙ known_workspace w)) }
 
 -- ---- an analysis and its parts

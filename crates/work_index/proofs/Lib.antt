@@ -12,6 +12,7 @@ pub mod Balance
 pub mod Crossing
 pub mod Merged
 pub mod Taken
+pub mod Refused
 pub mod Joined
 pub mod Kept
 pub mod KeptShares
@@ -20,5 +21,9 @@ pub mod OwnDiags
 pub mod Known
 pub mod KeptFiles
 pub mod OtherTexts
+pub mod Alike
+pub mod FileByFile
 pub mod FirstLost
 pub mod WhyUnchecked
+pub mod Quiet
+pub mod TextsByFile

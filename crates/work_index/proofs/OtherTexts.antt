@@ -14,7 +14,7 @@ use Rattle.std.proofs.Math.Seq.{get_or-append_seam}
 use Rattle.work_index.specs.declared.edited.EditedText.{EditedText}
 use Rattle.work_index.specs.Changes.{WasKnown}
 use Rattle.work_index.specs.Edited.{OthersStay, StaysBut, edit_view, text_after, with_texts}
-use Rattle.work_index.specs.declared.again.Outdated.{Outdated}
+use Rattle.work_index.specs.declared.update_texts.Outdated.{Outdated}
 use Rattle.work_index.specs.Workspace.{Workspace, all_facts, diagnostics_of, resolution_of}
 
 -- a file for which no text is there keeps its own
@@ -48,7 +48,7 @@ others_stay edits w = record { paths = paths_stay edits 0 w; others = λ n none.
 -- ---- texts one after the other
 
 -- where the first of two lists has a text for a file, that one counts
-text_of_two : (first second : List (ℕ × List ℕ)) (n : ℕ) (text : List ℕ) → text_after (first ++ second) n text ≡ text_after first n (text_after second n text)
+pub text_of_two : (first second : List (ℕ × List ℕ)) (n : ℕ) (text : List ℕ) → text_after (first ++ second) n text ≡ text_after first n (text_after second n text)
 text_of_two first second n text =
     ap (λ (o : Option (ℕ × List ℕ)). option_map_or (λ e. e.1) o text) (find-append (λ (e : ℕ × List ℕ). e.0 == n) first second)
     ∙ by (find (λ (e : ℕ × List ℕ). e.0 == n) first)
@@ -133,13 +133,17 @@ last_of edits rest last files are all =
 pub numbers_are : (edits : List EditedText) → map (λ e. e.0) (map edit_view edits) ≡ map (λ e. e.file) edits
 numbers_are edits = map-map (λ (e : ℕ × List ℕ). e.0) edit_view edits
 
+-- there are as many files as before
+pub as_many_files : (edits : List (ℕ × List ℕ)) (w : Workspace) → length (with_texts edits w) ≡ length w
+as_many_files edits w = length-map (enumerate_from 0 w) (after edits) ∙ length-enumerate_from 0 w
+
 -- what was known before the edits, of which the files are put over those that were there
 pub before_edits : (o : Outdated) (w new : Workspace) (edits : List EditedText) (changed : List ℕ) → All (λ e. e.file < length w) edits → changed ≡ map (λ e. e.file) edits → new ≡ with_texts (map edit_view edits) w
     → o.table ≡ all_facts w → o.resolutions.links.items ≡ map (resolution_of w) (enumerate_from 0 w) → o.resolutions.diagnostics.items ≡ map (diagnostics_of w) (enumerate_from 0 w) → WasKnown o new changed
 before_edits o w new edits changed there numbers are table links diagnostics =
     let es = map edit_view edits in
     let files : map (λ e. e.0) es ≡ changed = numbers_are edits ∙ sym numbers in
-    let long : length new ≡ length w = ap length are ∙ length-map (enumerate_from 0 w) (after es) ∙ length-enumerate_from 0 w in
+    let long : length new ≡ length w = ap length are ∙ as_many_files es w in
     record {
       old = w;
       stays = subst (λ (v : Workspace). StaysBut changed w v) (sym are) (subst (λ (fs : List ℕ). StaysBut fs w (with_texts es w)) files (others_stay es w));

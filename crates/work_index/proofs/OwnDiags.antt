@@ -1,12 +1,12 @@
 -- What is wrong in a file by itself is in order already.
 use Rattle.std.proofs.Common.{◌≡◌, ◌∙◌, ℕ, List, [], ◌++◌, Option, Some, None, refl, ap, sym, append-nil}
-use Rattle.syntax_tree.specs.declared.node.FileTree.{FileTree}
-use Rattle.syntax_tree.specs.Read.{value_tree}
-use Rattle.file_facts.specs.declared.diagnostic.Diag.{Diag}
-use Rattle.file_facts.specs.declared.stated.StatedSyntax.{StatedSyntax}
-use Rattle.file_facts.specs.Facts.{diags_of, packages, imports, decls, opaque, stated, facts_at, facts_of}
-use Rattle.file_facts.specs.Order.{in_order}
-use Rattle.file_facts.proofs.DiagOrder.{in_order-is_list, only_list}
+use Rattle.proto_tree.specs.declared.node.FileTree.{FileTree}
+use Rattle.proto_tree.specs.Read.{value_tree}
+use Rattle.proto_decls.specs.declared.diagnostic.Diag.{Diag}
+use Rattle.proto_decls.specs.declared.stated.StatedSyntax.{StatedSyntax}
+use Rattle.proto_decls.specs.Facts.{diags_of, packages, imports, decls, opaque, stated, facts_at, facts_of}
+use Rattle.proto_decls.specs.Order.{in_order}
+use Rattle.proto_decls.proofs.DiagOrder.{in_order-is_list, only_list}
 use Rattle.proto_resolve.specs.declared.resolve.Links.{Links}
 use Rattle.work_index.specs.Workspace.{merged}
 

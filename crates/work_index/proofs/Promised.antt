@@ -5,7 +5,7 @@ use Rattle.std.specs.declared.thread.PromisedHandle.{PromisedHandle}
 use Rattle.std.specs.declared.thread.Promise as Promise
 use Rattle.std.specs.PromisedHandle.{KeepsEach}
 use Rattle.std.specs.declared.alloc.AllocError.{AllocError}
-use Rattle.file_facts.specs.declared.named_facts.NamedFacts.{NamedFacts}
+use Rattle.proto_decls.specs.declared.named_facts.NamedFacts.{NamedFacts}
 use Rattle.work_index.specs.declared.shares.Share.{Share}
 use Rattle.work_index.specs.declared.linked.LinkedShare.{LinkedShare}
 use Rattle.work_index.specs.declared.in_shares.ShareLinked.{ShareLinked}

@@ -6,28 +6,28 @@ use Rattle.std.proofs.lemmas.Bool.Decides.{nat_tests}
 use Rattle.std.proofs.lemmas.List.Elements.{All-contains, All-head, All-tail, All-weaker}
 use Rattle.std.proofs.lemmas.List.{length-map, length-set, get_or-set_other, get_or-set_same, get_or_default, ext_get_or, same_lists}
 use Rattle.std.proofs.lemmas.Simd.{map-map}
-use Rattle.syntax_tree.specs.Read.{value_tree}
-use Rattle.file_facts.specs.declared.diagnostic.Diag.{Diag}
-use Rattle.file_facts.specs.declared.fact.FileFacts.{FileFacts}
-use Rattle.file_facts.specs.Facts.{facts_of}
-use Rattle.file_facts.specs.Order.{in_order}
-use Rattle.file_facts.specs.declared.named_facts.NamedFacts.{NamedFacts}
+use Rattle.proto_tree.specs.Read.{value_tree}
+use Rattle.proto_decls.specs.declared.diagnostic.Diag.{Diag}
+use Rattle.proto_decls.specs.declared.fact.FileFacts.{FileFacts}
+use Rattle.proto_decls.specs.Facts.{facts_of}
+use Rattle.proto_decls.specs.Order.{in_order}
+use Rattle.proto_decls.specs.declared.named_facts.NamedFacts.{NamedFacts}
 use Rattle.proto_resolve.specs.declared.resolve.Links.{Links}
 use Rattle.proto_names.specs.Files.{decls_at, facts_at, no_facts}
 use Rattle.proto_names.specs.Outlines.{with_facts}
 use Rattle.proto_resolve.specs.Resolved.{resolved, sites_at}
 use Rattle.proto_resolve.specs.Seen.{SeenLaw}
 use Rattle.proto_resolve.specs.Sites.{names_of_file}
-use Rattle.link_changes.specs.declared.asked.Asked.{Asked}
-use Rattle.link_changes.specs.declared.renumbering.Renumbering.{Renumbering}
-use Rattle.link_changes.specs.Asked.{has_all, names_asked}
-use Rattle.link_changes.specs.Laws.{DifferBy, TouchedLaw}
-use Rattle.link_changes.specs.Touched.{decl_after, links_after, Tells}
-use Rattle.work_index.specs.declared.again.Effect.{Effect}
-use Rattle.work_index.specs.declared.again.Effect.TheVariants.{Stay, Move, Relink}
-use Rattle.work_index.specs.declared.again.FileChange.{FileChange}
-use Rattle.work_index.specs.declared.again.Outdated.{Outdated}
-use Rattle.work_index.specs.declared.again.Relinking.{Relinking}
+use Rattle.work_links.specs.declared.asked.Asked.{Asked}
+use Rattle.work_links.specs.declared.renumbering.Renumbering.{Renumbering}
+use Rattle.work_links.specs.Asked.{has_all, names_asked}
+use Rattle.work_links.specs.Laws.{DifferBy, TouchedLaw}
+use Rattle.work_links.specs.Touched.{decl_after, links_after, Tells}
+use Rattle.work_index.specs.declared.update_texts.Effect.{Effect}
+use Rattle.work_index.specs.declared.update_texts.Effect.TheVariants.{Stay, Move, Relink}
+use Rattle.work_index.specs.declared.update_texts.FileChange.{FileChange}
+use Rattle.work_index.specs.declared.update_texts.Outdated.{Outdated}
+use Rattle.work_index.specs.declared.update_texts.Relinking.{Relinking}
 use Rattle.work_index.specs.declared.analysis.Resolutions.{Resolutions}
 use Rattle.work_index.specs.Changes.{AreLinked, AreLinkedBefore, AreTakenBut, DifferAt, Follows, HasPlaces, IsLinked, IsMoved, StillWait, WasKnown, file_text, links_under, no_links, waiting_under, waits}
 use Rattle.work_index.specs.Edited.{StaysBut}

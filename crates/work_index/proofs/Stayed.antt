@@ -3,19 +3,19 @@ use Rattle.std.proofs.Common.{◌≡◌, ◌≢◌, ◌<◌, ◌+◌, ℕ, List,
 use Rattle.std.specs.Prelude.{IfSome}
 use Rattle.std.proofs.lemmas.List.{length-map, length-set, get_or-set_other}
 use Rattle.std.proofs.lemmas.Option.{same_Some}
-use Rattle.syntax_tree.specs.Read.{value_tree}
-use Rattle.file_facts.specs.Facts.{facts_of}
+use Rattle.proto_tree.specs.Read.{value_tree}
+use Rattle.proto_decls.specs.Facts.{facts_of}
 use Rattle.import_graph.specs.declared.imports.FileImports.{FileImports}
 use Rattle.import_graph.specs.Closures.{view_of}
 use Rattle.import_graph.specs.Imports.{graph_of, imports_of}
 use Rattle.import_graph.specs.Moves.{place}
 use Rattle.proto_resolve.specs.declared.resolve.Links.{Links}
 use Rattle.proto_names.specs.Files.{facts_at}
-use Rattle.link_changes.specs.Laws.{MovedLaw, MovesAlike, decl_moved}
-use Rattle.link_changes.specs.Touched.{links_after}
-use Rattle.work_index.specs.declared.after.Earlier.{Earlier}
+use Rattle.work_links.specs.Laws.{MovedLaw, MovesAlike, decl_moved}
+use Rattle.work_links.specs.Touched.{links_after}
+use Rattle.work_index.specs.declared.update_files.Earlier.{Earlier}
 use Rattle.work_index.specs.Changes.{no_links}
-use Rattle.work_index.specs.Stayed.{HasMoved, IsEarlier, IsSameFile, Stay}
+use Rattle.work_index.specs.Stayed.{HasMoved, IsEarlier, IsSameFile, Stay, WasGraph}
 use Rattle.work_index.specs.Workspace.{Workspace, all_facts, named_facts, resolution_of}
 use Rattle.work_index.proofs.Changed.{made, made_at, made_length, nothing}
 use Rattle.work_index.proofs.Relinked.{facts_in}
@@ -26,9 +26,11 @@ graph_length w = length-map (all_facts w) (λ x. imports_of (all_facts w) x.fact
 
 module _ (old w : Workspace) (to : List (Option ℕ)) (stayed : Stay old w to) where
   -- a file that stayed was one of the graph
-  pub number_within : (before : Option ℕ) (n : ℕ) (graph : List FileImports) → graph ≡ graph_of (all_facts old) → IfSome before (λ g. place to g ≡ Some n) → IfSome before (λ g. g < length graph)
-  number_within None n graph is moves = tt
-  number_within (Some g) n graph is moves =
+  pub number_within : (before : Option ℕ) (n : ℕ) (graph : Option (List FileImports)) → WasGraph graph (all_facts old) (all_facts w) to → IfSome before (λ g. place to g ≡ Some n)
+      → IfSome before (λ g. IfSome graph (λ gs. g < length gs))
+  number_within None n graph was moves = tt
+  number_within (Some g) n None was moves = tt
+  number_within (Some g) n (Some graph) is moves =
       let file : IsSameFile old w g n = stayed g n moves in
       omega (arith, file.there, ap length is, graph_length old)
 
@@ -50,10 +52,6 @@ module _ (old w : Workspace) (to : List (Option ℕ)) (stayed : Stay old w to) w
       } in
       sym (law (all_facts old) (all_facts w) g n to text (value_tree text) alike) ∙ ap (λ f. resolution_of w (n, f)) file.same
 
--- the same of a file of equal graphs
-pub moved_in : (before after olds news : List FileImports) (to : List (Option ℕ)) (g n : ℕ) → before ≡ olds → after ≡ news → HasMoved before after to g n → HasMoved olds news to g n
-moved_in before after olds news to g n is are moved = subst (λ gs. HasMoved gs news to g n) is (subst (λ gs. HasMoved before gs to g n) are moved)
-
 module _ (k : ℕ) (to : List (Option ℕ)) (w : Workspace) (earlier : Earlier) (was : IsEarlier k to w earlier) where
   -- the links of the file k are not needed any more
   pub one_further : IsEarlier (k + 1) to w earlier
@@ -70,7 +68,7 @@ module _ (k : ℕ) (to : List (Option ℕ)) (w : Workspace) (earlier : Earlier) 
   one_taken g moves links left later graph_is links_are = record {
     old = was.old;
     stayed = was.stayed;
-    graph = graph_is ∙ was.graph;
+    graph = subst (λ (graph : Option (List FileImports)). WasGraph graph (all_facts was.old) (all_facts w) to) (sym graph_is) was.graph;
     count = ap length (links_are ∙ left) ∙ length-set earlier.links.items g no_links ∙ was.count;
     links = λ g' n moves' far.
         let apart : g' ≢ g = λ same. absurd (omega (arith, far, same_Some n k (sym moves' ∙ ap (place to) same ∙ moves))) in
@@ -78,7 +76,7 @@ module _ (k : ℕ) (to : List (Option ℕ)) (w : Workspace) (earlier : Earlier) 
   }
 
 -- before the first file all links are there
-pub none_taken : (old w : Workspace) (to : List (Option ℕ)) → Stay old w to → (earlier : Earlier) → earlier.graph ≡ graph_of (all_facts old) → earlier.links.items ≡ made (resolution_of old) old → IsEarlier 0 to w earlier
+pub none_taken : (old w : Workspace) (to : List (Option ℕ)) → Stay old w to → (earlier : Earlier) → WasGraph earlier.graph (all_facts old) (all_facts w) to → earlier.links.items ≡ made (resolution_of old) old → IsEarlier 0 to w earlier
 none_taken old w to stayed earlier graph links = record {
   old = old;
   stayed = stayed;

@@ -4,7 +4,7 @@ use Rattle.std.proofs.lemmas.List.{length-map}
 use Rattle.std.proofs.lemmas.List.FromFn.{length-enumerate_from}
 use Rattle.std.specs.List.{enumerate_from}
 use Rattle.piece_collector.specs.Views.{TextAt}
-use Rattle.file_facts.specs.declared.named_facts.NamedFacts.{NamedFacts}
+use Rattle.proto_decls.specs.declared.named_facts.NamedFacts.{NamedFacts}
 use Rattle.work_index.specs.Pieces.{workspace_of}
 use Rattle.work_index.specs.Shares.{AreNumbersIn}
 use Rattle.work_index.specs.Workspace.{named_facts, all_facts}

@@ -6,7 +6,7 @@ use Rattle.std.specs.declared.alloc.AllocError.{AllocError}
 use Rattle.std.specs.declared.thread.PromisedHandle.{PromisedHandle}
 use Rattle.std.specs.declared.thread.Promise as Promise
 use Rattle.std.specs.PromisedHandle.{KeepsEach}
-use Rattle.file_facts.specs.declared.named_facts.NamedFacts.{NamedFacts}
+use Rattle.proto_decls.specs.declared.named_facts.NamedFacts.{NamedFacts}
 use Rattle.piece_collector.specs.Views.{TextAt}
 use Rattle.work_index.specs.declared.in_shares.ShareIndexed.{ShareIndexed}
 use Rattle.work_index.specs.declared.indexed.IndexedShare.{IndexedShare}

@@ -3,24 +3,25 @@ use Rattle.std.proofs.Common.{◌≡◌, ◌<◌, ◌≤◌, ◌++◌, ℕ, List
 use Rattle.std.specs.List.{enumerate_from, insert}
 use Rattle.std.proofs.lemmas.List.{length-map}
 use Rattle.std.proofs.lemmas.Simd.{map-map}
-use Rattle.file_facts.specs.declared.diagnostic.Diag.{Diag}
-use Rattle.file_facts.specs.Facts.{facts_of}
-use Rattle.file_facts.specs.Order.{in_order}
-use Rattle.file_facts.specs.declared.named_facts.NamedFacts.{NamedFacts}
+use Rattle.proto_decls.specs.declared.diagnostic.Diag.{Diag}
+use Rattle.proto_decls.specs.Facts.{facts_of}
+use Rattle.proto_decls.specs.Order.{in_order}
+use Rattle.proto_decls.specs.declared.named_facts.NamedFacts.{NamedFacts}
 use Rattle.import_graph.specs.Arrivals.{ArrivalLaw, MakesRoom, NobodyImports}
-use Rattle.import_graph.specs.Imports.{graph_of}
+use Rattle.import_graph.specs.Imports.{graph_of, imports_of}
 use Rattle.import_graph.specs.Moves.{IsMovedOutlook, place}
 use Rattle.import_graph.specs.Outlooks.{outlook}
+use Rattle.import_graph.specs.Paths.{IsInPathOrder}
 use Rattle.proto_resolve.specs.declared.resolve.Links.{Links}
-use Rattle.link_changes.specs.Laws.{MovedLaw, decl_moved}
-use Rattle.link_changes.specs.Touched.{links_after}
+use Rattle.work_links.specs.Laws.{MovedLaw, decl_moved}
+use Rattle.work_links.specs.Touched.{links_after}
 use Rattle.work_index.specs.FilesMoves.{HasCome}
 use Rattle.work_index.specs.Stayed.{HasMoved, IsSameFile, Stay}
 use Rattle.work_index.specs.Changes.{no_links}
 use Rattle.work_index.specs.Workspace.{Workspace, all_facts, diagnostics_of, named_facts, resolution_of}
 use Rattle.work_index.proofs.Changed.{AreParts, made, made_at, made_length, nothing}
 use Rattle.work_index.proofs.FilesMoves.{come_to, with_one_more, with_one_that_came}
-use Rattle.work_index.proofs.Stayed.{graph_length, links_moved}
+use Rattle.work_index.proofs.Stayed.{links_moved}
 
 -- one file came to those of a table, which has the number k in the workspace, and none of the others imports it
 pub record ComesUnimported (files : List NamedFacts) (w : Workspace) (to : List (Option ℕ)) (k : ℕ) : Type 0 where
@@ -33,6 +34,16 @@ room_for to before now k come = record {
   within = come.within;
   front = come.front;
   behind = come.behind;
+}
+
+-- the imports say the same of a file that stayed
+pub imports_moved : (files new : List NamedFacts) (to : List (Option ℕ)) (before now k : ℕ) (file : NamedFacts) → HasCome to before now k → before ≡ length files → insert files k file ≡ new → NobodyImports files file.path
+    → ArrivalLaw → (g n : ℕ) → place to g ≡ Some n → g < length files → HasMoved (graph_of files) (graph_of new) to g n
+imports_moved files new to before now k file come as_many is nobody law g n moves there = record {
+  within = omega (arith, there, length-map files (λ x. imports_of files x.facts));
+  moves = moves;
+  imports = subst (λ (fs : List NamedFacts). IsMovedOutlook to (outlook (graph_of files) g) (outlook (graph_of fs) n)) is
+      (law files k file to g n nobody (subst (λ m. MakesRoom to m k) as_many (room_for to before now k come)) there moves);
 }
 
 module _ (old w : Workspace) (to : List (Option ℕ)) (stayed : Stay old w to) (k : ℕ) (comes : ComesUnimported (all_facts old) w to k) where
@@ -62,22 +73,14 @@ module _ (old w : Workspace) (to : List (Option ℕ)) (stayed : Stay old w to) (
   files_with_it = with_one_that_came old w to stayed k (named_facts (get_or w k nothing)) comes.came refl
 
   module _ (moved_law : MovedLaw) (arrival_law : ArrivalLaw) where
-    -- the imports say the same of a file that stayed
-    imports_moved : (g n : ℕ) → place to g ≡ Some n → HasMoved (graph_of (all_facts old)) (graph_of (all_facts w)) to g n
-    imports_moved g n moves =
+    moved : (g n : ℕ) → place to g ≡ Some n → HasMoved (graph_of (all_facts old)) (graph_of (all_facts w)) to g n
+    moved g n moves =
         let file : IsSameFile old w g n = stayed g n moves in
-        let there : g < length (all_facts old) = omega (arith, file.there, as_many) in
-        let room = room_for to (length (all_facts old)) (length w) k comes.came in
-        record {
-          within = omega (arith, file.there, graph_length old);
-          moves = moves;
-          imports = subst (λ (files : List NamedFacts). IsMovedOutlook to (outlook (graph_of (all_facts old)) g) (outlook (graph_of files) n)) files_with_it
-              (arrival_law (all_facts old) k (named_facts (get_or w k nothing)) to g n comes.nobody room there moves);
-        }
+        imports_moved (all_facts old) (all_facts w) to (length (all_facts old)) (length w) k (named_facts (get_or w k nothing)) comes.came refl files_with_it comes.nobody arrival_law g n moves (omega (arith, file.there, as_many))
 
     -- so it is linked as before but for the numbers
     stays_linked : (g n : ℕ) → place to g ≡ Some n → links_after (decl_moved to) (resolution_of old (g, get_or old g nothing)) ≡ resolution_of w (n, get_or w n nothing)
-    stays_linked g n moves = links_moved old w to stayed moved_law g n (imports_moved g n moves)
+    stays_linked g n moves = links_moved old w to stayed moved_law g n (moved g n moves)
 
     -- and the same is wrong in it
     stays_diagnosed : (g n : ℕ) → place to g ≡ Some n → diagnostics_of old (g, get_or old g nothing) ≡ diagnostics_of w (n, get_or w n nothing)
@@ -97,6 +100,7 @@ module _ (old w : Workspace) (to : List (Option ℕ)) (stayed : Stay old w to) (
 pub record AreWithIt (w : Workspace) (to : List (Option ℕ)) (k : ℕ) (file : List ℕ × List ℕ) (table : List NamedFacts) (files : Workspace) (links : List Links) (diagnostics : List (List Diag)) : Type 0 where
   pub place : k < length w
   pub table_count : k ≤ length table
+  pub ordered : IsInPathOrder (insert table k (named_facts file))
   pub table_is : insert table k (named_facts file) ≡ all_facts w
   pub files_count : k ≤ length files
   pub files_are : insert files k file ≡ w
@@ -104,17 +108,17 @@ pub record AreWithIt (w : Workspace) (to : List (Option ℕ)) (k : ℕ) (file : 
   pub links_are : insert (map (links_after (decl_moved to)) links) k (resolution_of w (k, file)) ≡ made (resolution_of w) w
   pub diagnostics_count : k ≤ length diagnostics
   pub diagnostics_are : insert diagnostics k (diagnostics_of w (k, file)) ≡ made (diagnostics_of w) w
-  pub nobody : NobodyImports table file.0
 
 pub with_it : (old w : Workspace) (to : List (Option ℕ)) (k : ℕ) (file : List ℕ × List ℕ) (table : List NamedFacts) (files : Workspace) (links : List Links) (diagnostics : List (List Diag))
-    → AreParts table files links diagnostics old → Stay old w to → ComesUnimported (all_facts old) w to k → get_or w k nothing ≡ file → MovedLaw → ArrivalLaw
+    → AreParts table files links diagnostics old → IsInPathOrder (insert table k (named_facts file)) → Stay old w to → ComesUnimported (all_facts old) w to k → get_or w k nothing ≡ file → MovedLaw → ArrivalLaw
     → AreWithIt w to k file table files links diagnostics
-with_it old w to k file table files links diagnostics of stayed comes at moved_law arrival_law =
+with_it old w to k file table files links diagnostics of ordered stayed comes at moved_law arrival_law =
     let come = comes.came in
     let long : length (all_facts old) ≡ length old = length-map old named_facts in
     record {
       place = place_within old w to stayed k comes;
       table_count = omega (arith, come.within, ap length of.table_is);
+      ordered = ordered;
       table_is = ap₂ (λ (files : List NamedFacts) (f : List ℕ × List ℕ). insert files k (named_facts f)) of.table_is (sym at) ∙ files_with_it old w to stayed k comes;
       files_count = omega (arith, come.within, long, ap length of.files_are);
       files_are = ap₂ (λ (fs : Workspace) (f : List ℕ × List ℕ). insert fs k f) of.files_are (sym at) ∙ own_with_it old w to stayed k comes;
@@ -122,5 +126,4 @@ with_it old w to k file table files links diagnostics of stayed comes at moved_l
       links_are = ap₂ (λ (ls : List Links) (f : List ℕ × List ℕ). insert (map (links_after (decl_moved to)) ls) k (resolution_of w (k, f))) of.links_are (sym at) ∙ links_with_it old w to stayed k comes moved_law arrival_law;
       diagnostics_count = omega (arith, come.within, long, ap length of.diagnostics_are, made_length (diagnostics_of old) old);
       diagnostics_are = ap₂ (λ (ds : List (List Diag)) (f : List ℕ × List ℕ). insert ds k (diagnostics_of w (k, f))) of.diagnostics_are (sym at) ∙ diagnostics_with_it old w to stayed k comes moved_law arrival_law;
-      nobody = subst (λ (files : List NamedFacts). NobodyImports files file.0) (sym of.table_is) (subst (λ (f : List ℕ × List ℕ). NobodyImports (all_facts old) f.0) at comes.nobody);
     }

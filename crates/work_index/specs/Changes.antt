@@ -1,9 +1,9 @@
 -- Changes of the texts of files.
 use Rattle.std.specs.Prelude.{◌≡◌, ◌≢◌, ◌<◌, ℕ, List, [], Bool, true, false, Some, All, Contains, length, map, slice_index_or, slice_set, IfSome, MatchOption, ⊤}
 use Rattle.std.specs.List.{enumerate_from}
-use Rattle.syntax_tree.specs.Read.{value_tree}
-use Rattle.file_facts.specs.Facts.{facts_of}
-use Rattle.file_facts.specs.declared.named_facts.NamedFacts.{NamedFacts}
+use Rattle.proto_tree.specs.Read.{value_tree}
+use Rattle.proto_decls.specs.Facts.{facts_of}
+use Rattle.proto_decls.specs.declared.named_facts.NamedFacts.{NamedFacts}
 use Rattle.import_graph.specs.Closures.{seers_of}
 use Rattle.import_graph.specs.Imports.{graph_of}
 use Rattle.import_graph.specs.Outlooks.{outlook}
@@ -12,17 +12,17 @@ use Rattle.proto_names.specs.Files.{facts_at}
 use Rattle.proto_resolve.specs.Resolved.{resolved}
 use Rattle.proto_names.specs.Outlines.{exports}
 use Rattle.proto_resolve.specs.Seen.{SeesTheSame}
-use Rattle.link_changes.specs.declared.asked.Asked.{Asked}
-use Rattle.link_changes.specs.declared.renumbering.Renumbering.{Renumbering}
-use Rattle.link_changes.specs.declared.touched.Touched.{Touched}
-use Rattle.link_changes.specs.Asked.{may_ask}
-use Rattle.link_changes.specs.Touched.{decl_after, is_touched, links_after, Tells}
-use Rattle.work_index.specs.declared.again.Effect.{Effect}
-use Rattle.work_index.specs.declared.again.Effect.TheVariants.{Stay, Move, Relink}
-use Rattle.work_index.specs.declared.again.Told.{Told}
-use Rattle.work_index.specs.declared.again.FileChange.{FileChange}
-use Rattle.work_index.specs.declared.again.Outdated.{Outdated}
-use Rattle.work_index.specs.declared.again.Relinking.{Relinking}
+use Rattle.work_links.specs.declared.asked.Asked.{Asked}
+use Rattle.work_links.specs.declared.renumbering.Renumbering.{Renumbering}
+use Rattle.work_links.specs.declared.touched.Touched.{Touched}
+use Rattle.work_links.specs.Asked.{may_ask}
+use Rattle.work_links.specs.Touched.{decl_after, is_touched, links_after, Tells}
+use Rattle.work_index.specs.declared.update_texts.Effect.{Effect}
+use Rattle.work_index.specs.declared.update_texts.Effect.TheVariants.{Stay, Move, Relink}
+use Rattle.work_index.specs.declared.update_texts.Told.{Told}
+use Rattle.work_index.specs.declared.update_texts.FileChange.{FileChange}
+use Rattle.work_index.specs.declared.update_texts.Outdated.{Outdated}
+use Rattle.work_index.specs.declared.update_texts.Relinking.{Relinking}
 use Rattle.work_index.specs.declared.analysis.Resolutions.{Resolutions}
 use Rattle.work_index.specs.Edited.{StaysBut}
 use Rattle.work_index.specs.Workspace.{Workspace, all_facts, diagnostics_of, merged, resolution_of}

@@ -1,9 +1,9 @@
 -- One file that came to a workspace, or left it, while all others stayed.
 use Rattle.std.specs.Prelude.{◌≡◌, ◌<◌, ◌≤◌, ◌+◌, ℕ, List, Option, Some, length, ⊤}
-use Rattle.file_facts.specs.declared.named_facts.NamedFacts.{NamedFacts}
+use Rattle.proto_decls.specs.declared.named_facts.NamedFacts.{NamedFacts}
 use Rattle.import_graph.specs.Moves.{place}
-use Rattle.work_index.specs.declared.moved_table.FilesMove.{FilesMove}
-use Rattle.work_index.specs.declared.moved_table.FilesMove.TheVariants.{Came, Left, Other}
+use Rattle.work_index.specs.declared.update_table.FilesMove.{FilesMove}
+use Rattle.work_index.specs.declared.update_table.FilesMove.TheVariants.{Came, Left, Other}
 use Rattle.work_index.specs.Stayed.{Stay}
 use Rattle.work_index.specs.Workspace.{Workspace, all_facts}
 

@@ -1,7 +1,7 @@
 -- What an analysis is made of.
 use Rattle.std.specs.Prelude.{◌≡◌, List, length, map}
-use Rattle.file_facts.specs.declared.diagnostic.Diag.{Diag}
-use Rattle.file_facts.specs.declared.named_facts.NamedFacts.{NamedFacts}
+use Rattle.proto_decls.specs.declared.diagnostic.Diag.{Diag}
+use Rattle.proto_decls.specs.declared.named_facts.NamedFacts.{NamedFacts}
 use Rattle.proto_names.specs.Files.{all_decls}
 use Rattle.proto_resolve.specs.declared.resolve.Links.{Links}
 use Rattle.work_index.specs.Workspace.{AnalysisData, IsKnown, Workspace}

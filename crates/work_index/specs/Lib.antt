@@ -12,3 +12,5 @@ pub mod Arrivals
 pub mod Updates
 pub mod Known
 pub mod Edited
+pub mod Bindings
+pub mod Quiet

@@ -3,7 +3,7 @@ use Rattle.std.specs.Prelude.{◌≡◌, ℕ, ◌+◌, ◌≤◌, List, [], ◌�
 use Rattle.std.specs.List.{enumerate_from}
 use Rattle.std.specs.declared.alloc.AllocError.{AllocError}
 use Rattle.piece_collector.specs.Views.{TextAt}
-use Rattle.file_facts.specs.declared.named_facts.NamedFacts.{NamedFacts}
+use Rattle.proto_decls.specs.declared.named_facts.NamedFacts.{NamedFacts}
 use Rattle.work_index.specs.declared.shares.Share.{Share}
 use Rattle.work_index.specs.declared.linked.LinkedShare.{LinkedShare}
 use Rattle.work_index.specs.Pieces.{workspace_of}

@@ -1,10 +1,11 @@
 -- Files that stay as they are in a workspace where others come, leave or get other texts.
-use Rattle.std.specs.Prelude.{◌≡◌, ◌<◌, ◌≤◌, ℕ, List, [], Option, Some, None, length, slice_index_or}
+use Rattle.std.specs.Prelude.{◌≡◌, ◌<◌, ◌≤◌, ℕ, List, [], Option, Some, None, length, slice_index_or, MatchOption}
+use Rattle.proto_decls.specs.declared.named_facts.NamedFacts.{NamedFacts}
 use Rattle.import_graph.specs.declared.imports.FileImports.{FileImports}
 use Rattle.import_graph.specs.Imports.{graph_of}
 use Rattle.import_graph.specs.Moves.{IsMovedOutlook, place}
 use Rattle.import_graph.specs.Outlooks.{outlook}
-use Rattle.work_index.specs.declared.after.Earlier.{Earlier}
+use Rattle.work_index.specs.declared.update_files.Earlier.{Earlier}
 use Rattle.work_index.specs.Changes.{no_links}
 use Rattle.work_index.specs.Workspace.{Workspace, all_facts, resolution_of}
 
@@ -29,11 +30,15 @@ pub record HasMoved (old new : List FileImports) (to : List (Option ℕ)) (g n :
   pub moves : place to g ≡ Some n
   pub imports : IsMovedOutlook to (outlook old g) (outlook new n)
 
+-- a graph that is kept is that of the old files; where none is, the imports say the same of each file that has a number among the new ones
+abbrev pub WasGraph : Option (List FileImports) → List NamedFacts → List NamedFacts → List (Option ℕ) → Type 0
+WasGraph graph old new to = MatchOption graph ((g n : ℕ) → place to g ≡ Some n → HasMoved (graph_of old) (graph_of new) to g n) (λ before. before ≡ graph_of old)
+
 -- These were known of a workspace of which the files that have a number stayed as they were. The links of those with a number from
 -- k on were not taken yet.
 pub record IsEarlier (k : ℕ) (to : List (Option ℕ)) (w : Workspace) (earlier : Earlier) : Type 0 where
   pub old : Workspace
   pub stayed : Stay old w to
-  pub graph : earlier.graph ≡ graph_of (all_facts old)
+  pub graph : WasGraph earlier.graph (all_facts old) (all_facts w) to
   pub count : length earlier.links.items ≡ length old
   pub links : (g n : ℕ) → place to g ≡ Some n → k ≤ n → slice_index_or earlier.links.items g no_links ≡ resolution_of old (g, slice_index_or old g ([], []))

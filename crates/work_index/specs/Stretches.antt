@@ -1,7 +1,7 @@
 -- Stretches of the files of a workspace.
 use Rattle.std.specs.Prelude.{◌≡◌, ℕ, ◌+◌, List, [], ◌∷◌, length, flat_map, ⊤}
 use Rattle.std.specs.List.Sorted.{IsPermutation}
-use Rattle.file_facts.specs.declared.named_facts.NamedFacts.{NamedFacts}
+use Rattle.proto_decls.specs.declared.named_facts.NamedFacts.{NamedFacts}
 
 -- consecutive files with their facts, and the number, from 0, of the first one among all
 pub record PartData : Type 0 where

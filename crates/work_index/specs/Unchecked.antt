@@ -1,11 +1,11 @@
 -- The files of a workspace that aren't checked for unknown names, and the imports because of which they aren't.
 use Rattle.std.specs.Prelude.{◌↔◌, ℕ, ◌<◌, List, [], ◌∷◌, Option, IsSome, if◌then◌else◌, slice_get, length, Contains}
 use Rattle.std.specs.List.{enumerate_from, flat_map}
-use Rattle.file_facts.specs.declared.fact.ImportFact.{ImportFact}
-use Rattle.file_facts.specs.declared.named_facts.NamedFacts.{NamedFacts}
+use Rattle.proto_decls.specs.declared.fact.ImportFact.{ImportFact}
+use Rattle.proto_decls.specs.declared.named_facts.NamedFacts.{NamedFacts}
 use Rattle.import_graph.specs.Imports.{graph_of, target_at, is_analysed}
 use Rattle.import_graph.specs.Closures.{view_of, open_views}
-use Rattle.proto_names.specs.Files.{facts_at}
+use Rattle.proto_names.specs.Files.{imports_at}
 
 -- the files that aren't checked for unknown names (401, 402), by number: those whose view isn't closed
 abbrev pub unchecked : List NamedFacts → List ℕ
@@ -17,7 +17,7 @@ lost_path files f e = if is_analysed (graph_of files) (target_at (graph_of files
 
 -- the same of all imports of f
 abbrev pub lost_paths : List NamedFacts → ℕ → List (List ℕ)
-lost_paths files f = flat_map (lost_path files f) (enumerate_from 0 (let facts = facts_at files f in facts.imports))
+lost_paths files f = flat_map (lost_path files f) (enumerate_from 0 (imports_at files f))
 
 -- the first of those of the files that f sees, by their paths
 abbrev pub first_lost : List NamedFacts → ℕ → Option (List ℕ)

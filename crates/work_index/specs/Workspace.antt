@@ -2,19 +2,19 @@
 use Rattle.std.specs.Prelude.{◌≡◌, ℕ, List, ◌++◌, map, filter, slice_index_or, bytes_eq, [], position}
 use Rattle.std.specs.Option.{option_map_or}
 use Rattle.std.specs.List.{enumerate_from, zip}
-use Rattle.syntax_tree.specs.Read.{value_tree}
-use Rattle.file_facts.specs.declared.diagnostic.Diag.{Diag}
-use Rattle.file_facts.specs.declared.fact.Decl.{Decl}
-use Rattle.file_facts.specs.declared.fact.FileFacts.{FileFacts}
-use Rattle.file_facts.specs.Facts.{facts_of}
-use Rattle.file_facts.specs.Order.{in_order}
-use Rattle.file_facts.specs.declared.named_facts.NamedFacts.{NamedFacts}
+use Rattle.proto_tree.specs.Read.{value_tree}
+use Rattle.proto_decls.specs.declared.diagnostic.Diag.{Diag}
+use Rattle.proto_decls.specs.declared.fact.Decl.{Decl}
+use Rattle.proto_decls.specs.declared.fact.FileFacts.{FileFacts}
+use Rattle.proto_decls.specs.Facts.{facts_of}
+use Rattle.proto_decls.specs.Order.{in_order}
+use Rattle.proto_decls.specs.declared.named_facts.NamedFacts.{NamedFacts}
 use Rattle.proto_names.specs.declared.decl_ref.DeclRef.{DeclRef}
 use Rattle.proto_resolve.specs.declared.resolve.Links.{Links}
 use Rattle.proto_names.specs.Files.{all_decls, no_facts, no_decl}
 use Rattle.proto_resolve.specs.Resolved.{resolved}
 use Rattle.proto_resolve.specs.Sites.{names_of_file}
-use Rattle.link_changes.specs.Asked.{names_asked}
+use Rattle.work_links.specs.Asked.{names_asked}
 
 -- a workspace: the paths of its files, by their bytes, each with its text
 abbrev pub Workspace : Type 0

@@ -1,7 +1,7 @@
 // The analysis of a workspace.
 ghost use Rattle.std.specs.Prelude.{◌≡◌, ◌<◌, ◌++◌, ℕ, List, [], ◌∷◌, length, map, IfOk, OnOk};
 ghost use Rattle.std.specs.List.{enumerate_from};
-ghost use Rattle.file_facts.specs.Facts.{facts_of};
+ghost use Rattle.proto_decls.specs.Facts.{facts_of};
 ghost use Rattle.piece_collector.specs.Board.{Ascends};
 ghost use Rattle.work_index.specs.Pieces.{workspace_of};
 ghost use Rattle.work_index.specs.Shares.{AreNumbersIn};
@@ -13,9 +13,9 @@ use crate::gate::{Gate, OpenGate};
 use crate::room::make_room;
 use crate::shared_links::SharedLinks;
 use crate::source_file::SourceFile;
-use crate::table_of::listed_table_of;
-use file_facts::{Diag, FileFacts, in_order};
+use crate::table_of::table_of;
 use piece_collector::Piece;
+use proto_decls::{Diag, FileFacts, in_order};
 use proto_resolve::{Links, Table, resolve_file};
 use sqlite_items::Items;
 use std::alloc::{AllocError, Global};
@@ -164,9 +164,9 @@ pub fn analyse_here(alloc: Global, pieces: &[Piece<FileWork>]) -> Result<Analysi
     requires { Ascends pieces.now }
     ensures { IfOk result (λ found. found ≡ analysis (workspace_of pieces.now)) }
 {
-    let table = listed_table_of(alloc, pieces)?;
+    let table = table_of(alloc, pieces)?;
     let files = files_of(alloc, pieces)?;
-    let resolutions = link_files(alloc, table.table(), 0, pieces, &OpenGate)?;
+    let resolutions = link_files(alloc, &table, 0, pieces, &OpenGate)?;
     Ok(Analysis {
         table,
         files,

@@ -4,9 +4,9 @@ ghost use Rattle.work_index.specs.Arrivals.{NoneImports};
 
 use crate::shared_links::SharedLinks;
 use crate::source_file::SourceFile;
-use file_facts::{Diag, FileFacts};
 use import_graph::FileNo;
-use proto_resolve::{DeclRef, Index, Links, ListedTable};
+use proto_decls::{Diag, FileFacts};
+use proto_resolve::{DeclRef, Index, Links, Table};
 use sqlite_items::Items;
 use std::alloc::{AllocError, Global};
 use std::marker::Model;
@@ -17,7 +17,7 @@ use std::marker::Model;
 /// A file is a number: its place, counted from 0, in the list of paths. An analysis owns all that it holds.
 #[derive(Drop)]
 pub struct Analysis {
-    pub(crate) table: ListedTable,
+    pub(crate) table: Table,
     pub(crate) files: Vec<SourceFile>,
     pub(crate) resolutions: Resolutions,
 }
@@ -129,7 +129,7 @@ impl Analysis {
         requires { file < length self.now.paths }
         ensures { slice_get self.now.facts file ≡ Some result.now }
     {
-        self.table.table().facts(file)
+        self.table.facts(file)
     }
 
     /// All declarations, by path, then offset.
@@ -176,7 +176,7 @@ impl Analysis {
     pub fn number_of(&self, path: &str) -> Option<FileNo>
         ensures { result ≡ position (λ p. bytes_eq p path.now) self.now.paths }
     {
-        self.table.table().number_of(path)
+        self.table.number_of(path)
     }
 
     /// Whether a file imports a path that none of them has. It looks only at files that import a missing or an opaque one, and takes no
@@ -185,7 +185,7 @@ impl Analysis {
         requires { position (λ p. bytes_eq p path.now) self.now.paths ≡ None }
         ensures { IsFalse result ↔ NoneImports self.now.facts path.now }
     {
-        self.table.table().is_imported(path)
+        self.table.is_imported(path)
     }
 
     // The diagnostics of a file; none where there is no such file.
@@ -202,6 +202,6 @@ impl Analysis {
     pub fn decls_named(&self, full_name: &str) -> &[DeclRef]
         ensures { result.now ≡ decls_named self.now full_name.now }
     {
-        self.table.table().named(full_name)
+        self.table.named(full_name)
     }
 }

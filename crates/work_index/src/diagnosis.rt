@@ -3,9 +3,9 @@ ghost use Rattle.std.specs.Prelude.{◌≡◌, ◌<◌, length, All, IfOk, Some}
 
 use crate::file_work::FileWork;
 use crate::unchecked::first_lost_path;
-use file_facts::{Diag, Name};
 use import_graph::FileNo;
 use piece_collector::Piece;
+use proto_decls::{Diag, Name};
 use proto_resolve::{Index, Table};
 use sqlite_items::Items;
 use std::alloc::{AllocError, Global};

@@ -2,6 +2,7 @@
 ghost use Rattle.std.specs.Prelude.{◌≡◌};
 ghost use Rattle.work_index.specs.declared.fault.AnalyseFault.TheVariants.{Memory};
 
+use proto_resolve::TableFault;
 use std::alloc::{AllocError, AllocFailed};
 use thiserror::Error;
 
@@ -26,6 +27,19 @@ impl AnalyseFault {
         match self {
             AnalyseFault::Memory => 601,
             AnalyseFault::ThreadRefused => 602,
+        }
+    }
+}
+
+impl From<TableFault> for AnalyseFault {
+    ghost use Rattle.work_index.specs.Fault.{fault_of_table};
+
+    ghost from_gives = { λ fault e. e ≡ fault_of_table fault };
+
+    fn from(fault: TableFault) -> AnalyseFault {
+        match fault {
+            TableFault::Memory => AnalyseFault::Memory,
+            TableFault::ThreadRefused => AnalyseFault::ThreadRefused,
         }
     }
 }

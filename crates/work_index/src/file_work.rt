@@ -1,20 +1,20 @@
 // The work on one file.
 ghost use Rattle.std.specs.Prelude.{◌≡◌, true, false, IfOk};
-ghost use Rattle.file_facts.specs.Facts.{facts_of};
-ghost use Rattle.link_changes.specs.Asked.{has_all};
-ghost use Rattle.syntax_tree.specs.Read.{value_tree};
+ghost use Rattle.proto_decls.specs.Facts.{facts_of};
+ghost use Rattle.work_links.specs.Asked.{has_all};
+ghost use Rattle.proto_tree.specs.Read.{value_tree};
 ghost use Rattle.work_index.specs.Workspace.{asked_of};
 
 use crate::room::make_room;
-use file_facts::FileFacts;
 use import_graph::SharedFacts;
-use link_changes::Asked;
 use piece_collector::{Piece, SharedText, Work};
+use proto_decls::FileFacts;
 use proto_facts::facts;
 use proto_syntax::parse_text;
+use proto_tree::{FileTree, is_too_long};
 use std::alloc::{AllocError, AllocFailed, Global};
 use std::sync::Arc;
-use syntax_tree::{FileTree, is_too_long};
+use work_links::Asked;
 
 /// What is made of a file's text by itself.
 #[derive(Drop)]
@@ -82,9 +82,9 @@ impl FileWork {
 
 impl Work for FileWork {
     ghost use Rattle.std.specs.Prelude.{◌≡◌, true};
-    ghost use Rattle.file_facts.specs.Facts.{facts_of};
-    ghost use Rattle.link_changes.specs.Asked.{has_all};
-    ghost use Rattle.syntax_tree.specs.Read.{value_tree};
+    ghost use Rattle.proto_decls.specs.Facts.{facts_of};
+    ghost use Rattle.work_links.specs.Asked.{has_all};
+    ghost use Rattle.proto_tree.specs.Read.{value_tree};
     ghost use Rattle.work_index.specs.Workspace.{asked_of};
 
     type Out = FileOut;

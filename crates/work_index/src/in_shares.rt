@@ -1,7 +1,8 @@
 // The analysis of a workspace by several threads.
-ghost use Rattle.std.specs.Prelude.{◌≡◌, length, IfOk};
+ghost use Rattle.std.specs.Prelude.{◌≡◌, ◌<◌, length, Err, IfOk};
 ghost use Rattle.std.specs.Thread.{IsSync};
 ghost use Rattle.piece_collector.specs.Board.{Ascends};
+ghost use Rattle.work_index.specs.declared.fault.AnalyseFault.TheVariants.{ThreadRefused};
 ghost use Rattle.work_index.specs.Parts.{IsIndexed, AreIndexed};
 ghost use Rattle.work_index.specs.Pieces.{workspace_of};
 ghost use Rattle.work_index.specs.Shares.{pieces_in, AreConsecutive, AreNumbersIn, ArePlacedIn, IsLinkedBy, IsLinkedIn, AreLinkedBy};
@@ -18,7 +19,7 @@ use crate::linked::{LinkedShare, gather, link_share};
 use crate::part_table::merged_entries;
 use crate::shares::{Share, cut};
 use piece_collector::Lent;
-use proto_resolve::{ListedTable, Table};
+use proto_resolve::Table;
 use std::alloc::{AllocError, Global};
 use std::snapshot::Snapshot;
 use std::sync::Wait;
@@ -46,19 +47,21 @@ impl Promise<Result<IndexedShare, AllocError>> for ShareIndexed {
     ghost kept_by = { λ p answer. IfOk answer (IsIndexed p.share.value) };
 }
 
-// Makes the table of each share in a thread of its own, and waits for all of them.
+// Makes the table of each share in a thread of its own, and waits for all of them. Of no shares no thread is refused.
 fn index_all<R: Threads + Wait>(
     rt: &R,
     alloc: Global,
     shares: Vec<Share>,
 ) -> Result<Vec<Result<IndexedShare, AllocError>>, AnalyseFault>
-    ensures { IfOk result (λ answers. AreIndexed shares.items answers.items) }
+    ensures answers { IfOk result (λ answers. AreIndexed shares.items answers.items) }
+    ensures threads { result ≡ Err ThreadRefused → 0 < length shares.items }
 {
     thread::scope(
         thread::scope_env(),
         rt,
         |scope| -> Result<Vec<Result<IndexedShare, AllocError>>, AnalyseFault>
-            ensures { IfOk result (λ answers. AreIndexed shares.items answers.items) }
+            ensures answers { IfOk result (λ answers. AreIndexed shares.items answers.items) }
+            ensures threads { result ≡ Err ThreadRefused → 0 < length shares.items }
         {
             let mut handles = Vec::new(alloc);
             for share in shares {
@@ -91,6 +94,7 @@ fn table_in_shares<R: Threads + Wait>(
     requires ordered { Ascends (pieces_in shares.items) }
     ensures shares { IfOk result (λ r. r.0.items ≡ shares.items) }
     ensures table { IfOk result (λ r. r.1 ≡ all_facts (workspace_of (pieces_in shares.items))) }
+    ensures threads { result ≡ Err ThreadRefused → 0 < length shares.items }
 {
     let answers = index_all(rt, alloc, shares)?;
     let IndexedShares { shares, parts } = take_apart(alloc, answers)?;
@@ -99,7 +103,7 @@ fn table_in_shares<R: Threads + Wait>(
     Ok((shares, table))
 }
 
-// Links each share in a thread of its own, and waits for all of them.
+// Links each share in a thread of its own, and waits for all of them. Of no shares no thread is refused.
 fn link_all<R: Threads + Wait, G: Gate>(
     rt: &R,
     alloc: Global,
@@ -108,7 +112,8 @@ fn link_all<R: Threads + Wait, G: Gate>(
     gate: &G,
 ) -> Result<Vec<Result<LinkedShare, AllocError>>, AnalyseFault>
     requires { ArePlacedIn (length table.now) shares.items }
-    ensures { IfOk result (λ answers. AreLinkedBy table.now shares.items answers.items) }
+    ensures answers { IfOk result (λ answers. AreLinkedBy table.now shares.items answers.items) }
+    ensures threads { result ≡ Err ThreadRefused → 0 < length shares.items }
 {
     thread::scope(
         thread::scope_env(),
@@ -116,7 +121,8 @@ fn link_all<R: Threads + Wait, G: Gate>(
         |scope| -> Result<Vec<Result<LinkedShare, AllocError>>, AnalyseFault>
             requires places { ArePlacedIn (length table.now) shares.items }
             requires gate { IsSync G.row }
-            ensures { IfOk result (λ answers. AreLinkedBy table.entry.now shares.items answers.items) }
+            ensures answers { IfOk result (λ answers. AreLinkedBy table.entry.now shares.items answers.items) }
+            ensures threads { result ≡ Err ThreadRefused → 0 < length shares.items }
         {
             let mut handles = Vec::new(alloc);
             for share in shares {
@@ -153,6 +159,7 @@ fn link_in_shares<R: Threads + Wait, G: Gate>(
     requires ordered { Ascends all.pieces.items }
     ensures table { IfOk result (λ r. r.0 ≡ all_facts (workspace_of all.pieces.items)) }
     ensures linked { IfOk result (λ r. IsLinkedIn (workspace_of all.pieces.items) all r.1) }
+    ensures threads { result ≡ Err ThreadRefused → 0 < length all.pieces.items }
 {
     let Share {
         pieces,
@@ -171,11 +178,11 @@ fn link_in_shares<R: Threads + Wait, G: Gate>(
 /// makes of them. As many threads as there are `workers` gather the declarations of the files by name, and later as many link the
 /// files: 0 counts as 1, and over 64 as 64, and there are never more than there are files. Each takes a run of consecutive files; the
 /// runs differ in length by at most one, the longer ones first. A thread enters the gate with the path and the stamp of each of its files
-/// before it links it. In between this thread and two others, however many workers there are, put all names in order and make the graph of
-/// imports. The number of threads takes no part in what is made. It waits until each of them has ended.
+/// before it links it. In between this thread, and with 64 files or more two others, however many workers there are, put all names in order and
+/// make the graph of imports. The number of threads takes no part in what is made. It waits until each of them has ended.
 ///
-/// `Memory` if memory was refused, here or in a thread, and `ThreadRefused` if a thread couldn't be started. The pieces are gone
-/// then.
+/// `Memory` if memory was refused, here or in a thread, and `ThreadRefused` if a thread couldn't be started, which comes only if there is a piece.
+/// The pieces are gone then.
 pub fn analyse_in_shares<R: Threads + Wait, G: Gate>(
     rt: &R,
     alloc: Global,
@@ -185,6 +192,7 @@ pub fn analyse_in_shares<R: Threads + Wait, G: Gate>(
 ) -> Result<(Lent<FileWork>, Analysis), AnalyseFault>
     ensures pieces { IfOk result (λ r. r.0 ≡ lent) }
     ensures analysis { IfOk result (λ r. r.1 ≡ analysis (workspace_of lent)) }
+    ensures threads { result ≡ Err ThreadRefused → 0 < length lent }
 {
     let pieces = lent.into_pieces();
     let all = Share {
@@ -199,7 +207,7 @@ pub fn analyse_in_shares<R: Threads + Wait, G: Gate>(
     } = linked;
     let files = files_of(alloc, pieces.as_slice())?;
     let analysis = Analysis {
-        table: ListedTable::of(alloc, table)?,
+        table,
         files,
         resolutions,
     };
@@ -215,7 +223,8 @@ pub fn diagnose<R: Threads + Wait, G: Gate>(
     workers: usize,
     gate: &G,
 ) -> Result<Diagnosis, AnalyseFault>
-    ensures { IfOk result (λ found. found ≡ diagnosis (workspace_of lent)) }
+    ensures diagnosis { IfOk result (λ found. found ≡ diagnosis (workspace_of lent)) }
+    ensures threads { result ≡ Err ThreadRefused → 0 < length lent }
 {
     let pieces = lent.into_pieces();
     let all = Share {

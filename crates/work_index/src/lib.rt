@@ -6,11 +6,10 @@
 //! and take no part in it.
 #![tactic(auto)]
 
-mod after;
-mod again;
+mod add_file;
 mod analyse;
 mod analysis;
-mod arrival;
+mod comparing;
 mod diagnosis;
 mod done;
 mod edited;
@@ -19,8 +18,8 @@ mod file_work;
 mod gate;
 mod in_shares;
 mod indexed;
+mod keeping;
 mod linked;
-mod moved_table;
 mod part_table;
 mod room;
 mod shared_links;
@@ -29,12 +28,16 @@ mod source_file;
 mod table_of;
 mod unchecked;
 mod update;
+mod update_files;
+mod update_table;
+mod update_texts;
 
 pub use analyse::analyse_here;
 pub use analysis::Analysis;
+pub use comparing::same_meaning;
 pub use diagnosis::Diagnosis;
 pub use done::Done;
-pub use edited::{EditedText, NamedText, analyse_edited, analyse_texts};
+pub use edited::{EditedText, NamedText, analyse_texts, edits_keep_meaning};
 pub use fault::AnalyseFault;
 pub use file_work::{FileOut, FileWork};
 pub use gate::{Gate, OpenGate};

@@ -1,7 +1,7 @@
 // The declarations of stretches of a workspace by name, and those of all its files.
 ghost use Rattle.std.specs.Prelude.{◌≡◌, List, IfOk, OnOk};
 ghost use Rattle.std.specs.List.Sorted.{IsNonDecreasingBy, IsPermutation};
-ghost use Rattle.file_facts.specs.declared.named_facts.NamedFacts.{NamedFacts};
+ghost use Rattle.proto_decls.specs.declared.named_facts.NamedFacts.{NamedFacts};
 ghost use Rattle.work_index.specs.Pieces.{workspace_of};
 ghost use Rattle.work_index.specs.Stretches.{Cover};
 ghost use Rattle.work_index.specs.Workspace.{all_facts};

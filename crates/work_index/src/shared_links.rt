@@ -1,14 +1,14 @@
 // What the names of a file mean, for several analyses.
 ghost use Rattle.std.specs.Prelude.{◌≡◌, IfOk, OnOk};
-ghost use Rattle.link_changes.specs.Laws.{decl_moved};
-ghost use Rattle.link_changes.specs.Touched.{decl_after, links_after};
+ghost use Rattle.work_links.specs.Laws.{decl_moved};
+ghost use Rattle.work_links.specs.Touched.{decl_after, links_after};
 
 use import_graph::FileNo;
-use link_changes::{Renumbering, move_files, renumber};
 use proto_resolve::Links;
 use std::alloc::{AllocError, AllocFailed, Global};
 use std::marker::Model;
 use std::sync::Arc;
+use work_links::{Renumbering, move_files, renumber};
 
 // The links of a file, shared by all that were made of one another, until one of them changes. Contracts see them as the links.
 #[derive(Drop)]

@@ -1,16 +1,16 @@
 // A file of a workspace.
 ghost use Rattle.std.specs.Prelude.{◌≡◌, true, IfOk, string_bytes};
-ghost use Rattle.file_facts.specs.Facts.{facts_of};
-ghost use Rattle.link_changes.specs.Asked.{has_all};
+ghost use Rattle.proto_decls.specs.Facts.{facts_of};
+ghost use Rattle.work_links.specs.Asked.{has_all};
 ghost use Rattle.work_index.specs.Workspace.{asked_of};
 
 use crate::file_work::{FileOut, FileWork, shared_asked_in, shared_in, shared_text_in};
-use file_facts::{Name, SharedFacts};
-use link_changes::Asked;
 use piece_collector::{Piece, SharedText, Work};
+use proto_decls::{Name, SharedFacts};
 use std::alloc::{AllocError, Global};
 use std::marker::Model;
 use std::sync::Arc;
+use work_links::Asked;
 
 // A file of a workspace: its path, its text, what that says by itself, and for which names the file asks. The last three are shared with the
 // piece that was made of the text. Contracts see the path and the text.
@@ -24,8 +24,8 @@ pub struct SourceFile {
 
 impl Model for SourceFile {
     ghost use Rattle.std.specs.Prelude.{◌≡◌, ℕ, List, true};
-    ghost use Rattle.file_facts.specs.Facts.{facts_of};
-    ghost use Rattle.link_changes.specs.Asked.{has_all};
+    ghost use Rattle.proto_decls.specs.Facts.{facts_of};
+    ghost use Rattle.work_links.specs.Asked.{has_all};
     ghost use Rattle.work_index.specs.Workspace.{asked_of};
 
     ghost Value = { List ℕ × List ℕ };

@@ -5,10 +5,10 @@ ghost use Rattle.work_index.specs.Pieces.{workspace_of};
 ghost use Rattle.work_index.specs.Workspace.{named_facts, all_facts};
 
 use crate::file_work::{FileWork, shared_in};
-use file_facts::Name;
 use import_graph::NamedFacts;
 use piece_collector::Piece;
-use proto_resolve::{ListedTable, Table};
+use proto_decls::Name;
+use proto_resolve::Table;
 use std::alloc::{AllocError, Global};
 
 // A file with its facts, which the piece shares.
@@ -32,12 +32,11 @@ pub fn all_facts(alloc: Global, pieces: &[Piece<FileWork>]) -> Result<Vec<NamedF
     Ok(files)
 }
 
-// The table of the files of some pieces, which are in the order of their paths, with the list of all declarations. It shares their facts.
-pub fn listed_table_of(alloc: Global, pieces: &[Piece<FileWork>]) -> Result<ListedTable, AllocError>
+// The table of the files of some pieces, which are in the order of their paths. It shares their facts.
+pub fn table_of(alloc: Global, pieces: &[Piece<FileWork>]) -> Result<Table, AllocError>
     requires { Ascends pieces.now }
     ensures { IfOk result (λ table. table ≡ all_facts (workspace_of pieces.now)) }
 {
     let files = all_facts(alloc, pieces)?;
-    let table = Table::of(alloc, files)?;
-    ListedTable::of(alloc, table)
+    Table::of(alloc, files)
 }

@@ -1,11 +1,11 @@
 // The imports because of which files aren't checked for unknown names.
 ghost use Rattle.std.specs.Prelude.{◌≡◌, ◌<◌, length, slice_get, All, IfOk};
 ghost use Rattle.std.specs.List.{enumerate_from, flat_map};
-ghost use Rattle.proto_names.specs.Files.{facts_at};
+ghost use Rattle.proto_names.specs.Files.{imports_at};
 ghost use Rattle.work_index.specs.Unchecked.{lost_path, lost_paths, first_lost, UncheckedLaw};
 
-use file_facts::{ImportFact, Name};
 use import_graph::FileNo;
+use proto_decls::{ImportFact, Name};
 use proto_resolve::{Index, Table};
 use std::alloc::{AllocError, Global};
 
@@ -17,7 +17,7 @@ fn lost_path(
     imports: &[ImportFact],
 ) -> Result<Option<Name>, AllocError>
     requires file { file < length table.now }
-    requires imports { imports.now ≡ (let facts = facts_at table.now file in facts.imports) }
+    requires imports { imports.now ≡ imports_at table.now file }
     ensures { IfOk result (λ path. path ≡ slice_get (flat_map (lost_path table.now file) (enumerate_from 0 imports.now)) 0) }
 {
     for (number, import) in imports.iter().enumerate() {
@@ -28,7 +28,7 @@ fn lost_path(
     Ok(None)
 }
 
-// The same of the imports of some files, one file after the other.
+// The path in the first import of some files, one file after the other, that names no analysed file.
 fn lost_path_in(alloc: Global, table: &Table, files: &[FileNo]) -> Result<Option<Name>, AllocError>
     requires { All (λ file. file < length table.now) files.now }
     ensures { IfOk result (λ path. path ≡ slice_get (flat_map (lost_paths table.now) files.now) 0) }
@@ -43,7 +43,7 @@ fn lost_path_in(alloc: Global, table: &Table, files: &[FileNo]) -> Result<Option
     Ok(None)
 }
 
-// The same of the imports of the files that a file sees.
+// The path in the first import of the files that a file sees that names no analysed file.
 pub fn first_lost_path(
     alloc: Global,
     table: &Table,

@@ -9,12 +9,12 @@ ghost use Rattle.work_index.specs.Pieces.{workspace_of};
 ghost use Rattle.work_index.specs.Updates.{AreNumbersNow, HasStayed, IsArrival, IsInOrder, IsWorkspaceOf, NameAllChanges, numbers_of, texts_by_path};
 ghost use Rattle.work_index.specs.Workspace.{Workspace, analysis, workspace_in};
 
-use crate::after::analyse_after;
-use crate::again::analyse_again;
+use crate::add_file::add_file;
 use crate::analyse::analyse_here;
 use crate::analysis::Analysis;
-use crate::arrival::analyse_with;
 use crate::file_work::FileWork;
+use crate::update_files::update_files;
+use crate::update_texts::update_texts;
 use import_graph::FileNo;
 use piece_collector::{Board, Piece};
 use std::alloc::{AllocError, Global};
@@ -90,7 +90,8 @@ fn first_from(pieces: &[Piece<FileWork>], from: usize, path: &str) -> usize
     pieces.len()
 }
 
-// The same. Mostly the piece at this very place has the path, and whether two paths are the same is told sooner than which comes first.
+// The first place, from one on, of a piece whose path doesn't come before this one. Mostly the piece at this very place has the path, and whether two
+// paths are the same is told sooner than which comes first.
 fn next_from(pieces: &[Piece<FileWork>], from: usize, path: &str) -> usize
     ensures { (k : ℕ) → from ≤ k → k < result → slice_cmp nat_cmp (let file = slice_index_or (workspace_of pieces.now) k ([], []) in file.0) path.now ≡ Less }
 {
@@ -154,10 +155,10 @@ fn update_by(
     earlier.known();
     let changed = numbers_of(alloc, &earlier, changes)?;
     if have_stayed(&earlier, pieces, changes) {
-        return analyse_again(alloc, earlier, changed.as_slice(), pieces);
+        return update_texts(alloc, earlier, changed.as_slice(), pieces);
     }
     let to = numbers_now(alloc, &earlier, changed.as_slice(), pieces)?;
-    analyse_after(alloc, earlier, to.as_slice(), pieces)
+    update_files(alloc, earlier, to.as_slice(), pieces)
 }
 
 impl Analysis {
@@ -184,7 +185,7 @@ impl Analysis {
     {
         self.known();
         if let Some(piece) = arrival(&self, changes, board) {
-            return analyse_with(alloc, self, piece);
+            return add_file(alloc, self, piece);
         }
         let lent = board.lend_all()?;
         let updated = update_by(alloc, self, changes, lent.pieces());

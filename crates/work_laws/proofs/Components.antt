@@ -4,13 +4,13 @@ use Rattle.std.specs.Prelude.{All}
 use Rattle.std.specs.List.{flat_map}
 use Rattle.std.proofs.lemmas.Bool.{cases_Bool}
 use Rattle.std.proofs.lemmas.List.Elements.{All-nil, All-cons, All-append, All-head, All-map, All-tail}
-use Rattle.syntax_tree.specs.declared.node.Node.{Node, roll-Node, map-Node}
-use Rattle.syntax_tree.specs.declared.node.Node.TheOpen.{Node-F}
-use Rattle.syntax_tree.specs.declared.node.Node.TheFolds.{fold-roll-Node, ind-Node}
-use Rattle.syntax_tree.specs.declared.node.TypeName.{TypeName}
-use Rattle.syntax_tree.specs.Names.{joined as all_types, type_names_step, type_names_of, type_names_in, type_components_in}
-use Rattle.file_facts.specs.Text.{text_at}
-use Rattle.file_facts.specs.declared.fact.FileFacts.{FileFacts}
+use Rattle.proto_tree.specs.declared.node.Node.{Node, roll-Node, map-Node}
+use Rattle.proto_tree.specs.declared.node.Node.TheOpen.{Node-F}
+use Rattle.proto_tree.specs.declared.node.Node.TheFolds.{fold-roll-Node, ind-Node}
+use Rattle.proto_tree.specs.declared.node.TypeName.{TypeName}
+use Rattle.proto_tree.specs.Names.{joined as all_types, type_names_step, type_names_of, type_names_in, type_components_in}
+use Rattle.proto_decls.specs.Text.{text_at}
+use Rattle.proto_decls.specs.declared.fact.FileFacts.{FileFacts}
 use Rattle.proto_laws.proofs.Nesting.{all_left, all_right}
 use Rattle.import_graph.specs.Imports.{is_opaque}
 use Rattle.proto_resolve.specs.declared.site.NameSite.{NameSite}

@@ -12,9 +12,9 @@ use Rattle.std.proofs.lemmas.Str.{IsUtf8-from_ascii, IsUtf8-nil}
 use Rattle.proto_lex.specs.declared.bytes.Class.{Class}
 use Rattle.proto_lex.specs.declared.bytes.Class.TheVariants as class
 use Rattle.proto_lex.specs.Bytes.{class_of, is_letter, is_name_byte, is_quote, is_space, is_symbol}
-use Rattle.syntax_tree.specs.declared.node.Span.{Span}
-use Rattle.syntax_tree.specs.Identifiers.{IsIdentifier, IsIdentifierAt, NamesAreIdentifiers}
-use Rattle.syntax_tree.specs.Read.{empty_tree, read}
+use Rattle.proto_tree.specs.declared.node.Span.{Span}
+use Rattle.proto_tree.specs.Identifiers.{IsIdentifier, IsIdentifierAt, NamesAreIdentifiers}
+use Rattle.proto_tree.specs.Read.{empty_tree, read}
 use Rattle.doc_text.specs.Laws.{IsInsideLineEnd}
 use Rattle.proto_names.specs.declared.decl_ref.DeclRef.{DeclRef}
 use Rattle.work_index.specs.Workspace.{Workspace, analysis}

@@ -4,16 +4,16 @@ use Rattle.std.specs.Prelude.{◌≢◌, All, IsUtf8, option_and_then}
 use Rattle.std.specs.List.{enumerate_from}
 use Rattle.std.proofs.lemmas.List.{length-map}
 use Rattle.std.proofs.lemmas.List.Elements.{All-nil, All-cons, All-head, All-map, All-tail, All-weaker}
-use Rattle.syntax_tree.specs.Identifiers.{IsIdentifier}
-use Rattle.syntax_tree.specs.Read.{value_tree}
-use Rattle.file_facts.specs.Facts.{facts_of}
-use Rattle.syntax_tree.specs.Names.{type_components_in}
-use Rattle.file_facts.specs.IdentifierLaws.{HasIdentifiers, IsIdentifierIn, NamesAreIdentifiers}
-use Rattle.file_facts.specs.Nesting.{NamesNest}
-use Rattle.file_facts.specs.Text.{text_at}
+use Rattle.proto_tree.specs.Identifiers.{IsIdentifier}
+use Rattle.proto_tree.specs.Read.{value_tree}
+use Rattle.proto_decls.specs.Facts.{facts_of}
+use Rattle.proto_tree.specs.Names.{type_components_in}
+use Rattle.proto_decls.specs.IdentifierLaws.{HasIdentifiers, IsIdentifierIn, NamesAreIdentifiers}
+use Rattle.proto_decls.specs.Nesting.{NamesNest}
+use Rattle.proto_decls.specs.Text.{text_at}
 use Rattle.import_graph.specs.Closures.{sees, view_of}
 use Rattle.import_graph.specs.Imports.{graph_of, imports_of}
-use Rattle.file_facts.specs.declared.named_facts.NamedFacts.{NamedFacts}
+use Rattle.proto_decls.specs.declared.named_facts.NamedFacts.{NamedFacts}
 use Rattle.proto_resolve.specs.declared.site.NameSite.{NameSite}
 use Rattle.proto_resolve.specs.declared.target.Target.{Target}
 use Rattle.proto_names.specs.Files.{facts_at, is_seen}

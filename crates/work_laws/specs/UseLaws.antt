@@ -1,7 +1,7 @@
 -- Laws of the analysis of a workspace.
 use Rattle.std.specs.Prelude.{◌≡◌, ◌==◌, ℕ, List, [], Some, None, All, filter}
 use Rattle.std.specs.List.{enumerate_from}
-use Rattle.syntax_tree.specs.Read.{value_tree}
+use Rattle.proto_tree.specs.Read.{value_tree}
 use Rattle.import_graph.specs.Closures.{view_of}
 use Rattle.import_graph.specs.Imports.{graph_of}
 use Rattle.proto_resolve.specs.declared.site.NameSite.{NameSite}

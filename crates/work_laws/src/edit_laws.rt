@@ -5,8 +5,9 @@ use doc_text::{changes_keep_utf8, round_trips};
 use lsp_queries::{identifier_form_law, places_apart};
 use proto_laws::{identifiers_law, size_law};
 
-/// A law: changes of a UTF-8 text that give a name to each of some places, the last one made first, put the name there and keep
-/// all the rest, if no two of the places touch, and each starts and ends between two characters and not inside a line end.
+/// A law: changes of a UTF-8 text that give a name to each of some places, the last one made first, put it there and keep all the
+/// rest, if no two of the places touch and each can be cut out. That is one which starts and ends between two characters and not
+/// inside a line end.
 pub fn edits_change_the_places()
     ensures places { EditsChangeThePlaces }
     ensures edits { ChangesEdit }
@@ -15,8 +16,7 @@ pub fn edits_change_the_places()
     changes_keep_utf8();
 }
 
-/// A law: in a workspace of UTF-8 texts the changes of a rename put the new name at each of its places in a file and keep all the
-/// rest of the file's text.
+/// A law: in UTF-8 texts the changes of a rename put the new name at each of its places in a file and keep all the rest.
 pub fn renames_change_the_names()
     ensures { RenamesChangeTheNames }
 {

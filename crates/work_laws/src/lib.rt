@@ -1,4 +1,4 @@
-//! Laws of whole workspaces and of the edits of a rename, each a function that does nothing and whose contract is the law.
+//! Laws of whole workspaces and of the edits of a rename.
 //!
 //! `uses_of_names`: which uses the names of the files of a workspace have.
 //! `edits_change_the_places`: changes that give a new text to places that don't touch change these places and nothing else.

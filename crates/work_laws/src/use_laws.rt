@@ -6,8 +6,8 @@ ghost use Rattle.work_index.specs.Workspace.{Workspace};
 use proto_laws::{names_are_identifiers, names_nest};
 use proto_resolve::uses_law;
 
-/// A law: a name in a file of a workspace of UTF-8 texts has no uses where it means nothing, and where it means something it
-/// has one for each of its components, in order, of what is found at the full name up to that component.
+/// A law: in UTF-8 texts a name that means nothing has no uses, and one that means something has one for each of its components, in
+/// order, of what is found at the full name up to that component.
 pub fn uses_of_names()
     ensures { (w : Workspace) → All (λ file. IsUtf8 file.1) w → NamesHaveTheirUses w }
 {

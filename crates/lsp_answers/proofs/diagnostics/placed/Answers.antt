@@ -1,6 +1,6 @@
 use Rattle.std.proofs.Common.{map, ap, ◌∙◌}
 use Rattle.std.proofs.lemmas.Simd.{map-map}
-use Rattle.file_facts.specs.declared.diagnostic.Diag.{Diag}
+use Rattle.proto_decls.specs.declared.diagnostic.Diag.{Diag}
 use Rattle.lsp_answers.specs.Ranges.{range_at}
 use Rattle.lsp_answers.proofs.diagnostics.placed.Goals as goal
 

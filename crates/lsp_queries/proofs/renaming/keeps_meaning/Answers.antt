@@ -1,12 +1,16 @@
-use Rattle.lsp_queries.proofs.AfterEdits.{IsAnalysed, as_found, kept}
+use Rattle.std.proofs.Common.{◌↔◌, subst}
+use Rattle.std.specs.Prelude.{IfOk, IsTrue}
+use Rattle.work_index.specs.Bindings.{SameMeaning}
+use Rattle.work_index.specs.Workspace.{AnalysisData}
+use Rattle.lsp_queries.proofs.AfterEdits.{analysed-after}
 use Rattle.lsp_queries.proofs.WithTexts.{edits-there}
 use Rattle.lsp_queries.proofs.renaming.keeps_meaning.Goals as goal
 
-pub analyse_edited-requires : goal.analyse_edited-requires
-analyse_edited-requires c = edits-there c.args.analysis.now c.args.new_name.now c.args.places.now c.in_ok-edits.edits.items c.requires c.in_ok-edits.ensures
+pub edits_keep_meaning-requires : goal.edits_keep_meaning-requires
+edits_keep_meaning-requires c = edits-there c.args.analysis.now c.args.new_name.now c.args.places.now c.in_ok-edits.edits.items c.requires c.in_ok-edits.ensures
 
 pub returns : goal.returns
 returns c =
-    let is : IsAnalysed c.args.analysis.now c.in_ok-after.after c.args.places.now c.args.new_name.now c.in_ok-edits.edits.items =
-    record { cut = c.requires; made = c.in_ok-edits.ensures; analysed = c.in_ok-after.ensures } in
-    (λ same. kept _ _ _ _ _ is (c.same_meaning.ensures.0 same), λ keeps. c.same_meaning.ensures.1 (as_found _ _ _ _ _ is keeps))
+    let a = c.args.analysis.now in
+    subst (λ (after : AnalysisData). IfOk c.edits_keep_meaning.result (λ keep. IsTrue keep ↔ SameMeaning a after))
+    (analysed-after a c.args.places.now c.args.new_name.now c.in_ok-edits.edits.items c.requires c.in_ok-edits.ensures) c.edits_keep_meaning.ensures

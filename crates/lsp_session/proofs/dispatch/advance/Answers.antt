@@ -1,5 +1,5 @@
 use Rattle.std.proofs.Common.{◌≡◌, Err, sym, ap, ◌∙◌}
-use Rattle.lsp_config.specs.declared.fault.ServeFault.TheVariants as served
+use Rattle.work_config.specs.declared.fault.ServeFault.TheVariants as served
 use Rattle.lsp_session.proofs.FaultLemmas.{of_served}
 use Rattle.lsp_session.proofs.dispatch.advance.Goals as goal
 

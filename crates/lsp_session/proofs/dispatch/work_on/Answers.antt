@@ -1,6 +1,6 @@
-use Rattle.std.proofs.Common.{length, subst, ◌∙◌}
-use Rattle.lsp_workspace.proofs.FirstEvents.{refused_with}
-use Rattle.lsp_config.specs.declared.fault.ServeFault.TheVariants as served
+use Rattle.std.proofs.Common.{◌<◌, length, subst, sym, ◌∙◌}
+use Rattle.work_files.proofs.FirstEvents.{refused_with}
+use Rattle.work_config.specs.declared.fault.ServeFault.TheVariants as served
 use Rattle.lsp_session.specs.Core.{ExhaustsStamps}
 use Rattle.lsp_session.proofs.FaultLemmas.{not_of_workers}
 use Rattle.lsp_session.specs.View.{core_state}
@@ -35,3 +35,6 @@ returns-clause-stamps g c = λ free out config bodies body w.
     let still = awaits-on config old handed bodies body w (c.in_ok-hand_out.ensures.works 0 config) in
     let now = awaits-on config handed took bodies body still (c.in_ok-take_result.ensures.works 0 config) in
     subst (λ bs. ExhaustsStamps 0 config (length bs)) now.came (c.advance.ensures.stamps (c.take_result.ensures.fault ∙ c.hand_out.ensures.fault ∙ free) out 0 config now.history now.is_after)
+
+pub take_result-requires : goal.take_result-requires
+take_result-requires g c = subst (λ n. 0 < n) (sym c.hand_out.ensures.waits) c.requires

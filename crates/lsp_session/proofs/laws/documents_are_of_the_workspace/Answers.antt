@@ -1,5 +1,5 @@
-use Rattle.lsp_workspace.proofs.PathOrder.{order-apart}
-use Rattle.lsp_workspace.proofs.WorkspaceLemmas.{text_of_workspace}
+use Rattle.work_files.proofs.PathOrder.{order-apart}
+use Rattle.work_files.proofs.WorkspaceLemmas.{text_of_workspace}
 use Rattle.lsp_session.specs.Session.{session}
 use Rattle.lsp_session.proofs.FilesLemmas.{session-order}
 use Rattle.lsp_session.proofs.laws.documents_are_of_the_workspace.Goals as goal

@@ -1,6 +1,6 @@
 use Rattle.std.proofs.Common.{Err, ap}
-use Rattle.lsp_config.specs.declared.fault.CoreFault.TheVariants as core
-use Rattle.lsp_workspace.proofs.FirstEvents.{refused_with}
+use Rattle.work_config.specs.declared.fault.CoreFault.TheVariants as core
+use Rattle.work_files.proofs.FirstEvents.{refused_with}
 use Rattle.std.specs.Option.{option_to_list}
 use Rattle.lsp_session.specs.Run.{incoming_of}
 use Rattle.lsp_session.specs.View.{core_state}

@@ -1,5 +1,5 @@
-use Rattle.lsp_config.specs.declared.fault.CoreFault.TheVariants as core
-use Rattle.lsp_workspace.proofs.FirstEvents.{refused_with}
+use Rattle.work_config.specs.declared.fault.CoreFault.TheVariants as core
+use Rattle.work_files.proofs.FirstEvents.{refused_with}
 use Rattle.std.proofs.Common.{rules, ◌≡◌, ◌-◌, ◌++◌, ◌∷◌, [], length, filter, map, Err, sym, ap, subst, ◌∙◌, arith, append_assoc, append-nil}
 use Rattle.std.proofs.lemmas.List.{map-append, nil_from_length}
 use Rattle.std.specs.Vec.Iter.{into_iter_items}

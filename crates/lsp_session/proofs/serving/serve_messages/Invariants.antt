@@ -1,7 +1,7 @@
 use Rattle.std.proofs.Common.{◌≡◌, false, [], None}
 use Rattle.lsp_frame.specs.Counts.{NoneFell, NoError}
 use Rattle.lsp_frame.specs.FrameReader.{source_of, IsOpen}
-use Rattle.lsp_config.specs.Configuration.{Configuration}
+use Rattle.work_config.specs.Configuration.{Configuration}
 use Rattle.lsp_session.specs.Serving.{Serving}
 use Rattle.lsp_session.specs.Steps.{Knows}
 use Rattle.lsp_session.specs.Stream.{is_exited}

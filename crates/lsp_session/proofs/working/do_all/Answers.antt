@@ -1,6 +1,6 @@
 use Rattle.std.proofs.Common.{◌≡◌, ◌+◌, suc, sym, ap, subst, ◌∙◌, arith}
 use Rattle.lsp_session.specs.Core.{IsAfter}
-use Rattle.lsp_session.specs.Steps.{with_rounds}
+use Rattle.lsp_session.specs.Run.{with_rounds}
 use Rattle.lsp_session.specs.View.{core_state}
 use Rattle.lsp_session.proofs.CoreLemmas.{rounds-more, worked-none, worked-all}
 use Rattle.lsp_session.proofs.working.do_all.Goals as goal

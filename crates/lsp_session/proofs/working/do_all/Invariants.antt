@@ -1,6 +1,6 @@
 use Rattle.std.proofs.Common.{◌≡◌, None}
 use Rattle.lsp_session.specs.Core.{IsAfter, WhateverCame}
-use Rattle.lsp_session.specs.Steps.{with_rounds}
+use Rattle.lsp_session.specs.Run.{with_rounds}
 use Rattle.lsp_session.specs.View.{core_state, last_fault}
 use Rattle.lsp_session.proofs.working.do_all.Given as goal
 

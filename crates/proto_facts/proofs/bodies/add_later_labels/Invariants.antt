@@ -1,7 +1,7 @@
 use Rattle.std.proofs.Common.{◌≡◌, ◌++◌, drop}
 use Rattle.std.specs.List.{flat_map}
-use Rattle.file_facts.specs.Checks.{label_diags}
-use Rattle.file_facts.specs.Members.{later_labels}
+use Rattle.proto_decls.specs.Checks.{label_diags}
+use Rattle.proto_decls.specs.Members.{later_labels}
 use Rattle.proto_facts.proofs.bodies.add_later_labels.Given as goal
 
 abbrev pub invariant-items : goal.invariant-items

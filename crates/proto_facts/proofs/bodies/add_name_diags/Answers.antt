@@ -1,6 +1,6 @@
 use Rattle.std.proofs.Common.{◌≡◌, ◌++◌, [], refl, sym, ap, ◌∙◌, append-nil}
-use Rattle.file_facts.specs.Checks.{name_diags}
-use Rattle.file_facts.specs.Members.{names}
+use Rattle.proto_decls.specs.Checks.{name_diags}
+use Rattle.proto_decls.specs.Members.{names}
 use Rattle.proto_facts.proofs.Places.{no_names}
 use Rattle.proto_facts.proofs.bodies.add_name_diags.Goals as goal
 

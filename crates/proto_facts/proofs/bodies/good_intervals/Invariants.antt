@@ -1,6 +1,6 @@
 use Rattle.std.proofs.Common.{◌≡◌, ◌++◌, drop}
 use Rattle.std.specs.Prelude.{filter}
-use Rattle.file_facts.specs.Checks.{runs_forwards}
+use Rattle.proto_decls.specs.Checks.{runs_forwards}
 use Rattle.proto_facts.proofs.bodies.good_intervals.Given as goal
 
 -- what is there and what is left are all

@@ -1,6 +1,6 @@
 use Rattle.std.proofs.Common.{◌≡◌, ◌++◌, drop}
 use Rattle.std.specs.List.{filter_map}
-use Rattle.file_facts.specs.Checks.{backwards}
+use Rattle.proto_decls.specs.Checks.{backwards}
 use Rattle.proto_facts.proofs.checks.add_backwards.Given as goal
 
 abbrev pub invariant-intervals : goal.invariant-intervals

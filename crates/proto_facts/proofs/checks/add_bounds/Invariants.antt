@@ -1,5 +1,5 @@
 use Rattle.std.proofs.Common.{◌≡◌, ◌++◌, drop}
-use Rattle.file_facts.specs.Checks.{bound_diags}
+use Rattle.proto_decls.specs.Checks.{bound_diags}
 use Rattle.proto_facts.proofs.checks.add_bounds.Given as goal
 
 abbrev pub invariant-items : goal.invariant-items

@@ -1,7 +1,7 @@
 use Rattle.std.proofs.Common.{◌≡◌, ◌++◌, drop}
 use Rattle.std.specs.List.{filter_map, flat_map}
-use Rattle.file_facts.specs.Checks.{bound_out_of_range}
-use Rattle.file_facts.specs.Members.{bounds}
+use Rattle.proto_decls.specs.Checks.{bound_out_of_range}
+use Rattle.proto_decls.specs.Members.{bounds}
 use Rattle.proto_facts.proofs.checks.add_bounds_of.Given as goal
 
 abbrev pub invariant-each : goal.invariant-each

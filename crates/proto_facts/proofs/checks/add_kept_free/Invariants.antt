@@ -1,6 +1,6 @@
 use Rattle.std.proofs.Common.{◌≡◌, ◌++◌, drop}
 use Rattle.std.specs.List.{filter_map}
-use Rattle.file_facts.specs.Checks.{kept_free}
+use Rattle.proto_decls.specs.Checks.{kept_free}
 use Rattle.proto_facts.proofs.checks.add_kept_free.Given as goal
 
 abbrev pub invariant-members : goal.invariant-members

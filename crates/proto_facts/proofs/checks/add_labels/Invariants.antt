@@ -1,5 +1,5 @@
 use Rattle.std.proofs.Common.{◌≡◌, ◌++◌, drop}
-use Rattle.file_facts.specs.Checks.{label_diags}
+use Rattle.proto_decls.specs.Checks.{label_diags}
 use Rattle.proto_facts.proofs.checks.add_labels.Given as goal
 
 abbrev pub invariant-labels : goal.invariant-labels

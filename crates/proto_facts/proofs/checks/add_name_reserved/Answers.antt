@@ -1,4 +1,4 @@
-use Rattle.file_facts.specs.Checks.{name_reserved}
+use Rattle.proto_decls.specs.Checks.{name_reserved}
 use Rattle.proto_facts.proofs.Places.{filter_map-next}
 use Rattle.proto_facts.proofs.checks.add_name_reserved.Goals as goal
 

@@ -1,7 +1,7 @@
 use Rattle.std.proofs.Common.{◌≡◌, ◌++◌, List, drop}
 use Rattle.std.specs.List.{filter_map}
-use Rattle.file_facts.specs.declared.part.ReservedName.{ReservedName}
-use Rattle.file_facts.specs.Checks.{name_reserved}
+use Rattle.proto_decls.specs.declared.part.ReservedName.{ReservedName}
+use Rattle.proto_decls.specs.Checks.{name_reserved}
 use Rattle.proto_facts.specs.Seen.{AreNames}
 use Rattle.proto_facts.proofs.checks.add_name_reserved.Given as goal
 

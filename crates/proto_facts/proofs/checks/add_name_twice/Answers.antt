@@ -2,9 +2,9 @@ use Rattle.std.proofs.Common.{◌≡◌, ap, ◌∙◌, take, get_or, ◌||◌}
 use Rattle.std.specs.Str.{bytes_eq}
 use Rattle.std.specs.BTreeSet.{contains_text}
 use Rattle.std.specs.List.{list_any}
-use Rattle.file_facts.specs.Checks.{name_twice, diag_if}
-use Rattle.file_facts.specs.declared.problem.Problem.TheVariants as m
-use Rattle.file_facts.specs.declared.part.ReservedName.{ReservedName}
+use Rattle.proto_decls.specs.Checks.{name_twice, diag_if}
+use Rattle.proto_decls.specs.declared.problem.Problem.TheVariants as m
+use Rattle.proto_decls.specs.declared.part.ReservedName.{ReservedName}
 use Rattle.proto_facts.proofs.Places.{diags-next, judged-end, any-next}
 use Rattle.proto_facts.proofs.checks.add_name_twice.Goals as goal
 

@@ -1,6 +1,6 @@
 use Rattle.std.proofs.Common.{◌≡◌, ◌++◌, drop, take}
 use Rattle.std.specs.List.{filter_map, enumerate_from}
-use Rattle.file_facts.specs.Checks.{judged, judged_at, name_twice}
+use Rattle.proto_decls.specs.Checks.{judged, judged_at, name_twice}
 use Rattle.proto_facts.specs.Seen.{AreNames}
 use Rattle.proto_facts.proofs.checks.add_name_twice.Given as goal
 

@@ -1,5 +1,5 @@
 use Rattle.std.proofs.Common.{ap, ◌∙◌, take, get_or}
-use Rattle.file_facts.specs.Checks.{number_used, is_value, diag_if, used_twice}
+use Rattle.proto_decls.specs.Checks.{number_used, is_value, diag_if, used_twice}
 use Rattle.proto_facts.proofs.Places.{no_member, diags-next, judged-end, any-next, has-is}
 use Rattle.proto_facts.proofs.checks.add_number_used.Goals as goal
 

@@ -2,7 +2,7 @@ use Rattle.std.proofs.Common.{◌≡◌, ◌++◌, ℕ, drop, take}
 use Rattle.std.specs.BTreeSet.{contains}
 use Rattle.std.specs.List.{filter_map, enumerate_from, list_any}
 use Rattle.std.specs.Ordering.{nat_cmp}
-use Rattle.file_facts.specs.Checks.{judged, judged_at, number_used, is_value}
+use Rattle.proto_decls.specs.Checks.{judged, judged_at, number_used, is_value}
 use Rattle.proto_facts.proofs.checks.add_number_used.Given as goal
 
 abbrev pub invariant-members : goal.invariant-members

@@ -1,6 +1,6 @@
 use Rattle.std.proofs.Common.{◌≡◌, ◌++◌, drop}
 use Rattle.std.specs.List.{filter_map}
-use Rattle.file_facts.specs.Checks.{member_out_of_range}
+use Rattle.proto_decls.specs.Checks.{member_out_of_range}
 use Rattle.proto_facts.proofs.checks.add_out_of_range.Given as goal
 
 abbrev pub invariant-members : goal.invariant-members

@@ -1,5 +1,5 @@
 use Rattle.std.proofs.Common.{◌≤◌, [], false, None, refl, sym, ap, ◌||◌, take, get_or, arith}
-use Rattle.file_facts.specs.Checks.{number_used, is_value, diag_if, used_twice}
+use Rattle.proto_decls.specs.Checks.{number_used, is_value, diag_if, used_twice}
 use Rattle.proto_facts.specs.Seen.{Rises}
 use Rattle.proto_facts.proofs.Places.{no_member, any-next, diags-next, judged-end}
 use Rattle.proto_facts.proofs.checks.ascend.Goals as goal

@@ -1,8 +1,8 @@
 use Rattle.std.proofs.Common.{◌≡◌, drop, take}
 use Rattle.std.specs.List.{filter_map, enumerate_from}
-use Rattle.file_facts.specs.Checks.{judged, judged_at, number_used}
+use Rattle.proto_decls.specs.Checks.{judged, judged_at, number_used}
 use Rattle.proto_facts.specs.Seen.{AreBelow}
-use Rattle.file_facts.specs.declared.part.Numbering.{Numbering}
+use Rattle.proto_decls.specs.declared.part.Numbering.{Numbering}
 use Rattle.proto_facts.proofs.checks.ascend.Given as goal
 
 -- up to here no number is there twice

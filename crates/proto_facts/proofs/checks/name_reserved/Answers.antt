@@ -1,8 +1,8 @@
 use Rattle.std.proofs.Common.{ap, ◌∙◌}
-use Rattle.file_facts.specs.Checks.{diag_if}
+use Rattle.proto_decls.specs.Checks.{diag_if}
 use Rattle.std.specs.List.{list_any}
 use Rattle.std.specs.Str.{bytes_eq}
-use Rattle.file_facts.specs.declared.problem.Problem.TheVariants as m
+use Rattle.proto_decls.specs.declared.problem.Problem.TheVariants as m
 use Rattle.proto_facts.proofs.checks.name_reserved.Goals as goal
 
 pub returns : goal.returns

@@ -1,7 +1,7 @@
 use Rattle.std.proofs.Common.{◌≡◌, ◌||◌, ℕ, drop}
 use Rattle.std.specs.Prelude.{nat_lt}
 use Rattle.std.specs.List.{list_any, filter_map}
-use Rattle.file_facts.specs.Facts.{bad_start}
+use Rattle.proto_decls.specs.Facts.{bad_start}
 use Rattle.proto_facts.proofs.file.earliest_bad.Given as goal
 
 abbrev pub invariant-faults : goal.invariant-faults

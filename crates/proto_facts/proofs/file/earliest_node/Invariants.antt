@@ -1,8 +1,8 @@
 use Rattle.std.proofs.Common.{◌≡◌, ◌<◌, ◌^◌, ℕ, take, map}
 use Rattle.std.specs.Prelude.{nat_lt}
 use Rattle.std.specs.List.{list_any}
-use Rattle.syntax_tree.specs.declared.node.Node.{out-Node}
-use Rattle.file_facts.specs.Starts.{start_of}
+use Rattle.proto_tree.specs.declared.node.Node.{out-Node}
+use Rattle.proto_decls.specs.Starts.{start_of}
 use Rattle.proto_facts.proofs.file.earliest_node.Given as goal
 
 abbrev pub invariant-nodes : goal.invariant-nodes

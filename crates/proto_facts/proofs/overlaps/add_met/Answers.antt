@@ -1,7 +1,7 @@
 use Rattle.std.proofs.Common.{◌≡◌, ◌∙◌, [], ap, false, get_or, take, length, arith}
 use Rattle.std.specs.List.{list_any}
-use Rattle.file_facts.specs.Checks.{diag_if, overlap, range_twice}
-use Rattle.file_facts.specs.declared.problem.Problem.TheVariants as m
+use Rattle.proto_decls.specs.Checks.{diag_if, overlap, range_twice}
+use Rattle.proto_decls.specs.declared.problem.Problem.TheVariants as m
 use Rattle.proto_facts.proofs.OverlapLemmas.{no_interval, length-met, met-at}
 use Rattle.proto_facts.proofs.Places.{diags-next, judged-end}
 use Rattle.proto_facts.proofs.overlaps.add_met.Goals as goal

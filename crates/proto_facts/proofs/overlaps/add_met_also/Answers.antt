@@ -1,7 +1,7 @@
 use Rattle.std.proofs.Common.{◌≡◌, ◌∙◌, ◌||◌, ap, false, get_or}
 use Rattle.std.specs.List.{list_any}
 use Rattle.proto_facts.specs.Reach.{between}
-use Rattle.file_facts.specs.Checks.{overlap}
+use Rattle.proto_decls.specs.Checks.{overlap}
 use Rattle.proto_facts.proofs.OverlapLemmas.{no_interval, also-more, also-end}
 use Rattle.proto_facts.proofs.overlaps.add_met_also.Goals as goal
 

@@ -1,4 +1,4 @@
-use Rattle.file_facts.specs.Checks.{range_twice}
+use Rattle.proto_decls.specs.Checks.{range_twice}
 use Rattle.proto_facts.proofs.OverlapLemmas.{no_interval}
 use Rattle.proto_facts.proofs.Places.{diags-next, judged-end}
 use Rattle.proto_facts.proofs.overlaps.add_overlaps.Goals as goal

@@ -1,6 +1,6 @@
 use Rattle.std.proofs.Common.{◌≡◌, ◌++◌, drop}
 use Rattle.std.specs.List.{filter_map, enumerate_from}
-use Rattle.file_facts.specs.Checks.{judged, judged_at, range_twice}
+use Rattle.proto_decls.specs.Checks.{judged, judged_at, range_twice}
 use Rattle.proto_facts.proofs.overlaps.add_overlaps.Given as goal
 
 abbrev pub invariant-good : goal.invariant-good

@@ -1,6 +1,6 @@
 use Rattle.std.proofs.Common.{◌++◌, sym, ap, ◌∙◌, append-nil, get_or}
-use Rattle.file_facts.specs.Checks.{diag_if, range_twice}
-use Rattle.file_facts.specs.declared.problem.Problem.TheVariants as m
+use Rattle.proto_decls.specs.Checks.{diag_if, range_twice}
+use Rattle.proto_decls.specs.declared.problem.Problem.TheVariants as m
 use Rattle.proto_facts.proofs.ReachLemmas.{none-overlap}
 use Rattle.proto_facts.proofs.TwiceLemmas.{judged-none}
 use Rattle.proto_facts.proofs.overlaps.add_range_twice.Goals as goal

@@ -1,7 +1,7 @@
 use Rattle.std.proofs.Common.{◌≡◌, ap, ◌∙◌, get_or}
 use Rattle.proto_facts.specs.Reach.{is_held}
-use Rattle.file_facts.specs.Checks.{number_reserved, diag_if}
-use Rattle.file_facts.specs.declared.problem.Problem.TheVariants as m
+use Rattle.proto_decls.specs.Checks.{number_reserved, diag_if}
+use Rattle.proto_decls.specs.declared.problem.Problem.TheVariants as m
 use Rattle.proto_facts.proofs.Places.{no_member, filter_map-next}
 use Rattle.proto_facts.proofs.ReachLemmas.{held-is}
 use Rattle.proto_facts.proofs.reach.add_number_held.Goals as goal

@@ -1,6 +1,6 @@
 use Rattle.std.proofs.Common.{◌≡◌, ◌++◌, drop}
 use Rattle.std.specs.List.{filter_map}
-use Rattle.file_facts.specs.Checks.{number_reserved}
+use Rattle.proto_decls.specs.Checks.{number_reserved}
 use Rattle.proto_facts.proofs.reach.add_number_in.Given as goal
 
 abbrev pub invariant-asked : goal.invariant-asked

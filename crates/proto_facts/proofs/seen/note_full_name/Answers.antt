@@ -4,7 +4,7 @@ use Rattle.std.specs.Cmp.{both_tied}
 use Rattle.std.specs.Cmp.Lexicographic.{slice_cmp}
 use Rattle.std.specs.Ordering.{is_eq, eq_by_cmp, nat_cmp, ordering_then}
 use Rattle.std.proofs.lemmas.Map.Text.{is_eq-slice_cmp}
-use Rattle.file_facts.specs.FullNames.{hash_of, last_of, scope_of}
+use Rattle.proto_decls.specs.FullNames.{hash_of, last_of, scope_of}
 use Rattle.proto_facts.specs.Seen.{has_full_name}
 use Rattle.proto_facts.proofs.Places.{or-is}
 use Rattle.proto_facts.proofs.TwiceLemmas.{same_hashed}

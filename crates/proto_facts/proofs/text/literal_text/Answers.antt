@@ -1,6 +1,6 @@
 use Rattle.std.proofs.Common.{◌≡◌, ◌∙◌, sym, List, [], drop, append-nil, string_bytes, refl}
 use Rattle.std.proofs.lemmas.List.{drop_all}
-use Rattle.syntax_tree.specs.declared.node.Span.{Span}
+use Rattle.proto_tree.specs.declared.node.Span.{Span}
 use Rattle.proto_facts.proofs.text.literal_text.Goals as goal
 
 pub returns : goal.returns

@@ -2,10 +2,10 @@ use Rattle.std.proofs.Common.{◌≡◌, ap, ◌∙◌, take, get_or, ◌||◌}
 use Rattle.std.specs.Str.{bytes_eq}
 use Rattle.std.specs.List.{list_any}
 use Rattle.proto_facts.specs.Seen.{has_full_name}
-use Rattle.file_facts.specs.Checks.{diag_if}
-use Rattle.file_facts.specs.Facts.{declared_twice}
-use Rattle.file_facts.specs.declared.problem.Problem.TheVariants as m
-use Rattle.file_facts.specs.declared.fact.Decl.{Decl}
+use Rattle.proto_decls.specs.Checks.{diag_if}
+use Rattle.proto_decls.specs.Facts.{declared_twice}
+use Rattle.proto_decls.specs.declared.problem.Problem.TheVariants as m
+use Rattle.proto_decls.specs.declared.fact.Decl.{Decl}
 use Rattle.proto_facts.proofs.Places.{diags-next, judged-end, any-next}
 use Rattle.proto_facts.proofs.twice.add_declared_again.Goals as goal
 

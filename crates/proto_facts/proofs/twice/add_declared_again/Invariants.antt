@@ -2,8 +2,8 @@ use Rattle.std.proofs.Common.{◌≡◌, ◌++◌, ℕ, List, drop, take}
 use Rattle.std.specs.List.{filter_map, enumerate_from, list_any}
 use Rattle.std.specs.Str.{bytes_eq}
 use Rattle.proto_facts.specs.Seen.{has_full_name}
-use Rattle.file_facts.specs.Checks.{judged, judged_at}
-use Rattle.file_facts.specs.Facts.{declared_twice}
+use Rattle.proto_decls.specs.Checks.{judged, judged_at}
+use Rattle.proto_decls.specs.Facts.{declared_twice}
 use Rattle.proto_facts.proofs.twice.add_declared_again.Given as goal
 
 abbrev pub invariant-names : goal.invariant-names

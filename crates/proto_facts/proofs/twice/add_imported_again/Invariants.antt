@@ -2,8 +2,8 @@ use Rattle.std.proofs.Common.{◌≡◌, ◌++◌, ℕ, List, drop, take}
 use Rattle.std.specs.List.{filter_map, enumerate_from, list_any}
 use Rattle.std.specs.Str.{bytes_eq}
 use Rattle.proto_facts.specs.Seen.{has_name}
-use Rattle.file_facts.specs.Checks.{judged, judged_at}
-use Rattle.file_facts.specs.Facts.{imported_twice}
+use Rattle.proto_decls.specs.Checks.{judged, judged_at}
+use Rattle.proto_decls.specs.Facts.{imported_twice}
 use Rattle.proto_facts.proofs.twice.add_imported_again.Given as goal
 
 abbrev pub invariant-names : goal.invariant-names

@@ -1,8 +1,8 @@
 use Rattle.std.proofs.Common.{◌++◌, sym, ap, ◌∙◌, subst, append-nil}
-use Rattle.file_facts.specs.Checks.{diag_if}
-use Rattle.file_facts.specs.Facts.{imported_twice}
-use Rattle.file_facts.specs.declared.problem.Problem.TheVariants as m
-use Rattle.file_facts.specs.declared.fact.ImportFact.{ImportFact}
+use Rattle.proto_decls.specs.Checks.{diag_if}
+use Rattle.proto_decls.specs.Facts.{imported_twice}
+use Rattle.proto_decls.specs.declared.problem.Problem.TheVariants as m
+use Rattle.proto_decls.specs.declared.fact.ImportFact.{ImportFact}
 use Rattle.proto_facts.specs.Twice.{AreDistinct}
 use Rattle.proto_facts.proofs.TwiceLemmas.{none-twice}
 use Rattle.proto_facts.proofs.twice.add_imported_twice.Goals as goal

@@ -1,4 +1,4 @@
-use Rattle.file_facts.specs.Checks.{statement_diags}
+use Rattle.proto_decls.specs.Checks.{statement_diags}
 use Rattle.proto_facts.proofs.TreeLemmas.{diags-next}
 use Rattle.proto_facts.proofs.walk.+statements.Goals as goal
 

@@ -1,7 +1,7 @@
 use Rattle.std.proofs.Common.{◌≡◌, ◌++◌, drop}
 use Rattle.std.specs.List.{flat_map}
-use Rattle.file_facts.specs.Checks.{statement_diags}
-use Rattle.file_facts.specs.Tree.{all_statements}
+use Rattle.proto_decls.specs.Checks.{statement_diags}
+use Rattle.proto_decls.specs.Tree.{all_statements}
 use Rattle.proto_facts.proofs.walk.+statements.Given as goal
 
 abbrev pub invariant-add_all_diags-nodes : goal.invariant-add_all_diags-nodes

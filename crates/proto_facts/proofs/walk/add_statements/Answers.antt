@@ -1,4 +1,4 @@
-use Rattle.file_facts.specs.Checks.{statement_diags}
+use Rattle.proto_decls.specs.Checks.{statement_diags}
 use Rattle.proto_facts.proofs.TreeLemmas.{decls-next, diags-next}
 use Rattle.proto_facts.proofs.walk.add_statements.Goals as goal
 

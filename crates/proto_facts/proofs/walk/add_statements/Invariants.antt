@@ -1,9 +1,9 @@
 use Rattle.std.proofs.Common.{◌≡◌, ◌++◌, drop, length, None}
 use Rattle.std.specs.List.{flat_map}
-use Rattle.file_facts.specs.Checks.{statement_diags}
-use Rattle.file_facts.specs.Decls.{decls_in}
-use Rattle.file_facts.specs.declared.fact.DeclKind.TheVariants as kind
-use Rattle.file_facts.specs.Tree.{all_statements}
+use Rattle.proto_decls.specs.Checks.{statement_diags}
+use Rattle.proto_decls.specs.Decls.{decls_in}
+use Rattle.proto_decls.specs.declared.fact.DeclKind.TheVariants as kind
+use Rattle.proto_decls.specs.Tree.{all_statements}
 use Rattle.proto_facts.proofs.walk.add_statements.Given as goal
 
 -- what is found and what is left are all

@@ -1,4 +1,4 @@
-use Rattle.file_facts.proofs.DiagOrder.{in_order-is_list, only_list}
+use Rattle.proto_decls.proofs.DiagOrder.{in_order-is_list, only_list}
 use Rattle.proto_laws.proofs.fact_laws.one_list_in_order.Goals as goal
 
 pub returns-clause-list : goal.returns-clause-list

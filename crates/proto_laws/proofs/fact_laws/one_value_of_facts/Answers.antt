@@ -1,4 +1,4 @@
-use Rattle.file_facts.specs.Facts.{opaque, stated}
+use Rattle.proto_decls.specs.Facts.{opaque, stated}
 use Rattle.proto_laws.proofs.FactsLaws.{facts-are, only_facts}
 use Rattle.proto_laws.proofs.fact_laws.one_value_of_facts.Goals as goal
 

@@ -1,5 +1,5 @@
 use Rattle.proto_lex.specs.Tokens.{byte_order_mark_len, tokens}
-use Rattle.syntax_tree.specs.Read.{read}
+use Rattle.proto_tree.specs.Read.{read}
 use Rattle.proto_laws.proofs.NameOrder.{components-rise, type_names-rise}
 use Rattle.proto_laws.proofs.tree_laws.type_names_law.Goals as goal
 

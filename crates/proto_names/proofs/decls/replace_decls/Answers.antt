@@ -1,7 +1,7 @@
 use Rattle.std.proofs.Common.{◌≡◌, ◌∙◌, ◌-◌, ap, sym, length}
 use Rattle.std.specs.List.{splice}
 use Rattle.std.proofs.lemmas.Result.{on_ok_weaker}
-use Rattle.file_facts.specs.declared.fact.FileFacts.{FileFacts}
+use Rattle.proto_decls.specs.declared.fact.FileFacts.{FileFacts}
 use Rattle.proto_names.specs.Files.{decls_at}
 use Rattle.proto_names.proofs.ChangedDecls.{as_many, decls_are, ends_behind, ends_within, others_come, EndsAt, StartsAt}
 use Rattle.proto_names.proofs.decls.replace_decls.Goals as goal

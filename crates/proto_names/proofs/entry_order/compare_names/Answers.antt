@@ -1,8 +1,9 @@
 use Rattle.std.proofs.Common.{◌∙◌, sym, ap, ap₂}
 use Rattle.std.specs.Cmp.Lexicographic.{slice_cmp}
 use Rattle.std.specs.Ordering.{nat_cmp, ordering_then}
-use Rattle.file_facts.proofs.ApartNames.{decided}
-use Rattle.proto_names.specs.Tables.{by_place, name_at}
+use Rattle.proto_decls.proofs.ApartNames.{decided}
+use Rattle.proto_names.specs.Files.{name_at}
+use Rattle.proto_names.specs.Tables.{by_place}
 use Rattle.proto_names.proofs.Apart.{whole}
 use Rattle.proto_names.proofs.entry_order.compare_names.Goals as goal
 

@@ -1,7 +1,7 @@
 use Rattle.std.proofs.Common.{◌≡◌, ◌∙◌, ◌==◌, ap, ℕ, List, filter, bytes_eq}
 use Rattle.std.proofs.lemmas.List.{length-map}
-use Rattle.file_facts.specs.FullNames.{hash_of}
-use Rattle.file_facts.specs.Text.{joined}
+use Rattle.proto_decls.specs.FullNames.{hash_of}
+use Rattle.proto_decls.specs.Text.{joined}
 use Rattle.proto_names.specs.declared.decl_ref.DeclRef.{DeclRef}
 use Rattle.proto_names.proofs.Hashes.{names_rise, numbers_rise, of_number_and_name}
 use Rattle.proto_names.proofs.hashed.with_text.Goals as goal

@@ -7,8 +7,8 @@ use Rattle.std.proofs.lemmas.List.Folds.{list_any_at}
 use Rattle.std.proofs.lemmas.List.Sorted.{searchable_from_sorted}
 use Rattle.std.proofs.lemmas.Map.Text.{is_eq-slice_cmp}
 use Rattle.proto_names.specs.declared.decl_ref.DeclRef.{DeclRef}
-use Rattle.proto_names.specs.Tables.{name_at}
-use Rattle.file_facts.specs.FullNames.{scope_of}
+use Rattle.proto_names.specs.Files.{name_at}
+use Rattle.proto_decls.specs.FullNames.{scope_of}
 use Rattle.proto_names.proofs.Fronts.{no_front, not_there}
 use Rattle.proto_names.proofs.holders.bound_of.Goals as goal
 

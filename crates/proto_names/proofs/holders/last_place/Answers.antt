@@ -1,7 +1,8 @@
 use Rattle.std.proofs.Common.{◌≡◌, ◌<◌, ◌≤◌, ◌+◌, ◌-◌, ℕ, false, get_or, length, take, nat_lt, arith, rules}
 use Rattle.std.proofs.lemmas.List.{length-take-le, take-take}
 use Rattle.std.proofs.lemmas.List.Sorted.{IsPartitionPoint-from_clause, IsPartitionedBy-ltb}
-use Rattle.proto_names.specs.Tables.{name_at, stands_in}
+use Rattle.proto_names.specs.Files.{name_at}
+use Rattle.proto_names.specs.Tables.{stands_in}
 use Rattle.proto_names.proofs.Fronts.{front_rises, further, NoneFrom}
 use Rattle.proto_names.proofs.holders.last_place.Goals as goal
 

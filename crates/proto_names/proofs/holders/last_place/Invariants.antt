@@ -1,5 +1,6 @@
 use Rattle.std.proofs.Common.{◌≡◌, ◌≤◌, ◌<◌, ℕ, false, take, length, get_or}
-use Rattle.proto_names.specs.Tables.{name_at, stands_in}
+use Rattle.proto_names.specs.Files.{name_at}
+use Rattle.proto_names.specs.Tables.{stands_in}
 use Rattle.proto_names.proofs.holders.last_place.Given as goal
 
 -- none of the later lengths passes

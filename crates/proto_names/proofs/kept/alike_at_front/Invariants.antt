@@ -1,5 +1,5 @@
 use Rattle.std.proofs.Common.{◌≡◌, ◌≤◌, ◌<◌, ◌-◌, ℕ, length, slice_index_or}
-use Rattle.file_facts.specs.declared.fact.Decl.{Decl}
+use Rattle.proto_decls.specs.declared.fact.Decl.{Decl}
 use Rattle.proto_names.specs.Outlines.{declared}
 use Rattle.proto_names.proofs.kept.alike_at_front.Given as goal
 

@@ -1,5 +1,5 @@
 use Rattle.std.proofs.Common.{◌≡◌, map, take}
-use Rattle.file_facts.specs.FullNames.{hash_of}
+use Rattle.proto_decls.specs.FullNames.{hash_of}
 use Rattle.proto_names.proofs.name_entries.name_hashes.Given as goal
 
 -- those so far

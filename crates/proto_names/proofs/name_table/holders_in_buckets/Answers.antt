@@ -1,4 +1,4 @@
-use Rattle.proto_names.specs.Tables.{name_at}
+use Rattle.proto_names.specs.Files.{name_at}
 use Rattle.proto_names.proofs.ByLast.{scopes_total}
 use Rattle.proto_names.proofs.name_table.holders_in_buckets.Goals as goal
 

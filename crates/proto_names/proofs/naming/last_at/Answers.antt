@@ -1,5 +1,5 @@
 use Rattle.std.proofs.Common.{◌∙◌}
-use Rattle.proto_names.specs.Tables.{name_at}
+use Rattle.proto_names.specs.Files.{name_at}
 use Rattle.proto_names.proofs.Apart.{last_again, no_scope}
 use Rattle.proto_names.proofs.naming.last_at.Goals as goal
 

@@ -1,8 +1,8 @@
 use Rattle.std.proofs.Common.{◌≡◌, ◌∙◌, ◌++◌, List, Option, ap, ap₂, map, subst}
 use Rattle.std.specs.List.Sorted.{IsPermutation}
-use Rattle.file_facts.specs.declared.fact.FileFacts.{FileFacts}
-use Rattle.file_facts.specs.declared.fact.PackageFact.{PackageFact}
-use Rattle.file_facts.specs.declared.named_facts.NamedFacts.{NamedFacts}
+use Rattle.proto_decls.specs.declared.fact.FileFacts.{FileFacts}
+use Rattle.proto_decls.specs.declared.fact.PackageFact.{PackageFact}
+use Rattle.proto_decls.specs.declared.named_facts.NamedFacts.{NamedFacts}
 use Rattle.proto_names.specs.declared.packages.PackagedFile.{PackagedFile}
 use Rattle.proto_names.specs.Files.{facts_at}
 use Rattle.proto_names.specs.Packages.{moved, packaged}

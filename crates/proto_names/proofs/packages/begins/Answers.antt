@@ -1,5 +1,5 @@
 use Rattle.std.proofs.Common.{◌∙◌, sym, ap, ◌&&◌, drop, length}
-use Rattle.file_facts.specs.Text.{joined}
+use Rattle.proto_decls.specs.Text.{joined}
 use Rattle.proto_names.specs.Files.{ends_component}
 use Rattle.proto_names.proofs.packages.begins.Goals as goal
 

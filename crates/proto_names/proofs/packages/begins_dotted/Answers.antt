@@ -1,6 +1,6 @@
 use Rattle.std.proofs.Common.{◌∙◌, [], ◌∷◌}
-use Rattle.file_facts.specs.FullNames.{dot}
-use Rattle.file_facts.specs.Text.{joined}
+use Rattle.proto_decls.specs.FullNames.{dot}
+use Rattle.proto_decls.specs.Text.{joined}
 use Rattle.proto_names.proofs.Prefixes.{goes_on, fails_at_once}
 use Rattle.proto_names.proofs.packages.begins_dotted.Goals as goal
 

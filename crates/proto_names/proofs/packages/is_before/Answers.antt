@@ -2,7 +2,7 @@ use Rattle.std.proofs.Common.{◌≡◌, ◌∙◌, sym, ap, [], ◌∷◌, ◌+
 use Rattle.std.specs.Cmp.Lexicographic.{slice_cmp}
 use Rattle.std.specs.Ordering.{nat_cmp, is_lt, ordering_then}
 use Rattle.std.specs.declared.cmp.Ordering.TheVariants.{Equal}
-use Rattle.file_facts.proofs.ApartNames.{decided}
+use Rattle.proto_decls.proofs.ApartNames.{decided}
 use Rattle.proto_names.proofs.Apart.{dotted, dotted_alone}
 use Rattle.proto_names.proofs.Prefixes.{cmp_short, cmp_long}
 use Rattle.proto_names.proofs.packages.is_before.Goals as goal

@@ -1,5 +1,5 @@
 use Rattle.std.proofs.Common.{arith, [], ◌∷◌}
-use Rattle.file_facts.specs.FullNames.{dot}
+use Rattle.proto_decls.specs.FullNames.{dot}
 use Rattle.proto_names.proofs.Prefixes.{cmp_short, cmp_long}
 use Rattle.proto_names.proofs.packages.is_before_dotted.Goals as goal
 

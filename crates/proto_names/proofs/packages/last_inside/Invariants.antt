@@ -1,5 +1,5 @@
 use Rattle.std.proofs.Common.{◌≡◌, ◌≤◌, ◌<◌, ℕ, false, take, length, get_or}
-use Rattle.file_facts.specs.Text.{joined}
+use Rattle.proto_decls.specs.Text.{joined}
 use Rattle.proto_names.specs.Files.{begins}
 use Rattle.proto_names.proofs.packages.last_inside.Given as goal
 

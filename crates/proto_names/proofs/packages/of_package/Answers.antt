@@ -5,8 +5,8 @@ use Rattle.std.specs.Cmp.Lexicographic.{slice_cmp}
 use Rattle.std.specs.Ordering.{nat_cmp, is_lt}
 use Rattle.std.proofs.lemmas.List.Sorted.{IsPartitionPoint-from_clause}
 use Rattle.proto_names.specs.declared.packages.PackagedFile.{PackagedFile}
-use Rattle.file_facts.specs.FullNames.{dot}
-use Rattle.file_facts.specs.Text.{joined}
+use Rattle.proto_decls.specs.FullNames.{dot}
+use Rattle.proto_decls.specs.Text.{joined}
 use Rattle.proto_names.proofs.PackageFronts.{to_end}
 use Rattle.proto_names.proofs.Prefixes.{parted, begin_first, none_at, none_past, run_is}
 use Rattle.proto_names.proofs.Apart.{both_no_longer}

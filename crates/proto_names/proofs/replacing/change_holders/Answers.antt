@@ -1,6 +1,7 @@
 use Rattle.std.proofs.Common.{◌++◌}
 use Rattle.std.proofs.lemmas.Result.{on_ok_weaker}
-use Rattle.proto_names.specs.Tables.{by_scope, holder_entries, name_at}
+use Rattle.proto_names.specs.Files.{name_at}
+use Rattle.proto_names.specs.Tables.{by_scope, holder_entries}
 use Rattle.proto_names.proofs.ByLast.{scopes_total}
 use Rattle.proto_names.proofs.InBuckets.{buckets_moved}
 use Rattle.proto_names.proofs.Replaced.{holders_stay}

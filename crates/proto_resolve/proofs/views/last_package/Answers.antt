@@ -1,7 +1,7 @@
 use Rattle.std.proofs.Common.{ap, take}
 use Rattle.std.specs.List.{list_any}
 use Rattle.std.proofs.lemmas.List.{take_all}
-use Rattle.file_facts.specs.Text.{joined}
+use Rattle.proto_decls.specs.Text.{joined}
 use Rattle.proto_names.specs.Files.{has_package}
 use Rattle.proto_names.proofs.PackageFronts.{past_same}
 use Rattle.proto_resolve.proofs.views.last_package.Goals as goal

@@ -1,6 +1,6 @@
 use Rattle.std.proofs.Common.{take}
 use Rattle.std.specs.List.{list_any}
-use Rattle.file_facts.specs.Text.{joined}
+use Rattle.proto_decls.specs.Text.{joined}
 use Rattle.proto_names.specs.Files.{has_package}
 use Rattle.proto_names.specs.Holders.{IsPast}
 use Rattle.proto_resolve.proofs.views.last_package.Given as goal

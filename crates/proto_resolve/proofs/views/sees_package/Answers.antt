@@ -1,5 +1,5 @@
 use Rattle.std.proofs.Common.{◌∙◌}
-use Rattle.file_facts.specs.Text.{joined}
+use Rattle.proto_decls.specs.Text.{joined}
 use Rattle.proto_names.proofs.Packaged.{sees_one}
 use Rattle.proto_resolve.proofs.views.sees_package.Goals as goal
 

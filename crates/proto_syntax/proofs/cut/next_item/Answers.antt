@@ -1,12 +1,12 @@
 use Rattle.std.proofs.Common.{◌≡◌, ℕ, ◌+◌, ◌-◌, ◌<◌, ◌≤◌, false, length, take, drop, sym, ◌∙◌, arith, length-drop}
 use Rattle.std.specs.Prelude.{IsTrue}
 use Rattle.std.proofs.lemmas.List.{take_rest}
-use Rattle.syntax_tree.specs.Cut.{ends, is_quiet}
+use Rattle.proto_tree.specs.Cut.{ends, is_quiet}
 use Rattle.proto_syntax.specs.Skips.{opened, closed, IsSkip}
 use Rattle.proto_syntax.proofs.SkipLemmas.{begins-at, count-add}
-use Rattle.syntax_tree.specs.declared.lexeme.Word.TheVariants as w
+use Rattle.proto_tree.specs.declared.lexeme.Terminal.TheVariants as w
 use Rattle.proto_syntax.proofs.CutLemmas.{no_lexeme, items_from-grown, items_from-ended, items_from-inside, items_from-open, IsQuietRun, quiet_run, skipped-inside, unfinished, as_rest, depth-step}
-use Rattle.syntax_tree.proofs.ItemEnds.{ends-rest}
+use Rattle.proto_tree.proofs.ItemEnds.{ends-rest}
 use Rattle.proto_syntax.proofs.cut.next_item.Goals as goal
 
 pub returns-then-inner-ts-clause-first : goal.returns-then-inner-ts-clause-first

@@ -1,6 +1,6 @@
 use Rattle.std.proofs.Common.{◌≡◌, ◌<◌, ◌≤◌, ◌+◌, ◌-◌, length, take, drop, []}
 use Rattle.proto_syntax.specs.Skips.{opened, closed}
-use Rattle.syntax_tree.specs.Cut.{items_from}
+use Rattle.proto_tree.specs.Cut.{items_from}
 use Rattle.proto_syntax.proofs.cut.next_item.Given as goal
 
 abbrev pub invariant-places : goal.invariant-places

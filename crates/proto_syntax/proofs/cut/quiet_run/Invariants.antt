@@ -1,6 +1,6 @@
 use Rattle.std.proofs.Common.{ℕ, ◌<◌, ◌-◌, length, drop}
 use Rattle.std.specs.Prelude.{IsTrue}
-use Rattle.syntax_tree.specs.Cut.{is_quiet}
+use Rattle.proto_tree.specs.Cut.{is_quiet}
 use Rattle.proto_syntax.proofs.cut.quiet_run.Given as goal
 
 abbrev pub invariant-tokens : goal.invariant-tokens

@@ -1,7 +1,7 @@
 use Rattle.std.proofs.Common.{◌≡◌, ◌<◌, ◌+◌, ◌-◌, length, [], ◌∷◌, Some, ap, sym, ◌∙◌, arith, length-append}
-use Rattle.syntax_tree.specs.declared.lexeme.Word.TheVariants as w
-use Rattle.syntax_tree.specs.Forms.{range}
-use Rattle.syntax_tree.proofs.PartLemmas.{separated-is, separated_by-more, separated_by-end, eat-shorter, nonempty}
+use Rattle.proto_tree.specs.declared.lexeme.Terminal.TheVariants as w
+use Rattle.proto_tree.specs.Forms.{range}
+use Rattle.proto_tree.proofs.PartLemmas.{separated-is, separated_by-more, separated_by-end, eat-shorter, nonempty}
 use Rattle.proto_syntax.proofs.FormLemmas.{range-nil}
 use Rattle.proto_syntax.proofs.forms.ranges.Goals as goal
 

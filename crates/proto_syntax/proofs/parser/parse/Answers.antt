@@ -1,7 +1,7 @@
 use Rattle.std.proofs.Common.{length}
 use Rattle.proto_lex.specs.Tokens.{byte_order_mark_len}
 use Rattle.proto_lex.specs.Tokens as lexer
-use Rattle.syntax_tree.specs.Read as spec
+use Rattle.proto_tree.specs.Read as spec
 use Rattle.proto_syntax.proofs.TokenLemmas.{ordered_within}
 use Rattle.proto_syntax.proofs.parser.parse.Goals as goal
 

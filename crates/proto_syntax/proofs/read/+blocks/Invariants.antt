@@ -1,5 +1,5 @@
 use Rattle.std.proofs.Common.{◌≡◌, ◌+◌, ◌*◌, ◌++◌, length}
-use Rattle.syntax_tree.specs.Read.{body_with, finished_tree}
+use Rattle.proto_tree.specs.Read.{body_with, finished_tree}
 use Rattle.proto_syntax.proofs.read.+blocks.Given as goal
 
 abbrev pub invariant-items_tree-items : goal.invariant-items_tree-items

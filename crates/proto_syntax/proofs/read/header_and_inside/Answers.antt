@@ -1,5 +1,5 @@
 use Rattle.std.proofs.Common.{sym}
-use Rattle.syntax_tree.proofs.SuffixLemmas.{behind_header}
+use Rattle.proto_tree.proofs.SuffixLemmas.{behind_header}
 use Rattle.proto_syntax.proofs.read.header_and_inside.Goals as goal
 
 pub overflow_sub-item : goal.overflow_sub-item

@@ -1,8 +1,8 @@
 use Rattle.std.proofs.Common.{◌≡◌, ◌≤◌, ◌-◌, ◌++◌, length}
 use Rattle.proto_lex.specs.Rest.{tokens_after}
 use Rattle.proto_lex.specs.Tokens.{tokens}
-use Rattle.syntax_tree.specs.Lexeme.{lexemes}
-use Rattle.syntax_tree.specs.Read.{bad_tokens}
+use Rattle.proto_tree.specs.Lexeme.{lexemes}
+use Rattle.proto_tree.specs.Read.{bad_tokens}
 use Rattle.proto_syntax.proofs.scan.text_lexemes.Given as goal
 
 abbrev pub invariant-loop-token : goal.invariant-loop-token

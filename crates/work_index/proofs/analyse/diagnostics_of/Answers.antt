@@ -1,5 +1,5 @@
 use Rattle.std.proofs.Common.{◌∙◌, ap, refl}
-use Rattle.file_facts.specs.declared.fact.FileFacts.{FileFacts}
+use Rattle.proto_decls.specs.declared.fact.FileFacts.{FileFacts}
 use Rattle.work_index.proofs.OwnDiags.{own-merged}
 use Rattle.work_index.proofs.analyse.diagnostics_of.Goals as goal
 

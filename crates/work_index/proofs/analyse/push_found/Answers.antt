@@ -1,6 +1,6 @@
 use Rattle.std.proofs.Common.{◌∙◌, ◌++◌, [], ◌∷◌, List, ap}
-use Rattle.file_facts.specs.declared.diagnostic.Diag.{Diag}
-use Rattle.file_facts.specs.Facts.{facts_of}
+use Rattle.proto_decls.specs.declared.diagnostic.Diag.{Diag}
+use Rattle.proto_decls.specs.Facts.{facts_of}
 use Rattle.work_index.specs.Workspace.{merged}
 use Rattle.work_index.proofs.analyse.push_found.Goals as goal
 

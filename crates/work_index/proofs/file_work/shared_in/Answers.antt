@@ -1,6 +1,6 @@
 use Rattle.std.proofs.Math.Logic.{∥∥₁_elim}
 use base.Stored.{Coded-set}
-use Rattle.file_facts.specs.contracts.fact.FileFacts.{the_row}
+use Rattle.proto_decls.specs.contracts.fact.FileFacts.{the_row}
 use Rattle.work_index.proofs.file_work.shared_in.Goals as goal
 
 pub returns : goal.returns

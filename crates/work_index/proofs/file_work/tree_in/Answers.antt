@@ -1,6 +1,6 @@
 use Rattle.std.proofs.Math.Logic.{∥∥₁_elim}
 use base.Stored.{Coded-set}
-use Rattle.syntax_tree.specs.contracts.node.FileTree.{the_row}
+use Rattle.proto_tree.specs.contracts.node.FileTree.{the_row}
 use Rattle.work_index.proofs.file_work.tree_in.Goals as goal
 
 pub returns : goal.returns

@@ -1,6 +1,6 @@
 use Rattle.std.proofs.Common.{◌≡◌, ℕ, List, [], true, false, sym, refl, ◌∙◌}
 use Rattle.std.proofs.lemmas.Result.{IfOk-weaker}
-use Rattle.syntax_tree.specs.Read.{is_too_long, read, value_tree}
+use Rattle.proto_tree.specs.Read.{is_too_long, read, value_tree}
 use Rattle.work_index.proofs.file_work.tree_of.Goals as goal
 
 tree-long : (text : List ℕ) → is_too_long text ≡ true → value_tree text ≡ read []

@@ -1,5 +1,4 @@
-use Rattle.std.proofs.Common.{◌≡◌, ◌∙◌, List, map, sym, ap, ap₂}
-use Rattle.std.proofs.lemmas.List.{length-map}
+use Rattle.std.proofs.Common.{◌∙◌, List, map, sym, ap, ap₂}
 use Rattle.std.proofs.lemmas.Simd.{map-map}
 use Rattle.piece_collector.specs.Views.{TextAt}
 use Rattle.work_index.specs.Pieces.{workspace_of}
@@ -13,8 +12,8 @@ invariant_of-result g c =
     let linked = c.in_ok-table.ensures.linked in
     rw (linked.diagnostics, linked.pieces) (length_made (diagnostics_of (workspace_of ts)) ts)
 
-pub returns : goal.returns
-returns g c =
+pub returns-clause-diagnosis : goal.returns-clause-diagnosis
+returns-clause-diagnosis g c =
     let ts : List TextAt = c.into_pieces-pieces.result.items in
     let w = workspace_of ts in
     let linked = c.in_ok-table.ensures.linked in

@@ -29,7 +29,7 @@ returns-clause-linked g c =
     let all = c.in_ok-shares-2.ensures.table ∙ ap (λ us. all_facts (workspace_of us)) c.in_ok-shares.ensures.whole in
     let places : AreConsecutive 0 c.in_ok-shares-2.shares.items = subst (λ ss. AreConsecutive 0 ss) (sym c.in_ok-shares-2.ensures.shares) c.in_ok-shares.ensures.places in
     let whole = ap pieces_in c.in_ok-shares-2.ensures.shares ∙ c.in_ok-shares.ensures.whole in
-    let joined = all_joined w c.in_ok-shares-2.table all ts c.in_ok-shares-2.shares.items _ _ whole places c.in_ok-answers.ensures c.in_ok-linked.ensures in
+    let joined = all_joined w c.in_ok-shares-2.table all ts c.in_ok-shares-2.shares.items _ _ whole places c.in_ok-answers.ensures.answers c.in_ok-linked.ensures in
     let each : All (λ (s : Share). s.keeps_links ≡ c.args.all.keeps_links) c.in_ok-shares-2.shares.items = subst (λ ss. All (λ (s : Share). s.keeps_links ≡ c.args.all.keeps_links) ss) (sym c.in_ok-shares-2.ensures.shares) c.in_ok-shares.ensures.kept in
     let are_kept : c.args.all.keeps_links ≡ true → AreKept c.in_ok-shares-2.shares.items = λ kept. subst (λ (k : Bool). All (λ (s : Share). s.keeps_links ≡ k) c.in_ok-shares-2.shares.items) kept each in
     record {

@@ -1,5 +1,5 @@
 use Rattle.std.proofs.Common.{◌<◌, List, length, subst}
-use Rattle.file_facts.specs.declared.fact.ImportFact.{ImportFact}
+use Rattle.proto_decls.specs.declared.fact.ImportFact.{ImportFact}
 use Rattle.proto_resolve.proofs.Imports.{as_many}
 use Rattle.work_index.proofs.unchecked.lost_path.Goals as goal
 

@@ -7,8 +7,8 @@ use Rattle.work_index.proofs.ByPath.{paths}
 use Rattle.work_index.proofs.Updates.{all_within, numbers_stay, ordered_pieces, others_stay}
 use Rattle.work_index.proofs.update.update_by.Goals as goal
 
-pub analyse_again-requires-clause-within : goal.analyse_again-requires-clause-within
-analyse_again-requires-clause-within c =
+pub update_texts-requires-clause-within : goal.update_texts-requires-clause-within
+update_texts-requires-clause-within c =
     let a : AnalysisData = c.args.earlier in
     let old : Workspace = workspace_in a in
     let new : Workspace = workspace_of c.args.pieces.now in
@@ -19,8 +19,8 @@ analyse_again-requires-clause-within c =
     let stay : All (HasStayed (paths old) new) changes = subst (λ (ps : List (List ℕ)). All (HasStayed ps new) changes) named (c.if-have_stayed.ensures refl) in
     all_within old new c.requires.ordered (ordered_pieces c.args.pieces.now c.requires.ascends) changes c.requires.changes c.as_slice.result.now are stay
 
-pub analyse_again-requires-clause-others : goal.analyse_again-requires-clause-others
-analyse_again-requires-clause-others c =
+pub update_texts-requires-clause-others : goal.update_texts-requires-clause-others
+update_texts-requires-clause-others c =
     let a : AnalysisData = c.args.earlier in
     let old : Workspace = workspace_in a in
     let new : Workspace = workspace_of c.args.pieces.now in
@@ -31,8 +31,8 @@ analyse_again-requires-clause-others c =
     let stay : All (HasStayed (paths old) new) changes = subst (λ (ps : List (List ℕ)). All (HasStayed ps new) changes) named (c.if-have_stayed.ensures refl) in
     others_stay old new c.requires.ordered (ordered_pieces c.args.pieces.now c.requires.ascends) changes c.requires.changes c.as_slice.result.now are stay
 
-pub analyse_after-requires-clause-stayed : goal.analyse_after-requires-clause-stayed
-analyse_after-requires-clause-stayed c =
+pub update_files-requires-clause-stayed : goal.update_files-requires-clause-stayed
+update_files-requires-clause-stayed c =
     let a : AnalysisData = c.args.earlier in
     let old : Workspace = workspace_in a in
     let new : Workspace = workspace_of c.args.pieces.now in

@@ -2,10 +2,10 @@ use Rattle.std.proofs.Common.{◌≡◌, ◌∙◌, true, false, refl, sym, ap, 
 use Rattle.std.specs.Prelude.{All, bytes_eq}
 use Rattle.std.proofs.lemmas.List.{take_all}
 use Rattle.std.proofs.lemmas.List.Elements.{All-more}
-use Rattle.file_facts.specs.declared.fact.FileFacts.{FileFacts}
-use Rattle.file_facts.specs.declared.fact.ImportFact.{ImportFact}
+use Rattle.proto_decls.specs.declared.fact.FileFacts.{FileFacts}
+use Rattle.proto_decls.specs.declared.fact.ImportFact.{ImportFact}
 use Rattle.import_graph.specs.declared.imports.FileImports.{FileImports}
-use Rattle.file_facts.specs.declared.named_facts.NamedFacts.{NamedFacts}
+use Rattle.proto_decls.specs.declared.named_facts.NamedFacts.{NamedFacts}
 use Rattle.import_graph.specs.Arrivals.{NobodyImports}
 use Rattle.import_graph.specs.Closures.{is_complete}
 use Rattle.import_graph.specs.Imports.{graph_of}

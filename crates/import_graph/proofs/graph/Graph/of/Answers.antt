@@ -4,7 +4,7 @@ use Rattle.std.proofs.lemmas.List.{take_all, length-map}
 use Rattle.import_graph.specs.Imports.{graph_of, imports_of, targets, public_targets}
 use Rattle.import_graph.specs.Walks.{AllWithin}
 use Rattle.import_graph.specs.declared.imports.FileImports.{FileImports}
-use Rattle.file_facts.specs.declared.named_facts.NamedFacts.{NamedFacts}
+use Rattle.proto_decls.specs.declared.named_facts.NamedFacts.{NamedFacts}
 use Rattle.import_graph.proofs.ImportEdges.{graph_within}
 use Rattle.import_graph.proofs.Views.{imports_within, public_within}
 use Rattle.import_graph.proofs.graph.Graph.of.Goals as goal

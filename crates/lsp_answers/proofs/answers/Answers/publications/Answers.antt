@@ -1,6 +1,6 @@
 use Rattle.std.proofs.Common.{◌≡◌, [], ◌∷◌, ◌++◌, rules, map, sym, ap, subst, ◌∙◌, append_assoc}
 use Rattle.serde_json.specs.Written.{compact_text}
-use Rattle.lsp_workspace.specs.View.{entry_view, file_view, files_view}
+use Rattle.work_files.specs.View.{entry_view, file_view, files_view}
 use Rattle.lsp_answers.specs.Reports.{publications_in, publications}
 use Rattle.lsp_answers.proofs.PublicationLemmas.{publications-more}
 use Rattle.lsp_answers.proofs.answers.Answers.publications.Goals as goal

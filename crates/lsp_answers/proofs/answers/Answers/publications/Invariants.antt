@@ -1,6 +1,6 @@
 use Rattle.std.proofs.Common.{◌≡◌, ◌++◌, map}
 use Rattle.serde_json.specs.Written.{compact_text}
-use Rattle.lsp_workspace.specs.View.{files_view}
+use Rattle.work_files.specs.View.{files_view}
 use Rattle.lsp_answers.specs.Reports.{publications_in, publications}
 use Rattle.lsp_answers.proofs.answers.Answers.publications.Given as goal
 

@@ -1,5 +1,5 @@
 use Rattle.std.proofs.Common.{ap, ◌∙◌}
-use Rattle.lsp_workspace.specs.Files.{file_at}
+use Rattle.work_files.specs.Files.{file_at}
 use Rattle.lsp_answers.specs.Answers.{file_of}
 use Rattle.lsp_answers.specs.Context.{Context}
 use Rattle.lsp_answers.specs.Reports.{uri_of}

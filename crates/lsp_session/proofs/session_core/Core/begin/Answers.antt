@@ -1,6 +1,6 @@
 use Rattle.std.proofs.Common.{Some, Err, map, refl, sym, ap, ◌∙◌}
 use Rattle.piece_collector.specs.declared.fault.BoardFault.TheVariants as board
-use Rattle.lsp_workspace.proofs.FirstEvents.{refused_with}
+use Rattle.work_files.proofs.FirstEvents.{refused_with}
 use Rattle.lsp_rpc.specs.Message.{message_view}
 use Rattle.lsp_session.specs.View.{core_state, IsExhausted}
 use Rattle.lsp_session.proofs.CoreLemmas.{begins}

@@ -1,12 +1,12 @@
 use Rattle.std.proofs.Common.{◌≡◌, ℕ, List, Err, length, refl, ap, ap₂, subst, sym, ◌∙◌, map}
-use Rattle.lsp_workspace.proofs.FirstEvents.{refused_with}
+use Rattle.work_files.proofs.FirstEvents.{refused_with}
 use Rattle.lsp_rpc.specs.ClientCapabilities.{default_client}
 use Rattle.lsp_rpc.specs.Message.{message_view}
-use Rattle.lsp_config.specs.Configuration.{files_of}
-use Rattle.lsp_config.specs.Fault.{core_fault_of}
-use Rattle.lsp_config.specs.declared.fault.CoreFault.TheVariants as core
-use Rattle.lsp_workspace.specs.Files.{Files, from_disk, workspace}
-use Rattle.lsp_workspace.specs.Texts.{StampsRunOut, first_events}
+use Rattle.work_config.specs.Configuration.{files_of}
+use Rattle.work_config.specs.Fault.{core_fault_of}
+use Rattle.work_config.specs.declared.fault.CoreFault.TheVariants as core
+use Rattle.work_files.specs.Files.{Files, from_disk, workspace}
+use Rattle.work_files.specs.Texts.{StampsRunOut, first_events}
 use Rattle.piece_collector.specs.Board.{IsAfter}
 use Rattle.lsp_session.specs.Session.{State, start}
 use Rattle.lsp_session.specs.View.{state_of}

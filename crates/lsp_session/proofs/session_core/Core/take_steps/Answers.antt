@@ -1,6 +1,6 @@
 use Rattle.std.proofs.Common.{Err, ap, ◌∷◌, ◌++◌, ◌∙◌, length, map, sym, subst}
 use Rattle.piece_collector.specs.declared.fault.BoardFault.TheVariants as board
-use Rattle.lsp_workspace.proofs.FirstEvents.{refused_with}
+use Rattle.work_files.proofs.FirstEvents.{refused_with}
 use Rattle.lsp_session.specs.Core.{Advance, IsAfter, ExhaustsStamps}
 use Rattle.lsp_session.specs.Steps.{CanStep}
 use Rattle.lsp_session.specs.View.{core_state}

@@ -1,7 +1,7 @@
 use Rattle.std.proofs.Common.{Err, ap, ◌∷◌, ◌++◌, ◌∙◌, length, map, sym, subst}
-use Rattle.lsp_workspace.proofs.FirstEvents.{refused_with}
-use Rattle.lsp_config.specs.Fault.{core_fault_of}
-use Rattle.lsp_config.specs.declared.fault.CoreFault.TheVariants as core
+use Rattle.work_files.proofs.FirstEvents.{refused_with}
+use Rattle.work_config.specs.Fault.{core_fault_of}
+use Rattle.work_config.specs.declared.fault.CoreFault.TheVariants as core
 use Rattle.lsp_session.specs.Core.{Advance, IsAfter, ExhaustsStamps}
 use Rattle.lsp_session.specs.Steps.{CanStep}
 use Rattle.lsp_session.specs.View.{core_state}
@@ -50,4 +50,4 @@ returns-in_err-take_step-clause-threads g c = λ out.
 pub returns-in_err-prepare_in_shares-clause-threads : goal.returns-in_err-prepare_in_shares-clause-threads
 returns-in_err-prepare_in_shares-clause-threads g c = λ out opening config h before.
     let taken = c.steps.invariant.taken opening config h before in
-    comes_to_analysis opening config _ h taken.steps taken.is_after c.in_err-prepare_in_shares.ensures.needs
+    comes_to_analysis opening config _ h taken.steps c.in-Some.step taken.is_after c.in-Some.ensures.can (c.in-Some.ensures.may opening config (map Advance taken.steps ++ h) taken.is_after) c.in_err-prepare_in_shares.ensures.needs

@@ -1,5 +1,5 @@
 use Rattle.std.proofs.Common.{◌∙◌, ap, append-nil, filter, length, sym}
-use Rattle.proto_names.specs.Tables.{name_at}
+use Rattle.proto_names.specs.Files.{name_at}
 use Rattle.proto_names.proofs.ByLast.{scopes_total}
 use Rattle.proto_names.proofs.Same.{same_moved}
 use Rattle.proto_names.proofs.name_entries.NameEntries.of.Goals as goal

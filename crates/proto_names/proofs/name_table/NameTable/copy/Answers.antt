@@ -1,6 +1,7 @@
 use Rattle.std.proofs.Common.{◌∙◌, subst, sym}
 use Rattle.proto_names.specs.Buckets.{AreInBuckets}
-use Rattle.proto_names.specs.Tables.{by_name, by_scope, holder_entries, name_at, name_entries}
+use Rattle.proto_names.specs.Files.{name_at}
+use Rattle.proto_names.specs.Tables.{by_name, by_scope, holder_entries, name_entries}
 use Rattle.proto_names.proofs.Copies.{copied}
 use Rattle.proto_names.proofs.name_table.NameTable.copy.Goals as goal
 

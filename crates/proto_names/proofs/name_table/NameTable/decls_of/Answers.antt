@@ -1,5 +1,5 @@
 use Rattle.std.proofs.Common.{◌∙◌, sym, ap}
-use Rattle.file_facts.specs.FullNames.{hash_of}
+use Rattle.proto_decls.specs.FullNames.{hash_of}
 use Rattle.proto_names.specs.Files.{all_named}
 use Rattle.proto_names.proofs.Apart.{are_apart, whole}
 use Rattle.proto_names.proofs.name_table.NameTable.decls_of.Goals as goal

@@ -1,9 +1,9 @@
 use Rattle.std.proofs.Common.{◌∙◌, ap, List, ℕ, filter, bytes_eq}
 use Rattle.std.proofs.Math.Nat.{mod-lt}
-use Rattle.file_facts.specs.FullNames.{hash_of}
-use Rattle.file_facts.specs.Text.{joined}
+use Rattle.proto_decls.specs.FullNames.{hash_of}
+use Rattle.proto_decls.specs.Text.{joined}
 use Rattle.proto_names.specs.declared.hashed.HashedDecls.{HashedDecls}
-use Rattle.proto_names.specs.Tables.{name_at}
+use Rattle.proto_names.specs.Files.{name_at}
 use Rattle.proto_names.proofs.InBuckets.{bucket_by_hash, bucket_named}
 use Rattle.proto_names.proofs.name_table.NameTable.decls_of_parts.Goals as goal
 

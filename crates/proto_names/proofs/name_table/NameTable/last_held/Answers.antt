@@ -2,9 +2,10 @@ use Rattle.std.proofs.Common.{◌≡◌, ◌∙◌, ◌%◌, ℕ, Bool, ap, get_
 use Rattle.std.proofs.Math.Nat.{mod-lt}
 use Rattle.std.proofs.Math.Path.{fun_ext}
 use Rattle.proto_names.specs.declared.hashed.HashedDecls.{HashedDecls}
-use Rattle.file_facts.specs.FullNames.{hash_of}
+use Rattle.proto_decls.specs.FullNames.{hash_of}
 use Rattle.proto_names.specs.Holders.{IsLast}
-use Rattle.proto_names.specs.Tables.{name_at, stands_in}
+use Rattle.proto_names.specs.Files.{name_at}
+use Rattle.proto_names.specs.Tables.{stands_in}
 use Rattle.proto_names.proofs.Apart.{apart_alone, hashed}
 use Rattle.proto_names.proofs.ByLast.{of_last}
 use Rattle.proto_names.proofs.InBuckets.{last_by_hash, last_held, last_ordered}

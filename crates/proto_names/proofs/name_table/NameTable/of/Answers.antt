@@ -2,7 +2,8 @@ use Rattle.std.proofs.Common.{◌∙◌, ap, filter, length, subst, sym}
 use Rattle.std.specs.List.{flat_map}
 use Rattle.proto_names.specs.Buckets.{AreInBuckets}
 use Rattle.proto_names.specs.Entries.{all_entries}
-use Rattle.proto_names.specs.Tables.{by_name, by_scope, holder_entries, name_at}
+use Rattle.proto_names.specs.Files.{name_at}
+use Rattle.proto_names.specs.Tables.{by_name, by_scope, holder_entries}
 use Rattle.proto_names.proofs.Entries.{flat_items, named_entries}
 use Rattle.proto_names.proofs.InBuckets.{buckets_moved}
 use Rattle.proto_names.proofs.name_table.NameTable.of.Goals as goal

@@ -1,5 +1,5 @@
 use Rattle.std.proofs.Common.{◌≡◌, ◌<◌, List, sym, length, map, set, get_or}
-use Rattle.file_facts.specs.declared.named_facts.NamedFacts.{NamedFacts}
+use Rattle.proto_decls.specs.declared.named_facts.NamedFacts.{NamedFacts}
 use Rattle.proto_names.proofs.Outlines.{telling, keeps_telling, still_by_name}
 use Rattle.proto_names.proofs.name_table.NameTable.set_facts.Goals as goal
 

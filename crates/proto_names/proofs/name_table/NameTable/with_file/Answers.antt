@@ -1,7 +1,8 @@
 use Rattle.std.proofs.Common.{◌≡◌, ◌∙◌, ◌≤◌, List, length, arith}
 use Rattle.std.specs.List.{insert}
-use Rattle.file_facts.specs.declared.named_facts.NamedFacts.{NamedFacts}
-use Rattle.proto_names.specs.Tables.{by_name, by_scope, holder_entries, name_at, name_entries}
+use Rattle.proto_decls.specs.declared.named_facts.NamedFacts.{NamedFacts}
+use Rattle.proto_names.specs.Files.{name_at}
+use Rattle.proto_names.specs.Tables.{by_name, by_scope, holder_entries, name_entries}
 use Rattle.proto_names.proofs.MovedBuckets.{holders_below, holders_were, names_below, names_were, small_buckets}
 use Rattle.proto_names.proofs.name_table.NameTable.with_file.Goals as goal
 

@@ -1,9 +1,10 @@
 use Rattle.std.proofs.Common.{◌≡◌, ◌∙◌, ◌<◌, ◌≤◌, ◌++◌, List, filter, length, map, arith}
-use Rattle.file_facts.specs.declared.named_facts.NamedFacts.{NamedFacts}
+use Rattle.proto_decls.specs.declared.named_facts.NamedFacts.{NamedFacts}
 use Rattle.proto_names.specs.declared.hashed.HashedDecl.{HashedDecl}
 use Rattle.proto_names.specs.Buckets.{AreInBuckets}
 use Rattle.proto_names.specs.Hashed.{hashed}
-use Rattle.proto_names.specs.Tables.{by_name, by_scope, name_at}
+use Rattle.proto_names.specs.Files.{name_at}
+use Rattle.proto_names.specs.Tables.{by_name, by_scope}
 use Rattle.proto_names.proofs.ByLast.{scopes_total}
 use Rattle.proto_names.proofs.MovedBuckets.{holds, holders_are_left, holders_are_with, lasts, names_are_left, names_are_with, other_holders_below, other_names_below, others, small_buckets}
 use Rattle.proto_names.proofs.Places.{names_total}

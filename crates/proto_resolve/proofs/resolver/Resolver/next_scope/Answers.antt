@@ -1,6 +1,6 @@
 use Rattle.std.proofs.Common.{◌≡◌, ◌∙◌, sym, length}
 use Rattle.std.proofs.lemmas.List.{length-map}
-use Rattle.file_facts.specs.Text.{joined}
+use Rattle.proto_decls.specs.Text.{joined}
 use Rattle.std.specs.List.{list_any}
 use Rattle.proto_names.specs.Files.{has_package}
 use Rattle.proto_names.specs.Holders.{is_held}

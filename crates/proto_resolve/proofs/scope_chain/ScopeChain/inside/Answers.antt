@@ -1,6 +1,6 @@
 use Rattle.std.proofs.Common.{◌≡◌, ◌∷◌, ◌++◌, [], length, rules}
 use Rattle.std.specs.Prelude.{string_bytes, slice_index_or}
-use Rattle.file_facts.specs.Text.{joined}
+use Rattle.proto_decls.specs.Text.{joined}
 use Rattle.proto_resolve.specs.ScopeChains.{front_parts}
 use Rattle.proto_resolve.proofs.NextScopes.{not_longer, rises_pushed}
 use Rattle.proto_resolve.proofs.ScopeChains.{inner_points, points, pushed}

@@ -1,7 +1,7 @@
 use Rattle.std.proofs.Common.{◌≡◌, length, arith}
 use Rattle.std.specs.Prelude.{string_bytes}
 use Rattle.std.specs.List.{list_any}
-use Rattle.file_facts.specs.Text.{joined}
+use Rattle.proto_decls.specs.Text.{joined}
 use Rattle.proto_names.specs.Files.{has_package}
 use Rattle.proto_resolve.proofs.NextScopes.{none_next, some_next}
 use Rattle.proto_resolve.proofs.ScopeChains.{as_many}

@@ -1,7 +1,7 @@
 use Rattle.std.proofs.Common.{◌≡◌, ◌<◌, ◌+◌, ◌-◌, length, suc, [], ◌∷◌, Some, ap, sym, ◌∙◌, arith, length-append}
-use Rattle.syntax_tree.specs.declared.lexeme.Word.TheVariants as w
-use Rattle.syntax_tree.specs.Parts.{identifier}
-use Rattle.syntax_tree.proofs.PartLemmas.{separated_by-more, separated_by-end, eat-shorter, one-shorter, full-is}
+use Rattle.proto_tree.specs.declared.lexeme.Terminal.TheVariants as w
+use Rattle.proto_tree.specs.Parts.{identifier}
+use Rattle.proto_tree.proofs.PartLemmas.{separated_by-more, separated_by-end, eat-shorter, one-shorter, full-is}
 use Rattle.proto_syntax.proofs.parts.TokenReader.full.Goals as goal
 
 pub parts-init : goal.parts-init

@@ -1,7 +1,7 @@
 use Rattle.std.proofs.Common.{◌≡◌, ◌-◌, ◌+◌, ◌≤◌, length}
-use Rattle.syntax_tree.specs.declared.lexeme.Word.TheVariants as w
-use Rattle.syntax_tree.specs.Parts.{full, separated_by, identifier}
-use Rattle.syntax_tree.proofs.PartLemmas.{with_front}
+use Rattle.proto_tree.specs.declared.lexeme.Terminal.TheVariants as w
+use Rattle.proto_tree.specs.Parts.{full, separated_by, identifier}
+use Rattle.proto_tree.proofs.PartLemmas.{with_front}
 use Rattle.proto_syntax.proofs.parts.TokenReader.full.Given as goal
 
 abbrev pub invariant-parts : goal.invariant-parts

@@ -1,5 +1,5 @@
 use Rattle.std.proofs.Common.{sym, ◌∙◌, arith, length-take, length-drop}
-use Rattle.syntax_tree.proofs.PartLemmas.{texts-no, texts-yes, texts-none}
+use Rattle.proto_tree.proofs.PartLemmas.{texts-no, texts-yes, texts-none}
 use Rattle.proto_syntax.proofs.parts.TokenReader.plain_texts.Goals as goal
 
 pub returns-then-ne-clause-reads : goal.returns-then-ne-clause-reads

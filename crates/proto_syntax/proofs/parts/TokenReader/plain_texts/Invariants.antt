@@ -1,5 +1,5 @@
 use Rattle.std.proofs.Common.{◌≡◌, ◌≤◌, ◌++◌, length}
-use Rattle.syntax_tree.specs.Parts.{texts}
+use Rattle.proto_tree.specs.Parts.{texts}
 use Rattle.proto_syntax.proofs.parts.TokenReader.plain_texts.Given as goal
 
 abbrev pub invariant-texts : goal.invariant-texts

@@ -1,8 +1,7 @@
 use Rattle.std.proofs.Common.{◌≡◌, List, map, ap, sym, subst, ◌∙◌}
 use Rattle.std.specs.Prelude.{bytes_eq, position}
-use Rattle.file_facts.specs.declared.fact.FileFacts.{FileFacts}
-use Rattle.import_graph.specs.Arrivals.{NobodyImports}
-use Rattle.file_facts.specs.declared.named_facts.NamedFacts.{NamedFacts}
+use Rattle.proto_decls.specs.declared.fact.FileFacts.{FileFacts}
+use Rattle.proto_decls.specs.declared.named_facts.NamedFacts.{NamedFacts}
 use Rattle.work_index.specs.Arrivals.{NoneImports}
 use Rattle.work_index.specs.Workspace.{AnalysisData}
 use Rattle.work_index.proofs.Arrived.{nobody_imports, none_imports, position_mapped}
@@ -11,8 +10,7 @@ use Rattle.work_index.proofs.analysis.Analysis.is_imported.Goals as goal
 pub is_imported-requires : goal.is_imported-requires
 is_imported-requires c =
     let path = c.args.path.now in
-    ap (λ (files : List NamedFacts). position (λ f. bytes_eq f.path path) files) c.table.ensures
-    ∙ sym (position_mapped (λ q. bytes_eq q path) (λ (f : NamedFacts). f.path) c.self.inside.table)
+    sym (position_mapped (λ q. bytes_eq q path) (λ (f : NamedFacts). f.path) c.self.inside.table)
     ∙ ap (position (λ q. bytes_eq q path)) (sym c.self.invariant.3 ∙ ap (λ (a : AnalysisData). a.paths) c.self.view_is)
     ∙ c.requires
 
@@ -21,6 +19,6 @@ returns c =
     let path = c.args.path.now in
     let table = c.self.inside.table in
     let facts : map (λ f. f.facts) table ≡ c.args.self.now.facts = ap (λ (a : AnalysisData). a.facts) c.self.view_is in (
-      (λ no. subst (λ (fs : List FileFacts). NoneImports fs path) facts (none_imports table path (subst (λ (files : List NamedFacts). NobodyImports files path) c.table.ensures (c.is_imported.ensures.0 no)))),
-      (λ none. c.is_imported.ensures.1 (subst (λ (files : List NamedFacts). NobodyImports files path) (sym c.table.ensures) (nobody_imports table path (subst (λ (fs : List FileFacts). NoneImports fs path) (sym facts) none)))),
+      (λ no. subst (λ (fs : List FileFacts). NoneImports fs path) facts (none_imports table path (c.is_imported.ensures.0 no))),
+      (λ none. c.is_imported.ensures.1 (nobody_imports table path (subst (λ (fs : List FileFacts). NoneImports fs path) (sym facts) none))),
     )

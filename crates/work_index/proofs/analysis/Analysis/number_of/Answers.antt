@@ -1,6 +1,6 @@
-use Rattle.std.proofs.Common.{List, ap, sym, ◌∙◌}
+use Rattle.std.proofs.Common.{ap, sym, ◌∙◌}
 use Rattle.std.specs.Prelude.{bytes_eq, position}
-use Rattle.file_facts.specs.declared.named_facts.NamedFacts.{NamedFacts}
+use Rattle.proto_decls.specs.declared.named_facts.NamedFacts.{NamedFacts}
 use Rattle.work_index.specs.Workspace.{AnalysisData}
 use Rattle.work_index.proofs.Arrived.{position_mapped}
 use Rattle.work_index.proofs.analysis.Analysis.number_of.Goals as goal
@@ -9,6 +9,5 @@ pub returns : goal.returns
 returns c =
     let path = c.args.path.now in
     c.number_of.ensures
-    ∙ ap (λ (files : List NamedFacts). position (λ f. bytes_eq f.path path) files) c.table.ensures
     ∙ sym (position_mapped (λ q. bytes_eq q path) (λ (f : NamedFacts). f.path) c.self.inside.table)
     ∙ ap (position (λ q. bytes_eq q path)) (sym c.self.invariant.3 ∙ ap (λ (a : AnalysisData). a.paths) c.self.view_is)

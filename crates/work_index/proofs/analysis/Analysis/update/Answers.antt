@@ -5,8 +5,8 @@ use Rattle.work_index.specs.Workspace.{workspace_in}
 use Rattle.work_index.proofs.Updates.{back_again, comes_to, lent_workspace, named_in, of_workspace, one_workspace}
 use Rattle.work_index.proofs.analysis.Analysis.update.Goals as goal
 
-pub analyse_with-requires : goal.analyse_with-requires
-analyse_with-requires c =
+pub add_file-requires : goal.add_file-requires
+add_file-requires c =
     let file : List ℕ × List ℕ = (c.in-Some.piece.now.path, c.in-Some.piece.now.text) in
     let comes = comes_to c.args.self c.args.board.now (map string_bytes c.args.changes.now) file c.known.ensures c.requires.ordered c.requires.changes c.in-Some.ensures in
     comes.arrives
@@ -15,7 +15,7 @@ pub returns-in-Some-clause-analysis : goal.returns-in-Some-clause-analysis
 returns-in-Some-clause-analysis c =
     let file : List ℕ × List ℕ = (c.in-Some.piece.now.path, c.in-Some.piece.now.text) in
     let comes = comes_to c.args.self c.args.board.now (map string_bytes c.args.changes.now) file c.known.ensures c.requires.ordered c.requires.changes c.in-Some.ensures in
-    of_workspace c.analyse_with.result _ c.args.board.now (c.analyse_with.ensures comes.arrives) comes.with_it
+    of_workspace c.add_file.result _ c.args.board.now (c.add_file.ensures comes.arrives) comes.with_it
 
 pub update_by-updated-requires-clause-changes : goal.update_by-updated-requires-clause-changes
 update_by-updated-requires-clause-changes c =

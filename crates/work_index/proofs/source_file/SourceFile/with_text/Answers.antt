@@ -1,6 +1,6 @@
 use Rattle.std.proofs.Common.{◌≡◌, ◌∙◌, ℕ, List, true, sym, ap, subst}
-use Rattle.file_facts.specs.Facts.{facts_of}
-use Rattle.link_changes.specs.Asked.{has_all}
+use Rattle.proto_decls.specs.Facts.{facts_of}
+use Rattle.work_links.specs.Asked.{has_all}
 use Rattle.work_index.specs.Workspace.{asked_of}
 use Rattle.work_index.proofs.source_file.SourceFile.with_text.Goals as goal
 

@@ -27,8 +27,11 @@ returns g c =
     let whole : c.loop-share.yielded ≡ c.captures.shares.items =
     sym (map-id _)
     ∙ (YieldsList-end (YieldsList-from_vec c.captures.shares.items c.into_iter-share-iterator.ensures.into_iter_gives.0 (search rules)) c.loop-share.yielded _ c.loop-share.yielded_by _ c.next.new.self c.in-None.is c.next.ensures.steps).0 in
-    all_indexed _ (λ p r k. k) _ _ _ _
-    (c.loop-share.invariant ∙ ap (map (λ s. s)) whole)
-    (search rules)
-    (search rules)
-    c.in_ok-answers.ensures.each
+    record {
+      answers = all_indexed _ (λ p r k. k) _ _ _ _
+          (c.loop-share.invariant ∙ ap (map (λ s. s)) whole)
+          (search rules)
+          (search rules)
+          c.in_ok-answers.ensures.each;
+      threads = search rules;
+    }

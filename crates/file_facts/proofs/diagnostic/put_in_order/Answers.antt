@@ -1,8 +1,0 @@
-use Rattle.std.proofs.Common.{subst}
-use Rattle.std.specs.List.Sorted.{IsStrictlySortedBy}
-use Rattle.file_facts.specs.Order.{order}
-use Rattle.file_facts.proofs.DiagOrder.{risen}
-use Rattle.file_facts.proofs.diagnostic.put_in_order.Goals as goal
-
-pub returns-then-rises : goal.returns-then-rises
-returns-then-rises c = risen c.args.found (subst (IsStrictlySortedBy order) c.as_slice.ensures (c.rises.ensures c.if-rises.true))

@@ -1,5 +1,0 @@
-use Rattle.std.proofs.Common.{◌≡◌, ◌++◌, drop}
-use Rattle.file_facts.proofs.fact.copy_imports.Given as goal
-
-abbrev pub invariant-each : goal.invariant-each
-invariant-each l = l.found ++ drop l.fact-index l.imports ≡ l.imports

@@ -1,6 +1,0 @@
-use Rattle.std.proofs.Common.{◌∙◌, sym}
-use Rattle.link_changes.proofs.AskedNames.{none_touched}
-use Rattle.link_changes.proofs.asked.Asked.asks_for.Goals as goal
-
-pub returns-else-self-clause-untouched : goal.returns-else-self-clause-untouched
-returns-else-self-clause-untouched c = λ none. none_touched c.args.self.now c.args.touched.now (rw c.if-self.false (rw (← c.as_slice.ensures.value) (sym c.has_one_of.ensures ∙ none)))

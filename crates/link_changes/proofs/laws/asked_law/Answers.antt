@@ -1,5 +1,0 @@
-use Rattle.link_changes.proofs.AskedAlone.{asked_law}
-use Rattle.link_changes.proofs.laws.asked_law.Goals as goal
-
-pub returns : goal.returns
-returns c = λ old new f move text tree keeps same. asked_law old new f move text tree keeps same

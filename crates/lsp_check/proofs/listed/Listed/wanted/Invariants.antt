@@ -1,7 +1,0 @@
-use Rattle.std.proofs.Common.{◌≡◌, [], filter, get_or, take}
-use Rattle.lsp_check.specs.Listing.{is_wanted}
-use Rattle.lsp_check.proofs.listed.Listed.wanted.Given as goal
-
--- those so far are found
-abbrev pub invariant-loop-file : goal.invariant-loop-file
-invariant-loop-file l = let listed = l.self in l.found.items ≡ filter (λ n. is_wanted listed.how (get_or listed.files n ([], [])).0) (take l.file-index l.files)

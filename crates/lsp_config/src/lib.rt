@@ -1,9 +1,0 @@
-//! What a session or a check is started with, and what can fail in them.
-#![tactic(auto)]
-
-mod config;
-mod fault;
-
-pub use config::Config;
-pub use fault::{CoreFault, ServeFault};
-pub use lsp_workspace::DiskFile;

@@ -1,0 +1,3 @@
+pub mod CoreLaws
+pub mod DocumentLaws
+pub mod UriLaws

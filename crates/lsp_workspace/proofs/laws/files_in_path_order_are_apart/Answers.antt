@@ -1,5 +1,0 @@
-use Rattle.lsp_workspace.proofs.PathOrder.{order-apart}
-use Rattle.lsp_workspace.proofs.laws.files_in_path_order_are_apart.Goals as goal
-
-pub returns : goal.returns
-returns c = order-apart

@@ -1,5 +1,0 @@
-use Rattle.lsp_workspace.proofs.WorkspaceLemmas.{text_of_workspace}
-use Rattle.lsp_workspace.proofs.laws.texts_are_of_the_workspace.Goals as goal
-
-pub returns : goal.returns
-returns c = λ files apart path. text_of_workspace path files apart

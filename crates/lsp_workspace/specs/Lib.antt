@@ -1,8 +1,0 @@
-pub mod Disk
-pub mod Files
-pub mod View
-pub mod Steps
-pub mod Texts
-pub mod Recorded
-pub mod Roots
-pub mod Kept

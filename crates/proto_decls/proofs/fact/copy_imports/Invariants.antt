@@ -1,0 +1,5 @@
+use Rattle.std.proofs.Common.{◌≡◌, ◌++◌, drop}
+use Rattle.proto_decls.proofs.fact.copy_imports.Given as goal
+
+abbrev pub invariant-each : goal.invariant-each
+invariant-each l = l.found ++ drop l.fact-index l.imports ≡ l.imports

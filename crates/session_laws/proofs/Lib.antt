@@ -1,4 +1,0 @@
-mod BoardTexts
-pub mod Documents
-pub mod Groups
-mod WorkedMessages

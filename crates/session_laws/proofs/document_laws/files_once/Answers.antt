@@ -1,5 +1,0 @@
-use Rattle.session_laws.proofs.Groups.{groups-are}
-use Rattle.session_laws.proofs.document_laws.files_once.Goals as goal
-
-pub returns : goal.returns
-returns c = groups-are

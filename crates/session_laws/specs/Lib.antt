@@ -1,2 +1,0 @@
-pub mod CoreLaws
-pub mod DocumentLaws

@@ -1,0 +1,5 @@
+mod CountLemmas
+mod Crossing
+mod LinesLemmas
+mod ListedShares
+mod SarifTexts

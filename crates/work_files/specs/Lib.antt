@@ -1,0 +1,7 @@
+pub mod Disk
+pub mod Files
+pub mod View
+pub mod Steps
+pub mod Texts
+pub mod Roots
+pub mod Kept
