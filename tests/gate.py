@@ -3,10 +3,11 @@ tests in tests/.
 
 usage: gate.py [ROOT]
 
-`rt ci` runs over a copy of the repository without must-fail/, since it would prove a crate once more for its edits there. As soon as it has proved a
-crate, tools/wrong_bodies.py tries the crate's edits over the libraries that it has built, those of must-fail/ each time. The tests run beside them, those
-of the program once it is built. All this gives way to the proofs. A check has one job, and there are as many at a time as processors and memory
-allow. Of the working tree only the built programs change.
+The tests of the tools come first: they prove small repositories of their own, for which the proofs would leave no processor. `rt ci` runs over a copy
+of the repository without must-fail/, since it would prove a crate once more for its edits there. As soon as it has proved a crate,
+tools/wrong_bodies.py tries the crate's edits over the libraries that it has built, those of must-fail/ each time. The tests of the program run once it is
+built. All this gives way to the proofs. A check has one job, and there are as many at a time as processors and memory allow. Of the working tree only
+the built programs change.
 
 The last lines name what failed and say how long each part took. The last one is `N passed, M failed`, and the status is 0 only if M is 0.
 """
@@ -130,6 +131,7 @@ class Gate:
     def run(self):
         of_tools, others = kit.tests_in(self.root)
         self.start_tests(of_tools)
+        self.tests.wait()
         self.ci.run(["rt", "ci"], self.copy, self.told, {"RT_JOBS": str(self.lanes)})
         lacking = self.take_programs()
         for name in lacking:
