@@ -30,8 +30,9 @@ ORDER = {
     "piece_collector": "Events History Views Board Runs Fault Laws".split(),
     "work_index": "Workspace Unchecked Pieces Changes Fault".split(),
     "work_files": "Files Roots Texts Disk View".split(),
+    "work_space": "BoardTexts View".split(),
     "lsp_answers": "Context Questions Answers Reports Diagnostics Ranges Views".split(),
-    "lsp_session": "Session Stream Core Run View".split(),
+    "lsp_core": "Session Core Run View".split(),
 }
 
 LAW = re.compile(r"((?:^///.*\n)+)pub fn (\w+)\(", re.MULTILINE)

@@ -10,7 +10,7 @@ use Rattle.proto_decls.specs.declared.diagnostic.Diag.{Diag}
 use Rattle.lsp_rpc.specs.Notification.{publication_value}
 use Rattle.lsp_rpc.specs.Workspace.{DocumentData}
 use Rattle.work_files.specs.Files.{OpenDocument, File, Files, file_at, text_of, workspace}
-use Rattle.work_files.proofs.PathOrder.{Ascend, ascend-workspace}
+use Rattle.work_space.proofs.WorkspaceOrder.{Ascend, ascend-workspace}
 use Rattle.work_index.specs.Workspace.{analysis, diags_at}
 use Rattle.lsp_answers.specs.Context.{Context}
 use Rattle.lsp_answers.specs.Diagnostics.{placed}

@@ -17,7 +17,9 @@ use Rattle.proto_decls.specs.declared.diagnostic.Diag.{Diag}
 use Rattle.lsp_rpc.specs.Diagnostic.{DiagnosticData}
 use Rattle.lsp_rpc.specs.Workspace.{DocumentData}
 use Rattle.work_files.specs.Files.{text_at}
-use Rattle.work_files.proofs.PathOrder.{AreBehind, Ascend, paths, ascend-workspace, order-apart}
+use Rattle.work_files.proofs.PathOrder.{order-apart}
+use Rattle.work_space.proofs.WorkspaceOrder.{Ascend, ascend-workspace}
+use Rattle.work_index.proofs.ByPath.{AreBehind, paths}
 use Rattle.work_files.proofs.WorkspaceLemmas.{text_of_workspace}
 use Rattle.work_index.specs.Workspace.{Workspace, AnalysisData, analysis, diags_at}
 use Rattle.lsp_answers.specs.Diagnostics.{placed}

@@ -11,7 +11,8 @@ use doc_text::Encoding;
 use lsp_rpc::{Id, rename_reply, report_reply, symbols_reply, workspace_reply};
 use std::alloc::{AllocError, Global};
 use std::marker::Model;
-use work_files::{Files, Snapshot};
+use work_files::Files;
+use work_space::Snapshot;
 use workspace_uri::Roots;
 
 /// The files of a session with their analysis, about which questions are answered. Contracts see the texts of the roots, the
@@ -32,12 +33,11 @@ pub struct Answers<'s> {
 
 impl<'s> Model for Answers<'s> {
     ghost use Rattle.workspace_uri.specs.View.{roots_texts};
-    ghost use Rattle.work_files.specs.View.{files_view};
     ghost use Rattle.lsp_answers.specs.Context.{Context};
 
     ghost Value = { Context };
 
-    ghost view = { λ a. record { roots = roots_texts a.roots.now; encoding = a.encoding; files = files_view a.files.now.entries; workspace = a.snapshot.now } };
+    ghost view = { λ a. record { roots = roots_texts a.roots.now; encoding = a.encoding; files = a.files.now; workspace = a.snapshot.now } };
 }
 
 impl<'s> Answers<'s> {

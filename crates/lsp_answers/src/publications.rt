@@ -18,7 +18,7 @@ impl<'s> Answers<'s> {
         ensures { IfOk result (λ bodies. map (λ body. body.items) bodies.items ≡ map compact_text (spec.publications self.now)) }
     {
         let mut bodies = Vec::new(self.alloc);
-        for (path, file) in self.files.iter() {
+        for (path, file) in self.files.by_path().iter() {
             self.publish(&mut bodies, path.as_str(), file)?;
         }
         Ok(bodies)

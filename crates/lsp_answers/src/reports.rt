@@ -14,7 +14,8 @@ use lsp_queries::report;
 use lsp_rpc::{Diagnostic, DocumentReport};
 use proto_decls::Diag;
 use std::alloc::AllocError;
-use work_files::{self as files, FileEntry, Snapshot};
+use work_files::FileEntry;
+use work_space::Snapshot;
 
 // What is wrong in the file with a path; nothing where there is none.
 fn diagnostics_at<'s>(snapshot: &Snapshot<'s>, path: &str) -> &'s [Diag]
@@ -41,7 +42,7 @@ impl<'s> Answers<'s> {
     fn file_at(&self, path: &str) -> Option<&'s FileEntry>
         ensures { option_map (λ f. file_view f.now) result ≡ file_at path.now self.now.files }
     {
-        files::get(self.files, path)
+        self.files.get(path)
     }
 
     // The text of the file at a path; empty if it has none.

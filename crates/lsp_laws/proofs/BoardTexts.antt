@@ -11,19 +11,20 @@ use Rattle.lsp_rpc.specs.declared.method.Method.{Method}
 use Rattle.lsp_rpc.specs.declared.method.Method.TheVariants.{Exit, DidOpen, DidChange, DidSave, DidClose}
 use Rattle.work_config.specs.Configuration.{Configuration, files_of, in_root_order}
 use Rattle.work_files.specs.Files.{OpenDocument, Files, set_file, text_at, changed_file, changed_files, saved_files, closed_at, closed_files, opened_files, AreInPathOrder}
-use Rattle.work_files.specs.Texts.{TextsChangeAt, TextsChangeAtOnePath, open_document, is_open, text_event, event_at, events_at}
+use Rattle.work_files.specs.Texts.{TextsChangeAt, TextsChangeAtOnePath, open_document, is_open}
+use Rattle.work_space.specs.BoardTexts.{text_event, event_at, events_at}
 use Rattle.work_files.proofs.DocumentLemmas.{none_open}
-use Rattle.work_files.proofs.FirstEvents.{texts_of_first}
+use Rattle.work_space.proofs.FirstEvents.{texts_of_first}
 use Rattle.work_files.proofs.PathOrder.{from_disk-order}
 use Rattle.work_files.proofs.TextChanges.{by_own}
-use Rattle.lsp_session.specs.Core.{Event, Arrive, Advance, Give, Offer, Fail, messages, done, next_body, state_after, board_events, IsLegal}
-use Rattle.lsp_session.specs.Session.{State, at_path, path_of, path_in, opened, changed, running_notification, notified, received, turn_in, turn, session}
-use Rattle.lsp_session.specs.BoardEvents as on_board
-use Rattle.lsp_session.specs.declared.phase.Phase.{Phase}
-use Rattle.lsp_session.specs.declared.phase.Phase.TheVariants.{Uninitialized, Running, Shut, Exited}
-use Rattle.lsp_session.specs.declared.step.Step.TheVariants.{Begin, Finish}
-use Rattle.lsp_session.proofs.CoreLemmas.{session-none, begun-more, state-idle, state-begins, state-arrived}
-use Rattle.lsp_session.proofs.FilesLemmas.{exits-files, requested-files, session-order}
+use Rattle.lsp_core.specs.Core.{Event, Arrive, Advance, Give, Offer, Fail, messages, done, next_body, state_after, board_events, IsLegal}
+use Rattle.lsp_core.specs.Session.{State, at_path, path_of, path_in, opened, changed, running_notification, notified, received, turn_in, turn, session}
+use Rattle.lsp_core.specs.BoardEvents as on_board
+use Rattle.lsp_core.specs.declared.phase.Phase.{Phase}
+use Rattle.lsp_core.specs.declared.phase.Phase.TheVariants.{Uninitialized, Running, Shut, Exited}
+use Rattle.lsp_core.specs.declared.step.Step.TheVariants.{Begin, Finish}
+use Rattle.lsp_core.proofs.CoreLemmas.{session-none, begun-more, state-idle, state-begins, state-arrived}
+use Rattle.lsp_core.proofs.FilesLemmas.{exits-files, requested-files, session-order}
 
 module _ (o : ℕ) (law : EachEventGivesTheTexts) (one : TextsChangeAtOnePath) (events : List work.Event) where
   -- a path gets this text, or loses its text

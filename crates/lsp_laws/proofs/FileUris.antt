@@ -21,14 +21,15 @@ use Rattle.work_config.specs.Configuration.{Configuration, in_root_order}
 use Rattle.work_files.specs.Disk.{FileData}
 use Rattle.work_files.specs.Files.{OpenDocument, File, Files, empty_file, file_at, root_at, text_of, text_at, workspace, with_file, set_file, without_file, AreInPathOrder, disk_file, from_disk, opened_file, opened_at, opened_files, with_document, with_open_file, changed_file, changed_files, saved_file, saved_files, closed_at, closed_files}
 use Rattle.work_files.specs.Roots.{FoundFilesAreKept, FoundFilesStayKept, RootsAreAsBefore, RootsStay}
-use Rattle.work_files.proofs.Held.{text_in_workspace}
-use Rattle.work_files.proofs.PathOrder.{ascend-workspace, changed_files-order, closed_files-order, from_disk-order, opened_files-order, saved_files-order}
+use Rattle.work_space.proofs.Held.{text_in_workspace}
+use Rattle.work_files.proofs.PathOrder.{changed_files-order, closed_files-order, from_disk-order, opened_files-order, saved_files-order}
+use Rattle.work_space.proofs.WorkspaceOrder.{ascend-workspace}
 use Rattle.work_files.proofs.TextChanges.{file-set, file-with, file-without, file_by_bytes, same_test}
 use Rattle.lsp_answers.specs.Answers.{uri_at}
 use Rattle.lsp_answers.specs.Reports.{uri_of}
-use Rattle.lsp_session.specs.Session.{State, Run, at_path, context_of, path_of, path_in, opened, changed, running_request, first_request, requested, exits, running_notification, notified, received, turn_in, start, next, session}
-use Rattle.lsp_session.specs.declared.phase.Phase.{Phase}
-use Rattle.lsp_session.specs.declared.phase.Phase.TheVariants.{Uninitialized, Running, Shut, Exited}
+use Rattle.lsp_core.specs.Session.{State, Run, at_path, context_of, path_of, path_in, opened, changed, running_request, first_request, requested, exits, running_notification, notified, received, turn_in, start, next, session}
+use Rattle.lsp_core.specs.declared.phase.Phase.{Phase}
+use Rattle.lsp_core.specs.declared.phase.Phase.TheVariants.{Uninitialized, Running, Shut, Exited}
 use Rattle.lsp_laws.specs.DocumentLaws.{RenamesEditUnderUris, UrisDiffer}
 use Rattle.lsp_laws.specs.UriLaws.{HasOwnUri, RenamesOfASession, UrisLeadBack, UrisOfWrittenRoots, UrisStayApart}
 

@@ -4,10 +4,10 @@ use Rattle.collector_laws.specs.WorkLaws.{NoneIsOut, OnlyJobsMakePathsOut, Compl
 use Rattle.piece_collector.specs.Board.{IsComplete}
 use Rattle.piece_collector.specs.declared.verdict.Verdict.{Verdict}
 use Rattle.work_config.specs.Configuration.{Configuration}
-use Rattle.lsp_session.specs.Core.{Event, Advance, messages, processed, has_begun, board_events, IsLegal}
-use Rattle.lsp_session.specs.Run.{Message, Work, Follows, Runs, HasRun}
-use Rattle.lsp_session.specs.Session.{session}
-use Rattle.lsp_session.proofs.CoreLemmas.{there-begun, messages-steps, processed-steps, no-steps, done-all, none-out-first, none-out-steps, messages-rounds, begun-rounds, processed-rounds, worked-complete}
+use Rattle.lsp_core.specs.Core.{Event, Advance, messages, processed, has_begun, board_events, IsLegal}
+use Rattle.lsp_core.specs.Run.{Message, Work, Follows, Runs, HasRun}
+use Rattle.lsp_core.specs.Session.{session}
+use Rattle.lsp_core.proofs.CoreLemmas.{there-begun, messages-steps, processed-steps, no-steps, done-all, none-out-first, none-out-steps, messages-rounds, begun-rounds, processed-rounds, worked-complete}
 use Rattle.lsp_laws.specs.CoreLaws.{with_work}
 
 -- all messages are processed, and no job is out

@@ -5,9 +5,9 @@ use Rattle.collector_laws.specs.TextLaws.{text_after}
 use Rattle.piece_collector.specs.declared.verdict.Verdict.{Verdict}
 use Rattle.work_config.specs.Configuration.{Configuration}
 use Rattle.work_files.specs.Files.{text_at}
-use Rattle.lsp_session.specs.Core.{Event, state_after, board_events, IsLegal}
-use Rattle.lsp_session.specs.Run.{Incoming, Message, Work, HasRun}
-use Rattle.lsp_session.specs.Session.{session}
+use Rattle.lsp_core.specs.Core.{Event, state_after, board_events, IsLegal}
+use Rattle.lsp_core.specs.Run.{Incoming, Message, Work, HasRun}
+use Rattle.lsp_core.specs.Session.{session}
 
 -- whatever has happened, the board has the texts of the workspace that the messages leave that have begun
 abbrev pub BoardFollowsTheSession : Type 0

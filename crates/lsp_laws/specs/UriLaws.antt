@@ -9,7 +9,7 @@ use Rattle.work_files.specs.Disk.{FileData}
 use Rattle.work_files.specs.Files.{File, file_at}
 use Rattle.lsp_answers.specs.Answers.{DocumentPlaceData, edits_at}
 use Rattle.lsp_answers.specs.Reports.{uri_of}
-use Rattle.lsp_session.specs.Session.{State, context_of, path_of, session, start}
+use Rattle.lsp_core.specs.Session.{State, context_of, path_of, session, start}
 use Rattle.lsp_laws.specs.DocumentLaws.{EditUnderUris, UrisDiffer}
 
 -- the URI of each file leads back to the file's path

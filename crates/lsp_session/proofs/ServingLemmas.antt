@@ -24,7 +24,7 @@ use Rattle.lsp_frame.proofs.Splits.{begins_with}
 use Rattle.lsp_frame.proofs.StreamLemmas.{frames-whole, frames-end}
 use Rattle.lsp_rpc.specs.Message.{message_of}
 use Rattle.work_files.specs.Files.{workspace}
-use Rattle.work_files.specs.Texts.{StampsRunOut}
+use Rattle.work_space.specs.BoardTexts.{StampsRunOut}
 use Rattle.work_config.specs.Configuration.{Configuration, files_of}
 use Rattle.work_config.specs.Fault.{ComesWhileServing, IsOfCore, IsOfWorkers, IsWriteOrCore, serve_fault_of}
 use Rattle.work_config.specs.Sending.{SendsPrefix}
@@ -33,18 +33,19 @@ use Rattle.work_config.specs.declared.fault.CoreFault.{CoreFault}
 use Rattle.work_config.specs.declared.fault.CoreFault.TheVariants as core_fault
 use Rattle.work_config.specs.declared.fault.ServeFault.{ServeFault}
 use Rattle.work_config.specs.declared.fault.ServeFault.TheVariants as served
-use Rattle.lsp_session.specs.Core.{Event, CoreState, IsAfter, ExhaustsStamps}
-use Rattle.lsp_session.specs.Session.{State, Run, turn, turn_in, replies_of, replies_to, next, start, session}
+use Rattle.lsp_core.specs.Core.{Event, CoreState, IsAfter, ExhaustsStamps}
+use Rattle.lsp_core.specs.Session.{State, Run, turn, turn_in, replies_of, replies_to, next, start, session}
 use Rattle.lsp_session.specs.Serving.{Calls, IsCaused, Serves, Serving, Ends, Finishes, Fails, Served, Comes, exit_in, end_by}
-use Rattle.lsp_session.specs.Steps.{Knows, WorksOn, replies_after}
-use Rattle.lsp_session.specs.Stream.{IsExit, HasFrameCode, LeavesReader, Answered, frames_of, output, ended, ended_in, exit_of, is_exited, taken_from, behind_first, behind_frames, behind_exit}
+use Rattle.lsp_core.specs.Steps.{Knows, WorksOn, replies_after}
+use Rattle.lsp_core.specs.Session.{exit_of, is_exited}
+use Rattle.lsp_session.specs.Stream.{IsExit, HasFrameCode, LeavesReader, Answered, frames_of, output, ended, ended_in, taken_from, behind_first, behind_frames, behind_exit}
 use Rattle.lsp_session.specs.declared.ended.Ended.{Ended}
 use Rattle.lsp_session.specs.declared.ended.Ended.TheVariants as how
-use Rattle.lsp_session.specs.declared.phase.Phase.{Phase}
-use Rattle.lsp_session.specs.declared.phase.Phase.TheVariants.{Uninitialized, Running, Shut, Exited}
-use Rattle.lsp_session.proofs.FaultLemmas.{of_workers, not_of_workers}
-use Rattle.lsp_session.proofs.StampLemmas.{files_alone}
-use Rattle.lsp_session.proofs.CoreLemmas.{session-none, session-append, session-snoc, knows-state, knows-on}
+use Rattle.lsp_core.specs.declared.phase.Phase.{Phase}
+use Rattle.lsp_core.specs.declared.phase.Phase.TheVariants.{Uninitialized, Running, Shut, Exited}
+use Rattle.lsp_core.proofs.FaultLemmas.{of_workers, not_of_workers}
+use Rattle.lsp_core.proofs.StampLemmas.{files_alone}
+use Rattle.lsp_core.proofs.CoreLemmas.{session-none, session-append, session-snoc, knows-state, knows-on}
 
 -- the bodies of the stream are those that were taken, and those that are left
 pub came : {config : Configuration} {bytes rest : List ℕ} {core : CoreState} {v w : Option (List ℕ)} → (s : Serves config bytes rest core v w) → (frames bytes).bodies ≡ s.bodies ++ (frames rest).bodies

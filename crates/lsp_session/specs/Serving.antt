@@ -13,13 +13,14 @@ use Rattle.work_config.specs.Fault.{ComesWhileServing, NoErrorUnless}
 use Rattle.work_config.specs.Sending.{SendsPrefix}
 use Rattle.work_config.specs.declared.fault.ServeFault.{ServeFault}
 use Rattle.work_config.specs.declared.fault.ServeFault.TheVariants as fault
-use Rattle.lsp_session.specs.Core.{CoreState, ExhaustsStamps}
-use Rattle.lsp_session.specs.Session.{start, session}
-use Rattle.lsp_session.specs.Steps.{Knows}
-use Rattle.lsp_session.specs.Stream.{frames_of, output, ended, exit_of, is_exited, taken_from, behind_frames, behind_exit, IsExit, HasFrameCode, LeavesReader, Answered}
+use Rattle.lsp_core.specs.Core.{CoreState, ExhaustsStamps}
+use Rattle.lsp_core.specs.Session.{start, session}
+use Rattle.lsp_core.specs.Steps.{Knows}
+use Rattle.lsp_core.specs.Session.{exit_of, is_exited}
+use Rattle.lsp_session.specs.Stream.{frames_of, output, ended, taken_from, behind_frames, behind_exit, IsExit, HasFrameCode, LeavesReader, Answered}
 use Rattle.lsp_session.specs.declared.ended.Ended.{Ended}
 use Rattle.lsp_session.specs.declared.ended.Ended.TheVariants as how
-use Rattle.lsp_session.specs.declared.phase.Phase.{Phase}
+use Rattle.lsp_core.specs.declared.phase.Phase.{Phase}
 
 -- ---- the devices
 

@@ -1,5 +1,5 @@
 -- The session over a stream of frames: what the server writes, and how it ends.
-use Rattle.std.specs.Prelude.{◌≡◌, ℕ, zero, suc, ◌≤◌, List, [], ◌∷◌, ◌++◌, length, take, ⊤, Bool, true, if◌then◌else◌, Option, Some, None, is_some}
+use Rattle.std.specs.Prelude.{◌≡◌, ℕ, zero, suc, ◌≤◌, List, [], ◌∷◌, ◌++◌, length, take, ⊤, true, if◌then◌else◌, Option, Some, None}
 use Rattle.std.specs.List.{flat_map}
 use Rattle.std.specs.Option.{option_to_list}
 use Rattle.std.specs.Io.KnownBytes.{Appends}
@@ -11,9 +11,9 @@ use Rattle.lsp_frame.specs.declared.reader.LastAnswer.{LastAnswer}
 use Rattle.lsp_frame.specs.declared.reader.LastAnswer.TheVariants.{AtEnd, Failed}
 use Rattle.lsp_rpc.specs.Message.{message_of}
 use Rattle.work_config.specs.Configuration.{Configuration}
-use Rattle.lsp_session.specs.Session.{State, start, turn, session}
-use Rattle.lsp_session.specs.declared.phase.Phase.{Phase}
-use Rattle.lsp_session.specs.declared.phase.Phase.TheVariants.{Exited}
+use Rattle.lsp_core.specs.Session.{State, start, turn, session, is_exited}
+use Rattle.lsp_core.specs.declared.phase.Phase.{Phase}
+use Rattle.lsp_core.specs.declared.phase.Phase.TheVariants.{Exited}
 use Rattle.lsp_session.specs.declared.ended.Ended.{Ended}
 use Rattle.lsp_session.specs.declared.ended.Ended.TheVariants as how
 
@@ -33,14 +33,6 @@ ended_in _ (BadFrame fault) = how.BadFrame (code_of fault)
 -- how the session on a stream ends: by an exit, or as the stream does
 abbrev pub ended : Configuration → List ℕ → Ended
 ended config bytes = ended_in (session config (frames bytes).bodies).state.phase (frames bytes).end
-
--- whether an exit came, and if so, whether a shutdown came before it
-abbrev pub exit_of : Phase → Option Bool
-exit_of (Exited after_shutdown) = Some after_shutdown
-exit_of _ = None
-
-abbrev pub is_exited : Phase → Bool
-is_exited phase = is_some (exit_of phase)
 
 -- how many of the bodies are taken from a state on: those up to the exit, with it
 abbrev pub taken_from : State → List (List ℕ) → ℕ

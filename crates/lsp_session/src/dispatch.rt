@@ -1,49 +1,18 @@
-// Jobs go out to the workers of a pool, and what became of them comes back.
-ghost use Rattle.std.specs.Prelude.{◌≡◌, ◌<◌, ◌+◌, ℕ, List, [], ◌∷◌, ◌++◌, length, None, Err, IfOk, IfErr, OnOk};
+// The core answers messages while the workers of a pool do its jobs.
+ghost use Rattle.std.specs.Prelude.{◌≡◌, ◌<◌, ℕ, List, [], ◌∷◌, ◌++◌, length, None, Err, IfOk, IfErr, OnOk};
 ghost use Rattle.work_config.specs.Configuration.{Configuration};
-ghost use Rattle.work_config.specs.Fault.{IsOfCore, IsOfWorkers};
-ghost use Rattle.lsp_session.specs.Core.{messages, WhateverCame, ExhaustsStamps, Advances};
-ghost use Rattle.lsp_session.specs.Steps.{Knows, Awaits, WorksOn, Progresses, replies_after, unprocessed};
-ghost use Rattle.lsp_session.specs.View.{core_state, last_fault};
-ghost use Rattle.work_dispatch.specs.Dispatch.{BringsResult, HandsOut};
+ghost use Rattle.work_config.specs.Fault.{IsOfCore};
+ghost use Rattle.lsp_core.specs.Core.{messages, WhateverCame, ExhaustsStamps, Advances};
+ghost use Rattle.lsp_core.specs.Steps.{Knows, Awaits, Progresses, replies_after, unprocessed};
+ghost use Rattle.lsp_core.specs.View.{core_state, last_fault};
 
-use crate::reply::Reply;
-use crate::session_core::Core;
 use crate::threading::Threading;
+use lsp_core::{Core, Reply};
 use std::sync::Wait;
 use std::thread::Threads;
 use work_config::ServeFault;
-use work_dispatch::{bring_result, hand_out_jobs};
 use work_index::Gate;
 use work_pool::Pool;
-
-/// Hands out jobs, in the order of the paths, until no text is wanted or the pool has no room. `Memory` if memory is refused or a
-/// job can't be sent. The core doesn't keep such a fault: the session ends with it.
-pub fn hand_out<R: Wait>(rt: &R, core: &mut Core, pool: &mut Pool) -> Result<(), ServeFault>
-    ensures hands { OnOk result (HandsOut (core_state core.old).board (core_state core.new).board pool.old.sent pool.new.sent) }
-    ensures works { OnOk result (WhateverCame (core_state core.old) (λ opening config h. WorksOn opening config (core_state core.new) h)) }
-    ensures state { (core_state core.new).state ≡ (core_state core.old).state }
-    ensures waits { unprocessed (core_state core.new) ≡ unprocessed (core_state core.old) }
-    ensures fault { last_fault core.new ≡ last_fault core.old }
-    ensures workers { IfErr result IsOfWorkers }
-{
-    hand_out_jobs(rt, &mut core.workspace, pool)?;
-    Ok(())
-}
-
-// Waits for what becomes of a job, and brings it, which is done only while a message isn't processed. `Memory` if the job failed because
-// memory ran out, unless its text no longer counts; `ThreadRefused` if nothing can come, since no job is out or no worker is left.
-fn take_result<R: Wait>(rt: &R, core: &mut Core, pool: &mut Pool) -> Result<(), ServeFault>
-    requires { 0 < unprocessed (core_state core.old) }
-    ensures brings { OnOk result (BringsResult (core_state core.old).board (core_state core.new).board pool.old.sent pool.new.sent) }
-    ensures received { OnOk result (pool.old.out ≡ pool.new.out + 1) }
-    ensures works { OnOk result (WhateverCame (core_state core.old) (λ opening config h. WorksOn opening config (core_state core.new) h)) }
-    ensures fault { last_fault core.new ≡ last_fault core.old }
-    ensures workers { IfErr result IsOfWorkers }
-{
-    bring_result(rt, &mut core.workspace, pool)?;
-    Ok(())
-}
 
 // Lets the core process what it can.
 fn advance<R: Threads + Wait, G: Gate>(
@@ -73,8 +42,8 @@ fn work_on<R: Threads + Wait, G: Gate>(
     ensures stamps { last_fault core.old ≡ None → result ≡ Err ServeFault.Exhausted → (config : Configuration) (bodies : List (List ℕ)) (body : List ℕ) → Awaits config (core_state core.old) bodies body → ExhaustsStamps 0 config (length (bodies ++ body ∷ [])) }
     ensures open { OnOk result (last_fault core.new ≡ None) }
 {
-    hand_out(threading.rt, core, pool)?;
-    take_result(threading.rt, core, pool)?;
+    core.hand_out(threading.rt, pool)?;
+    core.take_result(threading.rt, pool)?;
     advance(threading, core)
 }
 

@@ -7,17 +7,17 @@ ghost use Rattle.lsp_frame.specs.Reading.{TakesFrame};
 ghost use Rattle.work_config.specs.Configuration.{Configuration};
 ghost use Rattle.work_config.specs.Fault.{IsWriteOrCore};
 ghost use Rattle.work_config.specs.Sending.{SendsPrefix};
-ghost use Rattle.lsp_session.specs.Core.{ExhaustsStamps};
+ghost use Rattle.lsp_core.specs.Core.{ExhaustsStamps};
 ghost use Rattle.lsp_session.specs.Serving.{Calls, IsCaused, Serving, Comes, exit_in, end_by};
-ghost use Rattle.lsp_session.specs.Steps.{Knows, replies_after};
-ghost use Rattle.lsp_session.specs.Stream.{frames_of, is_exited};
-ghost use Rattle.lsp_session.specs.View.{core_state, last_fault};
+ghost use Rattle.lsp_core.specs.Steps.{Knows, replies_after};
+ghost use Rattle.lsp_core.specs.Session.{is_exited};
+ghost use Rattle.lsp_session.specs.Stream.{frames_of};
+ghost use Rattle.lsp_core.specs.View.{core_state, last_fault};
 
-use crate::dispatch::{answer, hand_out};
+use crate::dispatch::answer;
 use crate::ended::Ended;
-use crate::reply::Reply;
-use crate::session_core::Core;
 use crate::threading::Threading;
+use lsp_core::{Core, Reply};
 use lsp_frame::{ByteSink, ByteSource, Frame, FrameFault, FrameReader, write_frame};
 use std::sync::Wait;
 use std::thread::Threads;
@@ -147,7 +147,7 @@ pub fn take_turn<R: Threads + Wait, S: ByteSource, K: ByteSink, G: Gate>(
     ensures goes_on { result ≡ Ok None → IsOpen reader.new }
     ensures open { last_fault core.old ≡ None → OnOk result (last_fault core.new ≡ None) }
 {
-    match hand_out(threading.rt, core, pool) {
+    match core.hand_out(threading.rt, pool) {
         Ok(()) => take_next(threading, reader, writer, core, pool),
         Err(fault) => Err(fault),
     }

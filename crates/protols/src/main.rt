@@ -2,21 +2,15 @@
 //! `protols check` lists what is wrong in folders of files.
 #![tactic(auto)]
 
-mod failure;
-mod folders;
-mod named_files;
 mod status;
-mod summary;
 
-use crate::failure::Failure;
-use crate::folders::{check_of, configuration};
 use crate::status::{fail, status_of, status_of_check};
-use crate::summary::tell_summary;
 use lsp_frame::{FrameReader, FromRead, ToWrite};
 use lsp_session::{Config, Ended, OpenGate, ServeFault, serve};
 use program_folder::FolderReader;
 use program_options::options;
 use program_options::words::Options;
+use program_start::{Failure, check_of, configuration, tell_summary};
 use std::alloc::{AllocError, Global};
 use std::env::{self, Args, Env};
 use std::io::{self, BufReader, ErrorKind};

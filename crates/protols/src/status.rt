@@ -1,9 +1,9 @@
 // The status that the program ends with, and what it says on standard error. A standard error that is closed changes nothing
 // of the status.
 
-use crate::failure::{Failure, FileFault};
 use lsp_session::Ended;
 use program_folder::FolderFault;
+use program_start::{Failure, FileFault};
 use std::process::ExitCode;
 
 // Says which fault it was.

@@ -2,7 +2,7 @@
 use denote.Param.Send.{IsSync, sendable, struct_sync}
 use denote.Struct.Declared.{shape}
 use Rattle.std.proofs.Crossing.{crosses}
-use Rattle.work_files.proofs.Crossing.{diagnosed_sync}
+use Rattle.work_space.proofs.Crossing.{diagnosed_sync}
 use Rattle.work_check.specs.contracts.listed.Listed as Listed
 use Rattle.work_check.proofs.wanted.Listing.TheSendSync as Wanted
 

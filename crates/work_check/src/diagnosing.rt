@@ -4,7 +4,7 @@ ghost use Rattle.piece_collector.specs.Board.{IsFull};
 ghost use Rattle.work_config.specs.Configuration.{files_of};
 ghost use Rattle.work_config.specs.Fault.{IsOfWorkers};
 ghost use Rattle.work_files.specs.Files as texts;
-ghost use Rattle.work_files.specs.View.{file_view, files_view};
+ghost use Rattle.work_files.specs.View.{file_view};
 ghost use Rattle.work_files.specs.Files.{text_of};
 ghost use Rattle.work_check.specs.Listing.{root_of_text, file_roots};
 
@@ -14,9 +14,10 @@ use std::sync::{Arc, Wait};
 use std::thread::Threads;
 use work_config::{Config, CoreFault, ServeFault};
 use work_dispatch::{bring_result, hand_out_jobs};
-use work_files::{DiagnosedFiles, FileEntry, Files, Workspace};
+use work_files::{FileEntry, Files};
 use work_index::{FileWork, Gate};
 use work_pool::{Pool, PoolFault};
+use work_space::{DiagnosedFiles, Workspace};
 
 // The workspace of the files of a configuration, on which no work is done yet.
 fn start_workspace(alloc: Global, config: Config) -> Result<Workspace, ServeFault>
@@ -92,10 +93,10 @@ fn add_root(roots: &mut Vec<Option<usize>>, file: &FileEntry) -> Result<(), Allo
 
 // The number of the root under which each file that has a text was found.
 fn roots_of(alloc: Global, files: &Files) -> Result<Vec<Option<usize>>, AllocError>
-    ensures { IfOk result (λ roots. roots.items ≡ file_roots (files_view files.now.entries)) }
+    ensures { IfOk result (λ roots. roots.items ≡ file_roots files.now) }
 {
-    let mut roots = Vec::with_capacity(alloc, files.len())?;
-    for (path, file) in files.iter() {
+    let mut roots = Vec::with_capacity(alloc, files.by_path().len())?;
+    for (path, file) in files.by_path().iter() {
         add_root(&mut roots, file)?;
     }
     Ok(roots)

@@ -7,7 +7,7 @@ use crate::wanted::{Checked, Listing};
 use check_lines::{ListedFile, is_error_message};
 use proto_decls::{Diag, Name};
 use std::alloc::{AllocError, Global};
-use work_files::DiagnosedFiles;
+use work_space::DiagnosedFiles;
 
 // The files of a check with what is wrong in them, the number of the root of each, and what is asked for.
 #[derive(Drop)]

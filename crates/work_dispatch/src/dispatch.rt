@@ -7,9 +7,9 @@ ghost use Rattle.work_dispatch.specs.Dispatch.{event_of, IsCountedFailure, Sends
 
 use piece_collector::Verdict;
 use std::sync::Wait;
-use work_files::Workspace;
 use work_index::Done;
 use work_pool::{Pool, PoolFault};
+use work_space::Workspace;
 
 // Hands out the next job, and says whether there was one.
 fn hand_out_next<R: Wait>(

@@ -1,5 +1,6 @@
 -- The map of the files beside the list that it stands for.
-use Rattle.std.proofs.Common.{◌≡◌, ℕ, List, [], ◌∷◌, ◌++◌, Bool, true, false, ◌&&◌, cond, Option, Some, None, is_some, is_none, option_map, String, Global, MutBor, string_bytes, string_cmp, nat_cmp, Ordering, Less, Equal, Greater, refl, sym, ap, ◌∙◌, Bor}
+use Rattle.std.proofs.Common.{◌≡◌, ℕ, List, [], ◌∷◌, ◌++◌, Bool, true, false, ◌&&◌, cond, Option, Some, None, is_some, is_none, option_map, Result, Ok, Err, String, Global, MutBor, string_bytes, string_cmp, nat_cmp, Ordering, Less, Equal, Greater, refl, sym, ap, ◌∙◌, Bor}
+use Rattle.std.specs.Prelude.{OnOk, OnErr}
 use Rattle.std.specs.Option.{option_copied, option_copied_mut}
 use Rattle.std.specs.Ordering.{match_ordering}
 use Rattle.std.specs.Cmp.Lexicographic.{slice_cmp}
@@ -10,7 +11,7 @@ use Rattle.work_files.specs.Disk.{FileData}
 use Rattle.work_files.specs.Files.{OpenDocument, File, Files, file_at, disk_file, with_disk_files, with_file, set_file, without_file, opened_file, opened_at, opened_files, with_document, with_open_file, closed_at, closed_files}
 use Rattle.work_files.specs.Steps.{with_new_document, with_document_at, with_new_kept, with_kept_at, leaves, with_none_open}
 use Rattle.work_files.specs.View.{file_view, entry_view, files_view}
-use Rattle.work_files.specs.declared.files.FileEntry.{FileEntry}
+use Rattle.work_files.specs.declared.entry.FileEntry.{FileEntry}
 
 abbrev Entries : Type 0
 Entries = List (String Global × FileEntry)
@@ -141,3 +142,13 @@ stayed path files middle (Some f) found e is = is ∙ stayed-file path files f f
 pub with_one_more : (fs : List FileData) (f : FileData) (files : Files) → with_disk_files (fs ++ f ∷ []) files ≡ with_disk_files fs (with_file f.path (disk_file f.root f.text) files)
 with_one_more [] f files = refl
 with_one_more (g ∷ fs) f files = ap (with_file g.path (disk_file g.root g.text)) (with_one_more fs f files)
+
+-- ---- what an answer says
+
+pub none_of : {A B : Type 0} (f : A → B) (r : Option A) (o : Option B) → option_map f r ≡ o → is_some r ≡ false → o ≡ None
+none_of f None o is none = sym is
+none_of f (Some x) o is none = cc
+
+pub either : {A E X Y P : Type 0} (r : Result A E) → OnOk r X → OnErr r Y → (X → P) → (Y → P) → P
+either (Ok x) ok err one two = one ok
+either (Err e) ok err one two = two err

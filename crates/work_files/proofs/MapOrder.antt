@@ -9,7 +9,7 @@ use Rattle.std.specs.declared.cmp.Ordering.TheVariants.{Less}
 use Rattle.std.proofs.Common.{◌≡◌}
 use Rattle.work_files.specs.Files.{AreInPathOrder}
 use Rattle.work_files.specs.View.{files_view}
-use Rattle.work_files.specs.declared.files.FileEntry.{FileEntry}
+use Rattle.work_files.specs.declared.entry.FileEntry.{FileEntry}
 use Rattle.work_files.proofs.PathOrder.{AreBehind}
 
 are_behind : (k : String Global) (es : List (String Global × FileEntry)) → AllByRecursion (λ q. string_cmp k q ≡ Less) (keys_of es) → AreBehind (string_bytes k) (keys_of (files_view es))

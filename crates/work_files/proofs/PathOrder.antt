@@ -1,6 +1,6 @@
 -- Files whose paths ascend: what is done to them keeps the order, and no path comes twice.
-use Rattle.std.proofs.Common.{◌≡◌, ℕ, ℤ, List, [], ◌∷◌, Bool, true, false, cond, Option, Some, None, option_map, map, nat_cmp, Ordering, Less, Equal, Greater, refl, sym, ap, subst, ◌∙◌}
-use Rattle.std.specs.List.{AllByRecursion, cons_option}
+use Rattle.std.proofs.Common.{◌≡◌, ℕ, ℤ, List, [], ◌∷◌, Bool, true, false, cond, Option, Some, None, nat_cmp, Ordering, Less, Equal, Greater, refl, sym, ap, subst, ◌∙◌}
+use Rattle.std.specs.List.{AllByRecursion}
 use Rattle.std.specs.List.Sorted.{IsStrictlySortedBy}
 use Rattle.std.specs.Ordering.{match_ordering, ordering_reverse}
 use Rattle.std.specs.Cmp.Lexicographic.{slice_cmp}
@@ -8,13 +8,19 @@ use Rattle.std.specs.Map.{keys_of}
 use Rattle.std.specs.BTreeMap.{is_at}
 use Rattle.std.proofs.lemmas.Cmp.{nat_list_cmp_total}
 use Rattle.std.proofs.lemmas.Map.{keys-set_value}
-use Rattle.work_index.specs.Updates.{IsInOrder}
-use Rattle.work_index.specs.Workspace.{Workspace}
-pub use Rattle.work_index.proofs.ByPath.{AreBehind, behind-later, paths}
 use Rattle.doc_text.specs.Edits.{ChangeData}
 use Rattle.doc_text.specs.declared.encoding.Encoding.{Encoding}
 use Rattle.work_files.specs.Disk.{FileData}
-use Rattle.work_files.specs.Files.{OpenDocument, File, Files, empty_file, file_at, with_file, set_file, without_file, text_of, workspace, are_apart, AreInPathOrder, disk_file, with_disk_files, from_disk, opened_file, opened_at, opened_files, with_document, with_open_file, changed_file, changed_files, saved_file, saved_files, closed_at, closed_files}
+use Rattle.work_files.specs.Files.{OpenDocument, File, Files, empty_file, file_at, with_file, set_file, without_file, are_apart, AreInPathOrder, disk_file, with_disk_files, from_disk, opened_file, opened_at, opened_files, with_document, with_open_file, changed_file, changed_files, saved_file, saved_files, closed_at, closed_files}
+
+-- each of some paths comes after this one
+abbrev pub AreBehind : List ℕ → List (List ℕ) → Type 0
+AreBehind p paths = AllByRecursion (λ q. slice_cmp nat_cmp p q ≡ Less) paths
+
+-- what comes after a path comes after each one before it
+behind-later : (p q : List ℕ) (paths : List (List ℕ)) → slice_cmp nat_cmp p q ≡ Less → AreBehind q paths → AreBehind p paths
+behind-later p q [] less all = tt
+behind-later p q (r ∷ paths) less all = (nat_list_cmp_total.trans p q r less all.0, behind-later p q paths less all.1)
 
 -- ---- a file put in its place
 
@@ -115,30 +121,3 @@ closed_at-order path files f (Some kept) order = set_file-order path (record f {
 
 pub closed_files-order : (path : List ℕ) (files : Files) → AreInPathOrder files → AreInPathOrder (closed_files path files)
 closed_files-order path files order = with_open_file-order (λ f d. closed_at path files f f.kept) files order (λ f d. closed_at-order path files f f.kept order) (file_at path files)
-
--- ---- the workspace
-
-abbrev pub Ascend : Workspace → Type 0
-Ascend w = IsInOrder w
-
--- the files with one more in front, if it has a text
-abbrev with_first : List ℕ → Option (List ℕ) → Workspace → Workspace
-with_first path text w = cons_option (option_map (λ t. (path, t)) text) w
-
-behind-with_first : (p path : List ℕ) (text : Option (List ℕ)) (w : Workspace) → slice_cmp nat_cmp p path ≡ Less → AreBehind p (paths w) → AreBehind p (paths (with_first path text w))
-behind-with_first p path None w less all = all
-behind-with_first p path (Some t) w less all = (less, all)
-
-behind-workspace : (p : List ℕ) (files : Files) → AreBehind p (keys_of files) → AreBehind p (paths (workspace files))
-behind-workspace p [] all = tt
-behind-workspace p (e ∷ es) all = behind-with_first p e.0 (text_of e.1) (workspace es) all.0 (behind-workspace p es all.1)
-
-ascend-with_first : (path : List ℕ) (text : Option (List ℕ)) (w : Workspace) → AreBehind path (paths w) → Ascend w → Ascend (with_first path text w)
-unfolding IsStrictlySortedBy
-ascend-with_first path None w behind rest = rest
-ascend-with_first path (Some t) w behind rest = (behind, rest)
-
-pub ascend-workspace : (files : Files) → AreInPathOrder files → Ascend (workspace files)
-unfolding IsStrictlySortedBy
-ascend-workspace [] order = tt
-ascend-workspace (e ∷ es) order = ascend-with_first e.0 (text_of e.1) (workspace es) (behind-workspace e.0 es order.0) (ascend-workspace es order.1)

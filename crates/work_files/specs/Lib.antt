@@ -4,4 +4,3 @@ pub mod View
 pub mod Steps
 pub mod Texts
 pub mod Roots
-pub mod Kept

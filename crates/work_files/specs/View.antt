@@ -1,12 +1,9 @@
 -- What is kept of files, as their definitions see it.
-use Rattle.std.specs.Prelude.{ℕ, Bool, List, option_map, map, String, string_bytes}
-use Rattle.std.specs.List.{zip}
+use Rattle.std.specs.Prelude.{ℕ, List, option_map, map, String, string_bytes}
 use Rattle.std.specs.declared.alloc.Global.{Global}
-use Rattle.piece_collector.specs.Views.{BoardView}
-use Rattle.work_index.specs.Workspace.{Workspace, DiagnosisData}
 use Rattle.work_files.specs.Files.{OpenDocument, File, Files}
-use Rattle.work_files.specs.declared.files.Document.{Document}
-use Rattle.work_files.specs.declared.files.FileEntry.{FileEntry}
+use Rattle.work_files.specs.declared.document.Document.{Document}
+use Rattle.work_files.specs.declared.entry.FileEntry.{FileEntry}
 
 abbrev pub document_view : Document → OpenDocument
 document_view d = record { version = d.version; text = d.text }
@@ -19,13 +16,3 @@ entry_view e = (string_bytes e.0, file_view e.1)
 
 abbrev pub files_view : List (String Global × FileEntry) → Files
 files_view es = map entry_view es
-
--- the files of a workspace, the board of their texts, and whether an analysis of the files as they are is known
-pub record WorkspaceData : Type 0 where
-  pub files : Files
-  pub board : BoardView
-  pub is_current : Bool
-
--- the files of a diagnosis, each with its text
-abbrev pub diagnosed_files : DiagnosisData → Workspace
-diagnosed_files d = zip d.paths d.texts

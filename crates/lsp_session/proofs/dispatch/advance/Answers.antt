@@ -1,6 +1,6 @@
 use Rattle.std.proofs.Common.{◌≡◌, Err, sym, ap, ◌∙◌}
 use Rattle.work_config.specs.declared.fault.ServeFault.TheVariants as served
-use Rattle.lsp_session.proofs.FaultLemmas.{of_served}
+use Rattle.lsp_core.proofs.FaultLemmas.{of_served}
 use Rattle.lsp_session.proofs.dispatch.advance.Goals as goal
 
 pub returns-in-Err-clause-stamps : goal.returns-in-Err-clause-stamps

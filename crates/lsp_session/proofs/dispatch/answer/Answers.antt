@@ -1,8 +1,8 @@
 use Rattle.std.proofs.Common.{true≢false, Err, sym, ap, ◌∙◌, rules}
-use Rattle.work_files.proofs.FirstEvents.{refused_with}
+use Rattle.work_space.proofs.FirstEvents.{refused_with}
 use Rattle.work_config.specs.declared.fault.ServeFault.TheVariants as served
-use Rattle.lsp_session.specs.View.{core_state}
-use Rattle.lsp_session.proofs.CoreLemmas.{if_ok, has-answered, still-awaits}
+use Rattle.lsp_core.specs.View.{core_state}
+use Rattle.lsp_core.proofs.CoreLemmas.{if_ok, has-answered, still-awaits}
 use Rattle.lsp_session.proofs.dispatch.answer.Goals as goal
 
 pub returns-then-not-waits-clause-answers : goal.returns-then-not-waits-clause-answers

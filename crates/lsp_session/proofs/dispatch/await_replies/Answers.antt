@@ -1,6 +1,6 @@
 use Rattle.std.proofs.Common.{true≢false, sym, ◌∙◌, rules}
-use Rattle.lsp_session.specs.View.{core_state}
-use Rattle.lsp_session.proofs.CoreLemmas.{has-answered, still-awaits}
+use Rattle.lsp_core.specs.View.{core_state}
+use Rattle.lsp_core.proofs.CoreLemmas.{has-answered, still-awaits}
 use Rattle.lsp_session.proofs.dispatch.await_replies.Goals as goal
 
 pub returns-then-not-waits-clause-answers : goal.returns-then-not-waits-clause-answers

@@ -1,7 +1,7 @@
 use Rattle.std.proofs.Common.{◌≡◌, ◌<◌, ℕ, List, None}
 use Rattle.work_config.specs.Configuration.{Configuration}
-use Rattle.lsp_session.specs.Steps.{Awaits, unprocessed}
-use Rattle.lsp_session.specs.View.{core_state, last_fault}
+use Rattle.lsp_core.specs.Steps.{Awaits, unprocessed}
+use Rattle.lsp_core.specs.View.{core_state, last_fault}
 use Rattle.lsp_session.proofs.dispatch.await_replies.Given as goal
 
 -- what it awaited it still awaits, a message waits, and no fault was answered

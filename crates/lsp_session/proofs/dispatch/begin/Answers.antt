@@ -1,7 +1,7 @@
 use Rattle.std.proofs.Common.{◌∷◌, ◌++◌, [], length, subst}
-use Rattle.lsp_session.specs.Core.{Arrive, ExhaustsStamps}
-use Rattle.lsp_session.specs.View.{core_state}
-use Rattle.lsp_session.proofs.CoreLemmas.{if_ok, awaits-message, progresses}
+use Rattle.lsp_core.specs.Core.{Arrive, ExhaustsStamps}
+use Rattle.lsp_core.specs.View.{core_state}
+use Rattle.lsp_core.proofs.CoreLemmas.{if_ok, awaits-message, progresses}
 use Rattle.lsp_session.proofs.dispatch.begin.Goals as goal
 
 pub returns-in-Ok-clause-progress : goal.returns-in-Ok-clause-progress

@@ -1,17 +1,17 @@
 use Rattle.std.proofs.Common.{◌<◌, length, subst, sym, ◌∙◌}
-use Rattle.work_files.proofs.FirstEvents.{refused_with}
+use Rattle.work_space.proofs.FirstEvents.{refused_with}
 use Rattle.work_config.specs.declared.fault.ServeFault.TheVariants as served
-use Rattle.lsp_session.specs.Core.{ExhaustsStamps}
-use Rattle.lsp_session.proofs.FaultLemmas.{not_of_workers}
-use Rattle.lsp_session.specs.View.{core_state}
-use Rattle.lsp_session.proofs.CoreLemmas.{if_ok, awaits-on, progresses}
+use Rattle.lsp_core.specs.Core.{ExhaustsStamps}
+use Rattle.lsp_core.proofs.FaultLemmas.{not_of_workers}
+use Rattle.lsp_core.specs.View.{core_state}
+use Rattle.lsp_core.proofs.CoreLemmas.{if_ok, awaits-on, progresses}
 use Rattle.lsp_session.proofs.dispatch.work_on.Goals as goal
 
 pub returns-clause-progress : goal.returns-clause-progress
 returns-clause-progress g c = if_ok c.advance.result c.advance.ensures.advances (λ replies advances config bodies body w.
     let old = core_state c.args.core.now in
-    let handed = core_state c.hand_out.new.core in
-    let took = core_state c.take_result.new.core in
+    let handed = core_state c.hand_out.new.self in
+    let took = core_state c.take_result.new.self in
     let still = awaits-on config old handed bodies body w (c.in_ok-hand_out.ensures.works 0 config) in
     progresses config took (core_state c.advance.new.core) bodies body replies.items (awaits-on config handed took bodies body still (c.in_ok-take_result.ensures.works 0 config)) (advances 0 config))
 
@@ -30,8 +30,8 @@ returns-in_err-take_result-clause-stamps g c = λ free out.
 pub returns-clause-stamps : goal.returns-clause-stamps
 returns-clause-stamps g c = λ free out config bodies body w.
     let old = core_state c.args.core.now in
-    let handed = core_state c.hand_out.new.core in
-    let took = core_state c.take_result.new.core in
+    let handed = core_state c.hand_out.new.self in
+    let took = core_state c.take_result.new.self in
     let still = awaits-on config old handed bodies body w (c.in_ok-hand_out.ensures.works 0 config) in
     let now = awaits-on config handed took bodies body still (c.in_ok-take_result.ensures.works 0 config) in
     subst (λ bs. ExhaustsStamps 0 config (length bs)) now.came (c.advance.ensures.stamps (c.take_result.ensures.fault ∙ c.hand_out.ensures.fault ∙ free) out 0 config now.history now.is_after)

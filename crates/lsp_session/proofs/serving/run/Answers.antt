@@ -1,8 +1,8 @@
 use Rattle.std.proofs.Common.{Err, ap}
 use Rattle.lsp_frame.specs.FrameReader.{source_of}
-use Rattle.lsp_session.specs.View.{core_state}
-use Rattle.lsp_session.proofs.CoreLemmas.{knows-none}
-use Rattle.lsp_session.proofs.FaultLemmas.{of_served, of_workers, not_of_workers}
+use Rattle.lsp_core.specs.View.{core_state}
+use Rattle.lsp_core.proofs.CoreLemmas.{knows-none}
+use Rattle.lsp_core.proofs.FaultLemmas.{of_served, of_workers, not_of_workers}
 use Rattle.lsp_session.proofs.ServingLemmas.{of_core, fails_at_start, core_caused, no_calls}
 use Rattle.lsp_session.proofs.serving.run.Goals as goal
 

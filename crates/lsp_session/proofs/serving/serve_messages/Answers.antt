@@ -1,9 +1,9 @@
 use Rattle.std.proofs.Common.{Ok, refl, ap, ◌∙◌}
 use Rattle.lsp_frame.specs.FrameReader.{source_of}
 use Rattle.lsp_frame.proofs.CountsLemmas.{NoneFell-refl, NoneFell-trans}
-use Rattle.lsp_session.specs.Stream.{is_exited}
-use Rattle.lsp_session.specs.View.{core_state}
-use Rattle.lsp_session.proofs.CoreLemmas.{session-none, knows-state}
+use Rattle.lsp_core.specs.Session.{is_exited}
+use Rattle.lsp_core.specs.View.{core_state}
+use Rattle.lsp_core.proofs.CoreLemmas.{session-none, knows-state}
 use Rattle.lsp_session.proofs.ServingLemmas.{serving-start, more_calls, good_calls, bad_calls, more_cause}
 use Rattle.lsp_session.proofs.serving.serve_messages.Goals as goal
 

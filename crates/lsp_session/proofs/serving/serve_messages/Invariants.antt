@@ -3,9 +3,9 @@ use Rattle.lsp_frame.specs.Counts.{NoneFell, NoError}
 use Rattle.lsp_frame.specs.FrameReader.{source_of, IsOpen}
 use Rattle.work_config.specs.Configuration.{Configuration}
 use Rattle.lsp_session.specs.Serving.{Serving}
-use Rattle.lsp_session.specs.Steps.{Knows}
-use Rattle.lsp_session.specs.Stream.{is_exited}
-use Rattle.lsp_session.specs.View.{core_state, last_fault}
+use Rattle.lsp_core.specs.Steps.{Knows}
+use Rattle.lsp_core.specs.Session.{is_exited}
+use Rattle.lsp_core.specs.View.{core_state, last_fault}
 use Rattle.lsp_session.proofs.serving.serve_messages.Given as goal
 
 -- the stream is served so far, without an error of a device, and goes on

@@ -1,4 +1,4 @@
-use Rattle.lsp_session.proofs.FaultLemmas.{of_pool}
+use Rattle.lsp_core.proofs.FaultLemmas.{of_pool}
 use Rattle.lsp_session.proofs.serving.start_pool.Goals as goal
 
 pub returns-in-Err : goal.returns-in-Err

@@ -1,6 +1,6 @@
 use Rattle.std.proofs.Common.{◌≡◌, Err, ap}
 use Rattle.work_config.specs.declared.fault.ServeFault.TheVariants as served
-use Rattle.lsp_session.proofs.FaultLemmas.{not_of_writer}
+use Rattle.lsp_core.proofs.FaultLemmas.{not_of_writer}
 use Rattle.lsp_session.proofs.ServingLemmas.{of_core_or_write}
 use Rattle.lsp_session.proofs.taking.reply_to.Goals as goal
 

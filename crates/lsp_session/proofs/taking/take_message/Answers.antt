@@ -1,5 +1,5 @@
 use Rattle.std.proofs.Common.{Err, ap}
-use Rattle.lsp_session.specs.View.{core_state}
+use Rattle.lsp_core.specs.View.{core_state}
 use Rattle.lsp_session.proofs.ServingLemmas.{serving-more, stops_within, loses_message, message_comes, message_fails, exhausts_message, good_calls, bad_calls}
 use Rattle.lsp_session.proofs.taking.take_message.Goals as goal
 

@@ -1,6 +1,6 @@
 use Rattle.std.proofs.Common.{sym, ◌∙◌}
 use Rattle.lsp_frame.specs.FrameReader.{source_of}
-use Rattle.lsp_session.specs.View.{core_state}
+use Rattle.lsp_core.specs.View.{core_state}
 use Rattle.lsp_session.proofs.ServingLemmas.{input_ends, fault_comes, fault_calls, fault_cause, message_caused, ends_by-not, calm_calls, no_calls}
 use Rattle.lsp_session.proofs.taking.take_next.Goals as goal
 

@@ -1,14 +1,14 @@
 use Rattle.lsp_frame.specs.FrameReader.{source_of}
-use Rattle.lsp_session.specs.View.{core_state}
-use Rattle.lsp_session.proofs.FaultLemmas.{of_workers}
+use Rattle.lsp_core.specs.View.{core_state}
+use Rattle.lsp_core.proofs.FaultLemmas.{of_workers}
 use Rattle.lsp_session.proofs.ServingLemmas.{serving-on, fails_between, core_caused, no_calls}
 use Rattle.std.proofs.Common.{◌∙◌, ap}
-use Rattle.lsp_session.specs.Stream.{is_exited}
+use Rattle.lsp_core.specs.Session.{is_exited}
 use Rattle.lsp_session.proofs.taking.take_turn.Goals as goal
 
 pub returns-in-Ok-clause-comes : goal.returns-in-Ok-clause-comes
 returns-in-Ok-clause-comes g c = λ config a v so_far not_exited free.
-    c.take_next.ensures.comes config a v (serving-on config a (g.S.ByteSource.left (source_of c.args.reader.now)) v (g.K.ByteSink.written c.args.writer.now) (core_state c.args.core.now) (core_state c.hand_out.new.core) so_far c.hand_out.ensures.state (c.in-Ok.ensures.works 0 config))
+    c.take_next.ensures.comes config a v (serving-on config a (g.S.ByteSource.left (source_of c.args.reader.now)) v (g.K.ByteSink.written c.args.writer.now) (core_state c.args.core.now) (core_state c.hand_out.new.self) so_far c.hand_out.ensures.state (c.in-Ok.ensures.works 0 config))
     (ap (λ s. is_exited s.phase) c.hand_out.ensures.state ∙ not_exited) (c.hand_out.ensures.fault ∙ free)
 
 pub returns-in-Err-clause-comes : goal.returns-in-Err-clause-comes

@@ -5,4 +5,4 @@ use Rattle.work_check.proofs.diagnosing.roots_of.Given as goal
 
 -- the roots of some files are there, and those of the others are left
 abbrev pub invariant-loop-path : goal.invariant-loop-path
-invariant-loop-path l = file_roots (files_view l.files.entries) ≡ l.roots.items ++ file_roots (files_view l.path-iterator)
+invariant-loop-path l = file_roots l.files ≡ l.roots.items ++ file_roots (files_view l.path-iterator)

@@ -1,0 +1,7 @@
+use Rattle.std.proofs.Common.{refl}
+use Rattle.lsp_core.specs.Session.{context_of, session}
+use Rattle.lsp_core.proofs.FilesLemmas.{session-order}
+use Rattle.lsp_core.proofs.laws.reports_agree.Goals as goal
+
+pub returns : goal.returns
+returns c = λ config bodies. c.reports_agree_with_documents.ensures (context_of (session config bodies).state) (session-order config bodies) refl

@@ -1,0 +1,30 @@
+//! What a session with an editor keeps, and what it replies (Language Server Protocol 3.17), without streams and threads.
+//!
+//! A [`Core`] takes the bodies of messages and gives the bodies of replies. It gives a [`Job`] for each text, and takes what is made of it in any order.
+//! Requests about files wait until all work is there, and so does each notification after which diagnostics are published, to an editor that doesn't ask
+//! for them. [`run_core`] runs a core over a list of messages and of work that is brought.
+#![tactic(auto)]
+
+mod documents;
+mod laws;
+mod pending;
+mod phase;
+mod questions;
+mod reply;
+mod run;
+mod session;
+mod session_core;
+mod step;
+mod working;
+
+pub use laws::{
+    client_stays, documents_are_of_the_workspace, files_are_in_path_order, publications_agree,
+    reports_agree,
+};
+pub use lsp_answers::reports_agree_with_documents;
+pub use piece_collector::{Job, Piece, Verdict};
+pub use reply::Reply;
+pub use run::{CoreEvent, CoreRun, run_core};
+pub use session_core::Core;
+pub use work_config::{Config, CoreFault, DiskFile};
+pub use work_index::{Done, FileWork, Gate, OpenGate};

@@ -1,7 +1,0 @@
-use Rattle.std.proofs.Common.{refl}
-use Rattle.lsp_session.specs.Session.{context_of, session}
-use Rattle.lsp_session.proofs.FilesLemmas.{session-order}
-use Rattle.lsp_session.proofs.laws.reports_agree.Goals as goal
-
-pub returns : goal.returns
-returns c = λ config bodies. c.reports_agree_with_documents.ensures (context_of (session config bodies).state) (session-order config bodies) refl

@@ -1,0 +1,40 @@
+use Rattle.std.proofs.Common.{◌≡◌, ◌∙◌, Option, sym, subst, true}
+use Rattle.work_files.specs.Files.{AreInPathOrder, closed_files}
+use Rattle.work_space.specs.Kept.{IsKept}
+use Rattle.piece_collector.specs.Board.{Records}
+use Rattle.work_files.specs.Texts.{TextsChangeAt, is_open}
+use Rattle.work_space.specs.BoardTexts.{events_at}
+use Rattle.work_space.specs.View.{WorkspaceData}
+use Rattle.work_space.specs.declared.last_analysis.LastAnalysis.{LastAnalysis}
+use Rattle.work_space.proofs.Keeps.{keeps, close-texts, some_open, event_open}
+use Rattle.work_files.proofs.PathOrder.{closed_files-order}
+use Rattle.work_files.proofs.TextChanges.{own}
+use Rattle.work_space.proofs.workspace.Workspace.close.Goals as goal
+
+pub invariant_of-self-2 : goal.invariant_of-self-2
+invariant_of-self-2 c =
+    let path = c.args.path.now in
+    let old = c.self.inside.files in
+    let new = c.close.new.self in
+    let is_open_there : is_open path old ≡ true = sym c.is_open.ensures ∙ c.if-not-is_open.false in
+    let open_there = some_open path old is_open_there in
+    let t = c.in_ok-kept.kept in
+    let order : AreInPathOrder new = subst AreInPathOrder (sym c.close.ensures) (closed_files-order path old c.self.invariant.ordered) in
+    let at_once : TextsChangeAt path t old (closed_files path old) = subst (λ u. TextsChangeAt path u old (closed_files path old)) (sym c.in_ok-kept.ensures) (close-texts path old open_there.0 c.self.invariant.ordered open_there.1) in
+    let texts : TextsChangeAt path t old new = subst (λ f. TextsChangeAt path t old f) (sym c.close.ensures) at_once in
+    let kept : IsKept old c.self.inside.board c.take.result = subst (λ (k : Option LastAnalysis). IsKept old c.self.inside.board k) (sym c.take.ensures.value) c.self.invariant in
+    keeps path t old new c.self.inside.board c.tell.new.board c.take.result c.known_after.result kept order c.tell.ensures.here c.in_ok-tell.ensures.texts texts
+    (rw c.in_ok-own.ensures.ok at c.known_after.ensures)
+
+pub returns-clause-board : goal.returns-clause-board
+returns-clause-board c =
+    let path = c.args.path.now in
+    let old = c.self.inside.files in
+    let new = c.close.new.self in
+    let is_open_there : is_open path old ≡ true = sym c.is_open.ensures ∙ c.if-not-is_open.false in
+    let open_there = some_open path old is_open_there in
+    let t = c.in_ok-kept.kept in
+    let at_once : TextsChangeAt path t old (closed_files path old) = subst (λ u. TextsChangeAt path u old (closed_files path old)) (sym c.in_ok-kept.ensures) (close-texts path old open_there.0 c.self.invariant.ordered open_there.1) in
+    let texts : TextsChangeAt path t old new = subst (λ f. TextsChangeAt path t old f) (sym c.close.ensures) at_once in
+    let event = event_open path old new t is_open_there (own path t old new texts) in
+    subst (λ (w : WorkspaceData). Records w.board c.tell.new.board (events_at path w.files new)) c.self.view_is (subst (λ es. Records c.self.inside.board c.tell.new.board es) (sym event) c.in_ok-tell.ensures.is_after)

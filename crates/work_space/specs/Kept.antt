@@ -1,0 +1,36 @@
+-- What a workspace keeps beside its files.
+use Rattle.std.specs.Prelude.{◌≡◌, ℕ, ◌==◌, List, Bool, false, Option, Some, None, Contains, length, map, IfSome, string_bytes}
+use Rattle.piece_collector.specs.Views.{BoardView}
+use Rattle.work_index.specs.Updates.{IsInOrder, NameAllChanges, texts_by_path}
+use Rattle.work_index.specs.Workspace.{IsKnown, workspace_in}
+use Rattle.work_files.specs.Files.{Files, AreInPathOrder, text_at}
+use Rattle.work_space.specs.BoardTexts.{HoldsTexts}
+use Rattle.work_space.specs.View.{WorkspaceData}
+use Rattle.work_space.specs.declared.last_analysis.LastAnalysis.{LastAnalysis}
+
+-- It is the analysis of a workspace in the order of its paths, and the paths that are kept with it name all changes from the texts there to
+-- these, which are given by path.
+pub record IsOf (known : LastAnalysis) (texts : List ℕ → Option (List ℕ)) : Type 0 where
+  pub is : IsKnown known.analysis
+  pub ordered : IsInOrder (workspace_in known.analysis)
+  pub changes : NameAllChanges (map string_bytes known.changes.items) (texts_by_path (workspace_in known.analysis)) texts
+
+-- whether it is an analysis of the files as they are
+abbrev pub is_current : Option LastAnalysis → Bool
+is_current None = false
+is_current (Some known) = length known.changes.items == 0
+
+-- this path is among the later ones, and so is each earlier one
+pub record AreNoted (path : List ℕ) (earlier later : List (List ℕ)) : Type 0 where
+  pub noted : Contains later path
+  pub kept : (q : List ℕ) → Contains earlier q → Contains later q
+
+abbrev pub workspace_data : Files → BoardView → Option LastAnalysis → WorkspaceData
+workspace_data files board known = record { files = files; board = board; is_current = is_current known }
+
+-- what is true of the fields of every workspace
+pub record IsKept (files : Files) (board : BoardView) (known : Option LastAnalysis) : Type 0 where
+  pub ordered : AreInPathOrder files
+  pub here : board.is_lent ≡ false
+  pub texts : HoldsTexts files board
+  pub is_of : IfSome known (λ k. IsOf k (λ path. text_at path files))
