@@ -1,4 +1,4 @@
-//! What a session with an editor keeps, and what it replies (Language Server Protocol 3.17), without streams and threads.
+//! What a session with an editor keeps, and what it replies (Language Server Protocol 3.17). It knows no streams.
 //!
 //! A [`Core`] takes the bodies of messages and gives the bodies of replies. It gives a [`Job`] for each text, and takes what is made of it in any order.
 //! Requests about files wait until all work is there, and so does each notification after which diagnostics are published, to an editor that doesn't ask

@@ -120,7 +120,7 @@ fn listing<'d, R: Files + AllocGlobal>(
 }
 
 /// What a check is asked for: the files of the folders that are given, which as many threads read as there are workers, or of the current
-/// one if there are none. The root of each is that of all paths. Unless little is to be said, a line on standard error names each folder below which
+/// one if there are none. The root of each is that of all paths. Unless the options ask for quiet, a line on standard error names each folder below which
 /// there is no file.
 ///
 /// `Failure::Folder` if a folder can't be read, `Failure::File` if a file that is named isn't among those that were found, and 803 if memory was

@@ -26,8 +26,6 @@ use Rattle.work_space.proofs.WorkspaceOrder.{ascend-workspace}
 use Rattle.work_index.proofs.ByPath.{paths}
 use Rattle.work_files.proofs.TextChanges.{set-texts, without-texts}
 
--- ---- options and results
-
 -- ---- the fields of a workspace
 
 -- where the text at a path has become another on the board and in the files
