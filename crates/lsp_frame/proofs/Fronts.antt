@@ -1,7 +1,7 @@
 -- From a header part and a body to what the stream begins with.
 use Rattle.std.proofs.Common.{◌≡◌, ℕ, zero, suc, ◌+◌, ◌<◌, ◌≤◌, ◌⊎◌, ⊎_elim, append-nil, Result, true, false, Bool, cond, List, [], ◌∷◌, ◌++◌, length, take, drop, arith, ap, sym, ◌∙◌, refl, Option, None, Some, Ok, Err, inl, inr, append_assoc, length-append, eqb, nat_lt, nat_le}
 use Rattle.std.specs.Prelude.{IfSome}
-use Rattle.std.proofs.lemmas.List.{take_at, drop_at}
+use Rattle.std.proofs.lemmas.List.{take_at, drop_at, drop_all}
 use Rattle.std.proofs.lemmas.Bool.Decides.{nat_tests}
 use Rattle.std.proofs.lemmas.Bool.{lt-ltb, cases_lt}
 use Rattle.std.specs.Global.{Vec}
@@ -55,11 +55,46 @@ show bytes left Memory e l = let known = shown bytes Memory e in absurd (omega (
 show_headless : (bytes : List ℕ) (left : Option (List ℕ)) (fault : FrameFault) → header_len bytes ≡ None → without_header bytes ≡ BadFrame fault → left ≡ Some (drop max_header bytes) → Shows bytes left fault
 show_headless bytes left fault none end is_left = show bytes left fault (first_frame-none bytes _ none end) (is_left ∙ ap Some (sym (left_behind-none bytes none)))
 
+-- bytes without a header part, fewer than the longest has, need more
+unfinished_header : (taken : List ℕ) → length taken < 8192 → (without_header taken ≡ InputEnd) ⊎ (without_header taken ≡ BadFrame Truncated)
+unfinished_header [] few = inl refl
+unfinished_header (x ∷ taken) few = inr (by_tests (nat_le 8192 (suc (length taken))) (eqb (suc (length taken)) 0) (grind (arith, nat_tests)) (grind (arith, nat_tests)))
+  where
+    by_tests : (long none : Bool) → long ≡ false → none ≡ false → cond long (BadFrame HeaderTooLong) (cond none InputEnd (BadFrame Truncated)) ≡ BadFrame Truncated
+    by_tests true none l n = cc
+    by_tests false true l n = cc
+    by_tests false false l n = refl
+
+-- bytes without a header part, at most those of the longest, are all needed
+needed_headless : (taken : List ℕ) → header_len taken ≡ None → length taken ≤ 8192 → left_behind taken ≡ []
+needed_headless taken none few = left_behind-none taken none ∙ drop_all max_header taken few
+
+-- so are those up to the end of a header part
+needed_header : (taken : List ℕ) → header_len taken ≡ Some (length taken) → left_behind taken ≡ []
+needed_header taken found =
+    ap left_behind (sym (append-nil taken)) ∙ left_behind-some taken [] (ap header_len (append-nil taken) ∙ found) ∙ none_left (body_length taken)
+  where
+    none_left : (announced : Result ℕ FrameFault) → left_of_body [] announced ≡ []
+    none_left (Err fault) = refl
+    none_left (Ok n) = refl
+
+-- and those of a body
+needed_body : (header body : List ℕ) (n : ℕ) → header_len (header ++ body) ≡ Some (length header) → body_length header ≡ Ok n → left_behind (header ++ body) ≡ []
+needed_body header body n found is = left_behind-some header body found ∙ ap (left_of_body body) is
+
 -- the source failed before the end of a header part
 broken_header : (bytes : List ℕ) (left : Option (List ℕ)) → StopsInHeader bytes left → BreaksOff bytes left
 broken_header bytes None h = absurd h.consumed
-broken_header bytes (Some rest) h =
-    record { taken = h.taken; rest = rest; joined = h.consumed; is_left = refl; end = without_header h.taken; first = first_frame-none h.taken (without_header h.taken) h.none refl }
+broken_header bytes (Some rest) h = record {
+  taken = h.taken;
+  rest = rest;
+  joined = h.consumed;
+  is_left = refl;
+  end = without_header h.taken;
+  first = first_frame-none h.taken (without_header h.taken) h.none refl;
+  unfinished = unfinished_header h.taken h.short;
+  needed = needed_headless h.taken h.none (omega (arith, h.short));
+}
 
 short : (rest : List ℕ) (n : ℕ) → length rest < n → behind_header rest (Ok n) ≡ NoFrame (BadFrame Truncated)
 short rest n lt = rw (lt-ltb (length rest) n lt) refl
@@ -95,6 +130,7 @@ full_header bytes (Some rest) h = record {
       (λ found. within_header h.taken (body_length h.taken) refl
       (ap first_frame (sym (append-nil h.taken)) ∙ first_frame-some h.taken [] (ap header_len (append-nil h.taken) ∙ found)))
       h.ends;
+  needed = ⊎_elim (λ none. needed_headless h.taken none h.within) (λ found. needed_header h.taken found) h.ends;
 }
 
 headless : (bytes : List ℕ) (left : Option (List ℕ)) (fault : FrameFault) → TakesHeader bytes left (Err fault) → Shows bytes left fault
@@ -159,6 +195,8 @@ broken_body bytes header rest (Some last) n found is e t =
       is_left = refl;
       end = BadFrame Truncated;
       first = first_frame-some header t.taken again ∙ ap (behind_header t.taken) e ∙ short t.taken n t.short;
+      unfinished = inr refl;
+      needed = needed_body header t.taken n again e;
     }
 
 -- memory was refused within a body, or at its last byte
@@ -170,13 +208,16 @@ within_body header body n first fits =
 
 full_body : (bytes header rest : List ℕ) (c : Option (List ℕ)) (n : ℕ) → header_len bytes ≡ Some (length header) → bytes ≡ header ++ rest → body_length header ≡ Ok n → FillsInBody rest n c → RunsOut bytes c
 full_body bytes header rest None n found is e t = absurd t.consumed
-full_body bytes header rest (Some last) n found is e t = record {
-  taken = header ++ t.taken;
-  rest = last;
-  joined = is ∙ ap (λ l. header ++ l) t.consumed ∙ sym (append_assoc header t.taken last);
-  is_left = refl;
-  within = within_body header t.taken n (first_frame-some header t.taken (header_again bytes header rest t.taken found is) ∙ ap (behind_header t.taken) e) t.within;
-}
+full_body bytes header rest (Some last) n found is e t =
+    let again = header_again bytes header rest t.taken found is in
+    record {
+      taken = header ++ t.taken;
+      rest = last;
+      joined = is ∙ ap (λ l. header ++ l) t.consumed ∙ sym (append_assoc header t.taken last);
+      is_left = refl;
+      within = within_body header t.taken n (first_frame-some header t.taken again ∙ ap (behind_header t.taken) e) t.within;
+      needed = needed_body header t.taken n again e;
+    }
 
 no_body : (bytes rest : List ℕ) (c : Option (List ℕ)) (n : ℕ) (fault : FrameFault) → first_frame bytes ≡ behind_header rest (Ok n) → left_behind bytes ≡ [] → (StopsInBody rest n c → BreaksOff bytes c) → (FillsInBody rest n c → RunsOut bytes c) → TakesBody rest n c (Err fault) → Shows bytes c fault
 no_body bytes rest c n BadHeader e l broken full h = cc

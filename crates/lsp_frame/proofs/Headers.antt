@@ -122,9 +122,9 @@ closed a b c items all x n taken next grown len few none here =
     header_taken a c all whole (omega arith) (omega arith) before here
 
 -- the source failed behind these bytes, in which no header part ends
-pub stopped_in_header : (a b c : Option (List ℕ)) (items : List ℕ) → Consumes a b items → Keeps b c → NoneWhole items (length items) → IfSome a (λ bytes. StopsInHeader bytes c)
-stopped_in_header None b c items taken kept none = tt
-stopped_in_header (Some bytes) b c items taken kept none = record { taken = items; consumed = Consumes-kept (Some bytes) b c items taken kept; none = ended items none }
+pub stopped_in_header : (a b c : Option (List ℕ)) (items : List ℕ) → Consumes a b items → Keeps b c → length items < 8192 → NoneWhole items (length items) → IfSome a (λ bytes. StopsInHeader bytes c)
+stopped_in_header None b c items taken kept few none = tt
+stopped_in_header (Some bytes) b c items taken kept few none = record { taken = items; consumed = Consumes-kept (Some bytes) b c items taken kept; none = ended items none; short = few }
 
 -- memory was refused for one more byte of a header part
 header_ends : (items : List ℕ) (x n : ℕ) → length items ≡ n → n < 8192 → NoneWhole items n → (header_len (items ++ x ∷ []) ≡ None) ⊎ (header_len (items ++ x ∷ []) ≡ Some (length (items ++ x ∷ [])))
@@ -140,4 +140,9 @@ header_ends items x n len few none =
 pub filled_in_header : (a b c : Option (List ℕ)) (items : List ℕ) (x n : ℕ) → Consumes a b items → TakesByte b c (Some x) → length items ≡ n → n < 8192 → NoneWhole items n → IfSome a (λ bytes. FillsInHeader bytes c)
 filled_in_header None b c items x n taken next len few none = tt
 filled_in_header (Some bytes) b c items x n taken next len few none =
-    record { taken = items ++ x ∷ []; consumed = Consumes-trans (Some bytes) b c items (x ∷ []) taken next; ends = header_ends items x n len few none }
+    record {
+      taken = items ++ x ∷ [];
+      consumed = Consumes-trans (Some bytes) b c items (x ∷ []) taken next;
+      ends = header_ends items x n len few none;
+      within = omega (arith, length-append items (x ∷ []), len, few);
+    }

@@ -7,7 +7,7 @@ use Rattle.lsp_frame.specs.declared.counts.Counts.{Counts}
 use Rattle.lsp_frame.specs.declared.reader.Frame.{Frame}
 use Rattle.lsp_frame.specs.declared.reader.Frame.TheVariants.{Body, End}
 use Rattle.lsp_frame.specs.declared.fault.FrameFault.{FrameFault}
-use Rattle.lsp_frame.specs.declared.fault.FrameFault.TheVariants.{Read, Memory}
+use Rattle.lsp_frame.specs.declared.fault.FrameFault.TheVariants.{Truncated, Read, Memory}
 
 -- the first frame of the bytes has this body, and what is behind it is left
 pub record TakesFrame (bytes : List ℕ) (left : Option (List ℕ)) (body : List ℕ) : Type 0 where
@@ -22,7 +22,8 @@ pub record ShowsEnd (bytes : List ℕ) (left : Option (List ℕ)) (end : StreamE
   pub none : frames bytes ≡ no_frames end
   pub is_left : left ≡ Some (left_behind bytes)
 
--- some of the bytes were taken, with which no whole frame begins, and the others are left
+-- Some of the bytes were taken, with which no whole frame begins and which show no fault but that they end; none of them is behind
+-- the frame, and the others are left.
 pub record BreaksOff (bytes : List ℕ) (left : Option (List ℕ)) : Type 0 where
   pub taken : List ℕ
   pub rest : List ℕ
@@ -30,14 +31,18 @@ pub record BreaksOff (bytes : List ℕ) (left : Option (List ℕ)) : Type 0 wher
   pub is_left : left ≡ Some rest
   pub end : StreamEnd
   pub first : first_frame taken ≡ NoFrame end
+  pub unfinished : (end ≡ InputEnd) ⊎ (end ≡ BadFrame Truncated)
+  pub needed : left_behind taken ≡ []
 
--- some of the bytes were taken, with which no whole frame begins or which are one, and the others are left
+-- Some of the bytes were taken, with which no whole frame begins or which are one; none of them is behind the frame, nor behind
+-- what shows that it is a bad one, and the others are left.
 pub record RunsOut (bytes : List ℕ) (left : Option (List ℕ)) : Type 0 where
   pub taken : List ℕ
   pub rest : List ℕ
   pub joined : bytes ≡ taken ++ rest
   pub is_left : left ≡ Some rest
   pub within : ((end : StreamEnd) × (first_frame taken ≡ NoFrame end)) ⊎ ((body : List ℕ) × IsFrame taken body)
+  pub needed : left_behind taken ≡ []
 
 -- A fault that the bytes show. One of the reader comes within a frame, and one of memory within a frame or at its last byte; behind
 -- it no byte is taken.

@@ -31,11 +31,12 @@ pub record TakesSome (old new : Option (List ℕ)) (before after : List ℕ) (ro
   pub within : n ≤ room
   pub end : n ≡ 0 → IsAtEnd new
 
--- some bytes were taken that no header part begins, and the others are left
+-- some bytes were taken, fewer than the longest header part has, that no header part begins, and the others are left
 pub record StopsInHeader (bytes : List ℕ) (left : Option (List ℕ)) : Type 0 where
   pub taken : List ℕ
   pub consumed : Consumes (Some bytes) left taken
   pub none : header_len taken ≡ None
+  pub short : length taken < max_header
 
 -- some bytes were taken, fewer than n, and the others are left
 pub record StopsInBody (bytes : List ℕ) (n : ℕ) (left : Option (List ℕ)) : Type 0 where
@@ -43,11 +44,12 @@ pub record StopsInBody (bytes : List ℕ) (n : ℕ) (left : Option (List ℕ)) :
   pub consumed : Consumes (Some bytes) left taken
   pub short : length taken < n
 
--- some bytes were taken, in which no header part ends or one ends at the last of them, and the others are left
+-- some bytes were taken, at most those of the longest header part, in which none ends or one at the last of them, and the others are left
 pub record FillsInHeader (bytes : List ℕ) (left : Option (List ℕ)) : Type 0 where
   pub taken : List ℕ
   pub consumed : Consumes (Some bytes) left taken
   pub ends : (header_len taken ≡ None) ⊎ (header_len taken ≡ Some (length taken))
+  pub within : length taken ≤ max_header
 
 -- some bytes were taken, at most n, and the others are left
 pub record FillsInBody (bytes : List ℕ) (n : ℕ) (left : Option (List ℕ)) : Type 0 where

@@ -1,5 +1,5 @@
 -- The diagnostics of statements are those that their relation says.
-use Rattle.std.proofs.Common.{◌≡◌, ◌⊎◌, inl, inr, ℕ, Bool, true, false, List, [], ◌∷◌, ◌++◌, map, refl, sym, subst}
+use Rattle.std.proofs.Common.{◌≡◌, ◌⊎◌, ◌∙◌, inl, inr, ℕ, Bool, true, false, List, [], ◌∷◌, ◌++◌, map, refl, sym, ap, subst}
 use Rattle.std.specs.Prelude.{Contains, pos, ◌≤ℤ◌}
 use Rattle.std.specs.List.{filter_map, flat_map}
 use Rattle.std.proofs.lemmas.List.Elements.{Contains-append_cases, Contains-append_left, Contains-append_right}
@@ -7,6 +7,9 @@ use Rattle.proto_tree.specs.declared.node.Field.{Field}
 use Rattle.proto_tree.specs.declared.node.FileTree.{FileTree}
 use Rattle.proto_tree.specs.declared.node.MapField.{MapField}
 use Rattle.proto_tree.specs.declared.node.Number.{Number}
+use Rattle.proto_tree.specs.declared.node.RangeEnd.{RangeEnd}
+use Rattle.proto_tree.specs.declared.node.RangeEnd.TheVariants as bound
+use Rattle.proto_tree.specs.declared.node.ReservedRange.{ReservedRange}
 use Rattle.proto_tree.specs.declared.node.Span.{Span}
 use Rattle.proto_tree.specs.declared.node.TypeName.{TypeName}
 use Rattle.proto_tree.specs.declared.node.Node.{Node, out-Node}
@@ -16,19 +19,41 @@ use Rattle.proto_decls.specs.declared.part.Member.{Member}
 use Rattle.proto_decls.specs.declared.part.Numbering.{Numbering}
 use Rattle.proto_decls.specs.declared.part.Numbering.TheVariants.{Fields, Values}
 use Rattle.proto_decls.specs.declared.problem.Problem.TheVariants as m
-use Rattle.proto_decls.specs.Checks.{alias_diags, backwards, bound_diags, first_diags, interval_diags, judged, kept_free, key_diags, key_types, label_diags, map_diags, member_out_of_range, name_diags, name_reserved, name_twice, number_reserved, number_used, opened_diags, out_of_range, range_twice, reserved_diags, statement_diags}
+use Rattle.proto_decls.specs.Checks.{alias_diags, backwards, bound_diags, first_diags, interval_diags, judged, kept_free, key_diags, label_diags, map_diags, member_out_of_range, name_diags, name_reserved, name_twice, number_reserved, number_used, opened_diags, out_of_range, range_twice, reserved_diags, statement_diags}
 use Rattle.proto_decls.specs.Diags.{diag}
-use Rattle.proto_decls.specs.Members.{allows_alias, bounds, intervals, labels, later_labels, names, ranges, reserved_name}
+use Rattle.proto_decls.specs.Members.{allows_alias, bounds, bounds_from, interval, intervals, labels, later_labels, names, ranges, reserved_name}
 use Rattle.proto_decls.specs.Text.{text_at}
 use Rattle.proto_decls.specs.Tree.{all_statements}
-use Rattle.proto_laws.specs.Bodies.{AllowsAlias, HasStatement, IsBody, IsBound, IsInRange, IsNumber, Numbered, Precedes, enum_values, message_fields, number_in, of_enum, of_extension, of_member, of_message, of_range, plain_fields, reserved_names}
-use Rattle.proto_laws.specs.FileDiagnostics.{IsLabelTooMany, IsProto3Diagnostic, enum_number_out_of_range, enum_number_used_twice, first_not_zero, label_not_allowed, map_key, name_reserved as name_is_reserved, name_reserved_twice, no_value, number_kept_free, number_out_of_range, number_reserved as number_is_reserved, number_used_twice, of_extend as label_of_extend, of_map as label_of_map, of_message as label_of_message, of_oneof as label_of_oneof, range_backwards, range_reserved_twice}
+use Rattle.proto_laws.specs.Bodies.{AllowsAlias, HasStatement, IsBody, IsBound, IsInRange, IsNumber, Numbered, Precedes, enum_values, message_fields, number_in, of_enum, of_extension, of_high, of_low, of_member, of_message, plain_fields, reserved_names, reserved_ranges}
+use Rattle.proto_laws.specs.FileDiagnostics.{IsLabelTooMany, IsProto3Diagnostic, enum_number_out_of_range, enum_number_used_twice, first_not_zero, label_not_allowed, map_key, map_key_types, name_reserved as name_is_reserved, name_reserved_twice, no_value, number_kept_free, number_out_of_range, number_reserved as number_is_reserved, number_used_twice, of_extend as label_of_extend, of_map as label_of_map, of_message as label_of_message, of_oneof as label_of_oneof, range_backwards, range_reserved_twice}
 use Rattle.proto_laws.proofs.BodyChecks.{backwards-has, bound-has, good, in_bound, in_out, in_twice, known, name-reserved, names-twice, out-has, reserved-has, shared-has, twice-has}
-use Rattle.proto_laws.proofs.BodyParts.{fields-are, names-are, plain_fields-are, values-are}
-use Rattle.proto_laws.proofs.Holders.{either, none_in}
-use Rattle.proto_laws.proofs.Lists.{flat_map-has, in_flat_map}
+use Rattle.proto_laws.proofs.BodyParts.{fields-are, names-are, plain_fields-are, ranges-are, values-are}
+use Rattle.proto_laws.proofs.Holders.{cases_in, either, first_in, later_in, none_in}
+use Rattle.proto_laws.proofs.Lists.{flat_map-has, in_flat_map, one_only}
 use Rattle.proto_laws.proofs.StatementChecks.{IsFirst, alias-has, first-has, in_alias, in_first, in_kept_free, in_key, in_label, in_labels, in_later_labels, kept_free-has, key-has, label-has, later_of_field, no_value as has_none, not_zero, of_field}
 use Rattle.proto_laws.proofs.Statements.{in_statements, statements-stand}
+
+-- ---- the numbers of a range
+
+-- a number of a range is its first, or the one after `to`
+bound-is : (nodes : List Node) (numbering : Numbering) (items : List Node) (members : List Numbered) (r : ReservedRange) (n : Number) → IsBody nodes numbering items members → Contains (reserved_ranges items) r → Contains (bounds r) n → IsBound nodes numbering n
+bound-is nodes numbering items members r n body there c = by r.high refl c
+  where
+    low_is : n ≡ r.low → IsBound nodes numbering n
+    low_is same = subst (IsBound nodes numbering) (sym same) (of_low body there)
+
+    by : (high : RangeEnd) → r.high ≡ high → Contains (bounds_from r.low high) n → IsBound nodes numbering n
+    by bound.Same is c = low_is (one_only r.low n c)
+    by (bound.Number k) is c = either (λ same. low_is (sym same)) (λ c. let same : n ≡ k = one_only k n c in of_high body there (is ∙ ap (λ k. bound.Number k) (sym same))) (cases_in r.low (k ∷ []) n c)
+    by (bound.Max s) is c = low_is (one_only r.low n c)
+
+low-in : (low : Number) (high : RangeEnd) → Contains (bounds_from low high) low
+low-in low bound.Same = first_in low []
+low-in low (bound.Number n) = first_in low (n ∷ [])
+low-in low (bound.Max s) = first_in low []
+
+high-in : (r : ReservedRange) (n : Number) → r.high ≡ bound.Number n → Contains (bounds r) n
+high-in r n is = subst (λ high. Contains (bounds_from r.low high) n) (sym is) (later_in r.low (n ∷ []) n (first_in n []))
 
 module _ (text : List ℕ) (tree : FileTree) where
   -- ---- what is found is said
@@ -52,17 +77,19 @@ module _ (text : List ℕ) (tree : FileTree) where
       bounds-said c =
           let h = bound-has numbering text (flat_map bounds (ranges items)) d c in
           let r = flat_map-has bounds (ranges items) h.0 h.1 in
-          out-said numbering h.0 (inr (of_range body r.there r.has)) h.2 h.3
+          out-said numbering h.0 (inr (bound-is tree.nodes numbering items members r.whole h.0 body (subst (λ l. Contains l r.whole) (ranges-are items) r.there) r.has)) h.2 h.3
 
       intervals-said : Contains (interval_diags ms (intervals numbering text items)) d → Said
       intervals-said c =
-          let first = filter_map (number_reserved (good numbering text (ranges items))) ms in
-          let second = filter_map backwards (intervals numbering text items) in
-          let third = judged range_twice (good numbering text (ranges items)) in
-          either (λ c. either (λ c. let h = reserved-has numbering text members (ranges items) d c in number_is_reserved body h.there h.range h.reserves h.is)
-          (λ c. let h = backwards-has numbering text (ranges items) d c in range_backwards body h.there h.bounds h.below h.is)
+          let rs = reserved_ranges items in
+          let first = filter_map (number_reserved (good numbering text rs)) ms in
+          let second = filter_map backwards (filter_map (interval numbering text) rs) in
+          let third = judged range_twice (good numbering text rs) in
+          let c = subst (λ rs. Contains (interval_diags ms (filter_map (interval numbering text) rs)) d) (ranges-are items) c in
+          either (λ c. either (λ c. let h = reserved-has numbering text members rs d c in number_is_reserved body h.there h.range h.reserves h.is)
+          (λ c. let h = backwards-has numbering text rs d c in range_backwards body h.there h.bounds h.below h.is)
           (Contains-append_cases first second d c))
-          (λ c. let h = shared-has numbering text (ranges items) d c in range_reserved_twice body h.order h.one h.two h.is)
+          (λ c. let h = shared-has numbering text rs d c in range_reserved_twice body h.order h.one h.two h.is)
           (Contains-append_cases (first ++ second) third d c)
 
       names-said : Contains (name_diags text ms (names text items)) d → Said
@@ -293,20 +320,22 @@ module _ (text : List ℕ) (tree : FileTree) where
       in_bounds : Contains r_bounds d → Contains (reserved_diags numbering text its items) d
       in_bounds c = Contains-append_left (r_bounds ++ r_intervals) r_names d (Contains-append_left r_bounds r_intervals d c)
 
-      in_intervals : Contains r_intervals d → Contains (reserved_diags numbering text its items) d
-      in_intervals c = Contains-append_left (r_bounds ++ r_intervals) r_names d (Contains-append_right r_bounds r_intervals d c)
+      in_intervals : Contains (interval_diags its (filter_map (interval numbering text) (reserved_ranges items))) d → Contains (reserved_diags numbering text its items) d
+      in_intervals c =
+          Contains-append_left (r_bounds ++ r_intervals) r_names d
+          (Contains-append_right r_bounds r_intervals d (subst (λ rs. Contains (interval_diags its (filter_map (interval numbering text) rs)) d) (sym (ranges-are items)) c))
 
       pub in_names : Contains (name_diags text its (map (reserved_name text) (reserved_names items))) d → Contains (reserved_diags numbering text its items) d
       in_names c = Contains-append_right (r_bounds ++ r_intervals) r_names d (subst (λ l. Contains (name_diags text its l) d) (sym (names-are text items)) c)
 
       abbrev i_reserved : List Diag
-      i_reserved = filter_map (number_reserved (good numbering text (ranges items))) its
+      i_reserved = filter_map (number_reserved (good numbering text (reserved_ranges items))) its
 
       abbrev i_backwards : List Diag
-      i_backwards = filter_map backwards (intervals numbering text items)
+      i_backwards = filter_map backwards (filter_map (interval numbering text) (reserved_ranges items))
 
       abbrev i_twice : List Diag
-      i_twice = judged range_twice (good numbering text (ranges items))
+      i_twice = judged range_twice (good numbering text (reserved_ranges items))
 
       pub interval_reserved : Contains i_reserved d → Contains (reserved_diags numbering text its items) d
       interval_reserved c = in_intervals (Contains-append_left (i_reserved ++ i_backwards) i_twice d (Contains-append_left i_reserved i_backwards d c))
@@ -332,9 +361,15 @@ module _ (text : List ℕ) (tree : FileTree) where
     number_out (of_extension {n} {span} {target} {items} {m = one} stands eq there) out is =
         in_extend stands eq (extend_out items (known Fields text (plain_fields items)) (in_out Fields text (plain_fields items) one d there out is))
 
+    range_bound : {numbering : Numbering} {items : List Node} {members : List Numbered} → IsBody tree.nodes numbering items members → (r : ReservedRange) (n : Number) → Contains (reserved_ranges items) r → Contains (bounds r) n → ¬ IsInRange numbering (number_in text n)
+        → d ≡ diag (out_of_range numbering) n.span → Contains found d
+    range_bound {numbering} {items} {members} body r n there has out is =
+        body_reserved body (in_bounds numbering items members
+        (in_bound numbering text (flat_map bounds (ranges items)) n d (in_flat_map bounds (ranges items) r n (subst (λ l. Contains l r) (sym (ranges-are items)) there) has) out is))
+
     pub bound_out : {numbering : Numbering} {n : Number} → IsBound tree.nodes numbering n → ¬ IsInRange numbering (number_in text n) → d ≡ diag (out_of_range numbering) n.span → Contains found d
-    bound_out (of_range {numbering} {items} {members} {r} {n} body there bound) out is =
-        body_reserved body (in_bounds numbering items members (in_bound numbering text (flat_map bounds (ranges items)) n d (in_flat_map bounds (ranges items) r n there bound) out is))
+    bound_out (of_low {numbering} {items} {members} {r} body there) out is = range_bound body r r.low there (low-in r.low r.high) out is
+    bound_out (of_high {numbering} {items} {members} {r} {n} body there high) out is = range_bound body r n there (high-in r n high) out is
 
     pub number_free : {n : Number} → IsNumber tree.nodes Fields n → pos 19000 ≤ℤ number_in text n → number_in text n ≤ℤ pos 19999 → d ≡ diag m.NumberKeptFree n.span → Contains found d
     number_free (of_member {items} {members} {m = one} body there) above below is = by body there
@@ -382,5 +417,5 @@ module _ (text : List ℕ) (tree : FileTree) where
     pub first_found : {n : Node} {span name : Span} {items : List Node} → HasStatement tree.nodes n → out-Node n ≡ Node-F.EnumDef span name items → IsFirst text name d (enum_values items) → Contains found d
     first_found {n} {span} {name} {items} stands is first = in_enum stands is (enum_first name items (known Values text (enum_values items)) (in_first text name (enum_values items) d first))
 
-    pub key_found : {n : Node} {f : MapField} → HasStatement tree.nodes n → out-Node n ≡ Node-F.MapField f → ¬ Contains key_types (text_at text f.key.span) → d ≡ diag m.MapKey f.key.span → Contains found d
+    pub key_found : {n : Node} {f : MapField} → HasStatement tree.nodes n → out-Node n ≡ Node-F.MapField f → ¬ Contains map_key_types (text_at text f.key.span) → d ≡ diag m.MapKey f.key.span → Contains found d
     key_found {n} {f} stands eq none is = in_found n (Node-F.MapField f) stands eq (Contains-append_left (key_diags text f) (label_diags f.labels) d (in_key text f d none is))

@@ -16,10 +16,10 @@ use Rattle.proto_decls.specs.declared.part.ReservedName.{ReservedName}
 use Rattle.proto_decls.specs.declared.problem.Problem.TheVariants as m
 use Rattle.proto_decls.specs.Checks.{backwards, bound_out_of_range, has_value, is_value, judged, lies_in, member_out_of_range, name_reserved, name_twice, number_reserved, number_used, out_of_range, overlap, range_twice, runs_forwards, used_twice}
 use Rattle.proto_decls.specs.Diags.{diag}
-use Rattle.proto_decls.specs.Members.{bounds, interval, range_span, reserved_name}
+use Rattle.proto_decls.specs.Members.{interval, reserved_name}
 use Rattle.proto_decls.specs.Numbers.{value_of}
 use Rattle.proto_decls.specs.Text.{literal_text, text_at}
-use Rattle.proto_laws.specs.Bodies.{HasBounds, IsInRange, Numbered, Precedes, Reserves, from_is, highest, lowest, number_in, to_is}
+use Rattle.proto_laws.specs.Bodies.{HasBounds, IsInRange, Numbered, Precedes, Reserves, from_is, highest, lowest, number_in, to_is, whole_range}
 use Rattle.proto_laws.proofs.BodyParts.{IsInterval, has-interval, in_range, interval-is, of, out_of_range-is, value-in, value-out}
 use Rattle.proto_laws.proofs.Counts.{below-number_of, number_in_range, number_of, number_of-below, number_of-order, number_of-same, order-number_of, through}
 use Rattle.proto_laws.proofs.Judged.{diag_if-is, diag_if-tells, in_judged, judged-has}
@@ -213,7 +213,7 @@ module _ (numbering : Numbering) (text : List ℕ) where
     pub there : Contains rs r
     pub bounds : HasBounds numbering text r
     pub below : to_is numbering text r <ℤ from_is numbering text r
-    pub is : d ≡ diag m.RangeBackwards (range_span r)
+    pub is : d ≡ diag m.RangeBackwards (whole_range r)
 
   pub backwards-has : (rs : List ReservedRange) (d : Diag) → Contains (filter_map backwards (filter_map (interval numbering text) rs)) d → IsBackwards rs d
   backwards-has rs d c =
@@ -230,7 +230,7 @@ module _ (numbering : Numbering) (text : List ℕ) where
         is = t.1 ∙ ap (diag m.RangeBackwards) i.span_is;
       }
 
-  pub in_backwards : (rs : List ReservedRange) (r : ReservedRange) (d : Diag) → Contains rs r → HasBounds numbering text r → to_is numbering text r <ℤ from_is numbering text r → d ≡ diag m.RangeBackwards (range_span r)
+  pub in_backwards : (rs : List ReservedRange) (r : ReservedRange) (d : Diag) → Contains rs r → HasBounds numbering text r → to_is numbering text r <ℤ from_is numbering text r → d ≡ diag m.RangeBackwards (whole_range r)
       → Contains (filter_map backwards (filter_map (interval numbering text) rs)) d
   in_backwards rs r d c bounds below is =
       let i = has-interval numbering text r bounds in
@@ -268,7 +268,7 @@ module _ (numbering : Numbering) (text : List ℕ) where
     pub order : Precedes rs r s
     pub one : Reserves numbering text r v
     pub two : Reserves numbering text s v
-    pub is : d ≡ diag m.ReservedTwice (range_span s)
+    pub is : d ≡ diag m.ReservedTwice (whole_range s)
 
   pub shared-has : (rs : List ReservedRange) (d : Diag) → Contains (judged range_twice (good rs)) d → AreShared rs d
   shared-has rs d c =
@@ -288,7 +288,7 @@ module _ (numbering : Numbering) (text : List ℕ) where
         is = h.is ∙ ap (diag m.ReservedTwice) two.span_is;
       }
 
-  pub in_shared : (rs : List ReservedRange) (r s : ReservedRange) (v : ℤ) (d : Diag) → Precedes rs r s → Reserves numbering text r v → Reserves numbering text s v → d ≡ diag m.ReservedTwice (range_span s) → Contains (judged range_twice (good rs)) d
+  pub in_shared : (rs : List ReservedRange) (r s : ReservedRange) (v : ℤ) (d : Diag) → Precedes rs r s → Reserves numbering text r v → Reserves numbering text s v → d ≡ diag m.ReservedTwice (whole_range s) → Contains (judged range_twice (good rs)) d
   in_shared rs r s v d order one two is =
       let i = good-interval r v one in
       let j = good-interval s v two in

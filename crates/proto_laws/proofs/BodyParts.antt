@@ -6,6 +6,7 @@ use Rattle.std.proofs.lemmas.List.{map-append}
 use Rattle.proto_tree.specs.declared.node.Number.{Number}
 use Rattle.proto_tree.specs.declared.node.RangeEnd.{RangeEnd}
 use Rattle.proto_tree.specs.declared.node.RangeEnd.TheVariants as bound
+use Rattle.proto_tree.specs.declared.node.ReservedList.TheVariants.{Ranges, Names}
 use Rattle.proto_tree.specs.declared.node.ReservedRange.{ReservedRange}
 use Rattle.proto_tree.specs.declared.node.Span.{Span}
 use Rattle.proto_tree.specs.declared.node.Node.{Node, out-Node}
@@ -14,10 +15,10 @@ use Rattle.proto_decls.specs.declared.part.Interval.{Interval}
 use Rattle.proto_decls.specs.declared.part.Member.{Member}
 use Rattle.proto_decls.specs.declared.part.Numbering.{Numbering}
 use Rattle.proto_decls.specs.declared.part.Numbering.TheVariants.{Fields, Values}
-use Rattle.proto_decls.specs.Members.{fields, fields_of, high_value, interval, interval_of, member, names, names_in, plain_field_of, plain_fields as plain_members, range_span, reserved_name, value_in, values}
+use Rattle.proto_decls.specs.Members.{end_of, fields, fields_of, high_value, interval, interval_of, member, names, names_in, plain_field_of, plain_fields as plain_members, range_span, ranges, ranges_in, reserved_name, value_in, values}
 use Rattle.proto_decls.specs.Numbers.{greatest, int_value, value_of}
 use Rattle.proto_decls.specs.Text.{text_at}
-use Rattle.proto_laws.specs.Bodies.{HasBounds, IsInRange, Numbered, enum_values, fields_at, from_is, highest, last_in, message_fields, number_in, plain_field, plain_fields, reserved_names, to_is, values_at}
+use Rattle.proto_laws.specs.Bodies.{HasBounds, IsInRange, Numbered, enum_values, fields_at, from_is, highest, last_in, message_fields, names_at, number_in, plain_field, plain_fields, range_end, ranges_at, reserved_names, reserved_ranges, to_is, values_at, whole_range}
 use Rattle.proto_laws.proofs.Counts.{IsCounted, counts, number_of}
 use Rattle.proto_laws.proofs.Holders.{inside}
 
@@ -26,6 +27,61 @@ use Rattle.proto_laws.proofs.Holders.{inside}
 flat_map-maps : {X Y Z : Type 0} (h : Y → Z) (f : X → List Z) (g : X → List Y) → ((x : X) → f x ≡ map h (g x)) → (xs : List X) → flat_map f xs ≡ map h (flat_map g xs)
 flat_map-maps h f g same [] = refl
 flat_map-maps h f g same (x ∷ xs) = ap (λ l. l ++ flat_map f xs) (same x) ∙ ap (λ l. map h (g x) ++ l) (flat_map-maps h f g same xs) ∙ sym (map-append h (g x) (flat_map g xs))
+
+flat_map-same : {X Y : Type 0} (f g : X → List Y) → ((x : X) → f x ≡ g x) → (xs : List X) → flat_map f xs ≡ flat_map g xs
+flat_map-same f g same [] = refl
+flat_map-same f g same (x ∷ xs) = ap (λ l. l ++ flat_map f xs) (same x) ∙ ap (λ l. g x ++ l) (flat_map-same f g same xs)
+
+-- ---- what is reserved
+
+ranges-at : (y : Node-F Node) → ranges_in y ≡ ranges_at y
+ranges-at (Node-F.Reserved span (Ranges rs)) = refl
+ranges-at (Node-F.Reserved span (Names ls)) = refl
+ranges-at (Node-F.Message span name items) = refl
+ranges-at (Node-F.EnumDef span name items) = refl
+ranges-at (Node-F.Service span name items) = refl
+ranges-at (Node-F.Oneof span name items) = refl
+ranges-at (Node-F.Extend span target items) = refl
+ranges-at (Node-F.Rpc span name request response items) = refl
+ranges-at (Node-F.Field f) = refl
+ranges-at (Node-F.MapField f) = refl
+ranges-at (Node-F.Value span name number) = refl
+ranges-at (Node-F.Import span is_public path) = refl
+ranges-at (Node-F.Package span name components) = refl
+ranges-at (Node-F.OptionDef span name value) = refl
+ranges-at (Node-F.Syntax span value) = refl
+ranges-at (Node-F.Empty span) = refl
+
+pub ranges-are : (items : List Node) → ranges items ≡ reserved_ranges items
+ranges-are = flat_map-same (λ n. ranges_in (out-Node n)) (λ n. ranges_at (out-Node n)) (λ n. ranges-at (out-Node n))
+
+names-at : (y : Node-F Node) → names_in y ≡ names_at y
+names-at (Node-F.Reserved span (Ranges rs)) = refl
+names-at (Node-F.Reserved span (Names ls)) = refl
+names-at (Node-F.Message span name items) = refl
+names-at (Node-F.EnumDef span name items) = refl
+names-at (Node-F.Service span name items) = refl
+names-at (Node-F.Oneof span name items) = refl
+names-at (Node-F.Extend span target items) = refl
+names-at (Node-F.Rpc span name request response items) = refl
+names-at (Node-F.Field f) = refl
+names-at (Node-F.MapField f) = refl
+names-at (Node-F.Value span name number) = refl
+names-at (Node-F.Import span is_public path) = refl
+names-at (Node-F.Package span name components) = refl
+names-at (Node-F.OptionDef span name value) = refl
+names-at (Node-F.Syntax span value) = refl
+names-at (Node-F.Empty span) = refl
+
+end-is : (low : Number) (high : RangeEnd) → end_of low high ≡ range_end low high
+end-is low bound.Same = refl
+end-is low (bound.Number n) = refl
+end-is low (bound.Max s) = refl
+
+range-stands : (r : ReservedRange) → range_span r ≡ whole_range r
+range-stands r = ap (λ (e : ℕ). record { start = r.low.span.start; end = e }) (end-is r.low r.high)
+
+-- ---- fields and values
 
 module _ (text : List ℕ) where
   -- a field or a value as the checks know it
@@ -93,7 +149,7 @@ module _ (text : List ℕ) where
   values-are = flat_map-maps (of Values) (λ n. value_in text (out-Node n)) (λ n. values_at (out-Node n)) (λ n. value-is (out-Node n))
 
   pub names-are : (items : List Node) → names text items ≡ map (reserved_name text) (reserved_names items)
-  names-are = flat_map-maps (reserved_name text) (λ n. map (reserved_name text) (names_in (out-Node n))) (λ n. names_in (out-Node n)) (λ n. refl)
+  names-are = flat_map-maps (reserved_name text) (λ n. map (reserved_name text) (names_in (out-Node n))) (λ n. names_at (out-Node n)) (λ n. ap (map (reserved_name text)) (names-at (out-Node n)))
 
 -- ---- numbers
 
@@ -144,7 +200,7 @@ module _ (numbering : Numbering) (text : List ℕ) where
   -- the checks know the range by these numbers
   pub record IsInterval (r : ReservedRange) (i : Interval) : Type 0 where
     pub bounds : HasBounds numbering text r
-    pub span_is : i.span ≡ range_span r
+    pub span_is : i.span ≡ whole_range r
     pub low_is : from_is numbering text r ≡ number_of numbering i.low
     pub high_is : to_is numbering text r ≡ number_of numbering i.high
 
@@ -160,7 +216,7 @@ module _ (numbering : Numbering) (text : List ℕ) where
       let h = both (range_span r) (value_of numbering text r.low) (high_value numbering text r.low r.high) i e in
       let low = in_range numbering text r.low i.low h.0 in
       let high = some-in numbering (to_is numbering text r) (high_value numbering text r.low r.high) i.high (last-counted r.low r.high) h.1 in
-      record { bounds = (low.0, high.0); span_is = h.2; low_is = low.1; high_is = high.1 }
+      record { bounds = (low.0, high.0); span_is = h.2 ∙ range-stands r; low_is = low.1; high_is = high.1 }
 
   pub has-interval : (r : ReservedRange) → HasBounds numbering text r → (i : Interval) × (interval numbering text r ≡ Some i)
   has-interval r h =

@@ -6,6 +6,7 @@ use Rattle.std.specs.Str.{bytes_eq}
 use Rattle.std.proofs.lemmas.Bool.{cases_lt, false_from_ne_true, ltb-true}
 use Rattle.std.proofs.lemmas.List.Elements.{Contains-append_cases, Contains-append_left, Contains-append_right}
 use Rattle.std.proofs.lemmas.Slice.Eq.{bytes_eq-Decides}
+use Rattle.proto_lex.specs.declared.token.Reason.TheVariants as reason
 use Rattle.proto_tree.specs.declared.node.Fault.{Fault}
 use Rattle.proto_tree.specs.declared.node.FileTree.{FileTree}
 use Rattle.proto_tree.specs.declared.node.Literal.{Literal}
@@ -21,15 +22,14 @@ use Rattle.proto_decls.specs.declared.problem.Problem.TheVariants as m
 use Rattle.proto_decls.specs.declared.stated.StatedPackage.{StatedPackage}
 use Rattle.proto_decls.specs.declared.stated.StatedSyntax.{StatedSyntax}
 use Rattle.proto_decls.specs.Checks.{judged}
-use Rattle.proto_decls.specs.Diags.{diag, diag_of, nowhere}
+use Rattle.proto_decls.specs.Diags.{diag, diag_of, nowhere, problem_of}
 use Rattle.proto_decls.specs.Facts.{bad_start, declared_twice, decls, diags_of, facts_at, import_of, imported_twice, imports, not_proto3, opaque, package_diags, package_of, package_twice, packages, says_proto3, starts, stated, stated_of, syntax_late}
-use Rattle.proto_decls.specs.Members.{ranges}
 use Rattle.proto_decls.specs.Starts.{start_of}
 use Rattle.proto_decls.specs.Text.{dotted, literal_text}
 use Rattle.proto_decls.proofs.DiagOrder.{in_order-is_list}
-use Rattle.proto_laws.specs.Bodies.{reserved_names}
+use Rattle.proto_laws.specs.Bodies.{reserved_names, reserved_ranges}
 use Rattle.proto_laws.specs.FileDiagnostics as said
-use Rattle.proto_laws.specs.FileDiagnostics.{DiagnosticsAreSaid, HasNoSyntax, IsFileDiagnostic, IsFirstSyntax, IsOfStatement, IsProto3Diagnostic, StartsBefore, by_fault, by_statement, here, later}
+use Rattle.proto_laws.specs.FileDiagnostics.{DiagnosticsAreSaid, HasNoSyntax, IsFileDiagnostic, IsFirstSyntax, IsOfStatement, IsProto3Diagnostic, StartsBefore, by_fault, by_statement, here, later, unread_as, whole_statement}
 use Rattle.proto_laws.proofs.BodiesSaid.{body_reserved, bound_out, enum_value_twice, field_twice, first_found, found, interval_backwards, interval_reserved, interval_twice, key_found, label_found, name_reserved_at, name_twice_at, number_free, number_out, statements-said}
 use Rattle.proto_laws.proofs.BodyChecks.{in_backwards, in_name_reserved, in_names_twice, in_reserved, in_shared}
 use Rattle.proto_laws.proofs.StatementChecks.{IsFirst, no_value as has_none, not_zero}
@@ -115,6 +115,37 @@ path-asked before f e = let h = list_any-has (λ (e : ImportFact). bytes_eq e.pa
 asked-path : (before : List ImportFact) (e f : ImportFact) → Contains before e → SamePath e f → list_any (λ e. bytes_eq e.path f.path) before ≡ true
 asked-path before e f c same = list_any-is (λ (e : ImportFact). bytes_eq e.path f.path) before e c ((bytes_eq-Decides e.path f.path).1 same)
 
+-- what is said of a fault
+unread-is : (p : SyntaxProblem) → problem_of p ≡ unread_as p
+unread-is (problem.BadToken reason.Character) = refl
+unread-is (problem.BadToken reason.Number) = refl
+unread-is (problem.BadToken reason.String) = refl
+unread-is (problem.BadToken reason.Comment) = refl
+unread-is problem.NotUnderstood = refl
+unread-is problem.TooDeep = refl
+unread-is problem.Unfinished = refl
+
+unread-diag : (f : Fault) → diag_of f ≡ diag (unread_as f.problem) f.span
+unread-diag f = ap (λ p. diag p f.span) (unread-is f.problem)
+
+-- where a statement starts
+starts-at : (y : Node-F Node) → start_of y ≡ (whole_statement y).start
+starts-at (Node-F.Message span name items) = refl
+starts-at (Node-F.EnumDef span name items) = refl
+starts-at (Node-F.Service span name items) = refl
+starts-at (Node-F.Oneof span name items) = refl
+starts-at (Node-F.Extend span target items) = refl
+starts-at (Node-F.Rpc span name request response items) = refl
+starts-at (Node-F.Field f) = refl
+starts-at (Node-F.MapField f) = refl
+starts-at (Node-F.Value span name number) = refl
+starts-at (Node-F.Reserved span list) = refl
+starts-at (Node-F.Import span is_public path) = refl
+starts-at (Node-F.Package span name components) = refl
+starts-at (Node-F.OptionDef span name value) = refl
+starts-at (Node-F.Syntax span value) = refl
+starts-at (Node-F.Empty span) = refl
+
 -- a fault of a whole statement, and where that starts
 start-is : (p : SyntaxProblem) (s : Span) (k : ℕ) → bad_start p s ≡ Some k → IsOfStatement p × (s.start ≡ k)
 start-is problem.NotUnderstood s k e = (inl refl, inside s.start k e)
@@ -139,13 +170,13 @@ module _ (text : List ℕ) (tree : FileTree) where
   before-has offset e =
       let h = list_any-has (λ start. nat_lt start offset) (starts tree) e in
       let lt = ltb-true h.0 offset h.2 in
-      either (λ c. let n = map-has node_start tree.nodes h.0 c in by_statement n.source n.there (subst (λ k. k < offset) (sym n.is) lt))
+      either (λ c. let n = map-has node_start tree.nodes h.0 c in by_statement n.source n.there (subst (λ k. k < offset) (sym n.is ∙ starts-at (out-Node n.source)) lt))
       (λ c. let f = filter_map-has fault_start tree.faults h.0 c in let is = start-is f.0.problem f.0.span h.0 f.2 in by_fault f.0 f.1 is.0 (subst (λ k. k < offset) (sym is.1) lt))
       (Contains-append_cases (map node_start tree.nodes) (filter_map fault_start tree.faults) h.0 h.1)
 
   in_before : (offset : ℕ) → StartsBefore tree offset → list_any (λ start. nat_lt start offset) (starts tree) ≡ true
   in_before offset (by_statement n c lt) =
-      list_any-is (λ start. nat_lt start offset) (starts tree) (node_start n) (Contains-append_left (map node_start tree.nodes) (filter_map fault_start tree.faults) (node_start n) (in_map node_start tree.nodes n c)) (lt-ltb (node_start n) offset lt)
+      list_any-is (λ start. nat_lt start offset) (starts tree) (node_start n) (Contains-append_left (map node_start tree.nodes) (filter_map fault_start tree.faults) (node_start n) (in_map node_start tree.nodes n c)) (lt-ltb (node_start n) offset (subst (λ k. k < offset) (sym (starts-at (out-Node n))) lt))
   in_before offset (by_fault f c is lt) =
       list_any-is (λ start. nat_lt start offset) (starts tree) f.span.start
       (Contains-append_right (map node_start tree.nodes) (filter_map fault_start tree.faults) f.span.start (in_filter_map fault_start tree.faults f f.span.start c (is-start f.problem f.span is))) (lt-ltb f.span.start offset lt)
@@ -208,7 +239,7 @@ module _ (text : List ℕ) (tree : FileTree) where
         said.syntax_not_first g.1 k.1 (before-has h.0.span.start t.0) t.1
 
     faults-said : Contains l_faults d → Said
-    faults-said c = let h = map-has diag_of tree.faults d c in said.unread h.there (sym h.is)
+    faults-said c = let h = map-has diag_of tree.faults d c in said.unread h.there (sym h.is ∙ unread-diag h.source)
 
     every-said : Contains every d → Said
     every-said c =
@@ -231,20 +262,20 @@ module _ (text : List ℕ) (tree : FileTree) where
     in_late c = Contains-append_left (l_faults ++ found text tree ++ l_late) (l_decls ++ l_imports ++ l_packages) d (Contains-append_right (l_faults ++ found text tree) l_late d c)
 
     every-has : Said → Contains every d
-    every-has (said.unread {f} c is) = in_tree (Contains-append_left l_faults (found text tree) d (subst (Contains l_faults) (sym is) (in_map diag_of tree.faults f c)))
+    every-has (said.unread {f} c is) = in_tree (Contains-append_left l_faults (found text tree) d (subst (Contains l_faults) (unread-diag f ∙ sym is) (in_map diag_of tree.faults f c)))
     every-has (said.number_out_of_range where_is out is) = in_body (either (λ n. number_out text tree d n out is) (λ n. bound_out text tree d n out is) where_is)
     every-has (said.number_kept_free n above below is) = in_body (number_free text tree d n above below is)
     every-has (said.number_used_twice {e} {f} body order within same is) = in_body (field_twice text tree d e f body order within same is)
     every-has (said.number_reserved {numbering} {items} {members} {f} {r} body c range reserves is) =
-        in_body (body_reserved text tree d body (interval_reserved text tree d numbering items members (in_reserved numbering text members (ranges items) f r d c range reserves is)))
+        in_body (body_reserved text tree d body (interval_reserved text tree d numbering items members (in_reserved numbering text members (reserved_ranges items) f r d c range reserves is)))
     every-has (said.name_reserved {numbering} {items} {members} {f} {l} body c name same is) =
         in_body (body_reserved text tree d body (name_reserved_at text tree d numbering items members (in_name_reserved text numbering members (reserved_names items) f l d c name same is)))
     every-has (said.range_reserved_twice {numbering} {items} {members} {r} {s} {v} body order one two is) =
-        in_body (body_reserved text tree d body (interval_twice text tree d numbering items members (in_shared numbering text (ranges items) r s v d order one two is)))
+        in_body (body_reserved text tree d body (interval_twice text tree d numbering items members (in_shared numbering text (reserved_ranges items) r s v d order one two is)))
     every-has (said.name_reserved_twice {numbering} {items} {members} {k} {l} body order same is) =
         in_body (body_reserved text tree d body (name_twice_at text tree d numbering items members (in_names_twice text (reserved_names items) k l d order same is)))
     every-has (said.range_backwards {numbering} {items} {members} {r} body c bounds below is) =
-        in_body (body_reserved text tree d body (interval_backwards text tree d numbering items members (in_backwards numbering text (ranges items) r d c bounds below is)))
+        in_body (body_reserved text tree d body (interval_backwards text tree d numbering items members (in_backwards numbering text (reserved_ranges items) r d c bounds below is)))
     every-has (said.first_not_zero {n} {span} {name} {items} {v} {more} stands eq are other is) =
         in_body (first_found text tree d stands eq (subst (IsFirst text name d) (sym are) (not_zero other is)))
     every-has (said.no_value {n} {span} {name} {items} stands eq are is) = in_body (first_found text tree d stands eq (subst (IsFirst text name d) (sym are) (has_none is)))

@@ -1,5 +1,5 @@
 -- The statements of a tree at any depth.
-use Rattle.std.proofs.Common.{◌≡◌, List, [], ◌∷◌, ◌++◌, map, sym, ap, subst}
+use Rattle.std.proofs.Common.{◌≡◌, ◌∙◌, List, [], ◌∷◌, ◌++◌, map, refl, sym, ap, subst}
 use Rattle.std.specs.Prelude.{Contains}
 use Rattle.std.proofs.lemmas.List.Elements.{Contains-append_cases, Contains-append_left, Contains-append_right}
 use Rattle.proto_tree.specs.declared.node.Node.{Node, out-Node, out-roll-Node, roll-Node, map-Node}
@@ -7,8 +7,30 @@ use Rattle.proto_tree.specs.declared.node.Node.TheOpen.{Node-F}
 use Rattle.proto_tree.specs.declared.node.Node.TheFolds.{ind-Node}
 use Rattle.proto_decls.specs.Tree.{all_statements, inside, inside_of}
 use Rattle.proto_decls.proofs.Statements.{all_statements-cons}
-use Rattle.proto_laws.specs.Bodies.{HasStatement, itself as alone, within}
+use Rattle.proto_laws.specs.Bodies.{HasStatement, between_braces, itself as alone, within}
 use Rattle.proto_laws.proofs.Holders.{cases_in, either, first_in, later_in, none_in}
+
+-- ---- what stands between braces
+
+braces-at : (y : Node-F Node) → inside_of y ≡ between_braces y
+braces-at (Node-F.Message span name items) = refl
+braces-at (Node-F.EnumDef span name items) = refl
+braces-at (Node-F.Service span name items) = refl
+braces-at (Node-F.Oneof span name items) = refl
+braces-at (Node-F.Extend span target items) = refl
+braces-at (Node-F.Rpc span name request response items) = refl
+braces-at (Node-F.Field f) = refl
+braces-at (Node-F.MapField f) = refl
+braces-at (Node-F.Value span name number) = refl
+braces-at (Node-F.Reserved span list) = refl
+braces-at (Node-F.Import span is_public path) = refl
+braces-at (Node-F.Package span name components) = refl
+braces-at (Node-F.OptionDef span name value) = refl
+braces-at (Node-F.Syntax span value) = refl
+braces-at (Node-F.Empty span) = refl
+
+braces : (n : Node) → inside n ≡ between_braces (out-Node n)
+braces n = braces-at (out-Node n)
 
 -- ---- each of them stands in the tree
 
@@ -32,7 +54,7 @@ part-stands (e ∷ more) body n sub c =
 
 block-stands : (m : Node) (items : List Standing) → inside m ≡ nodes_of items → Stands m
 block-stands m items is body n here c =
-    within here (subst (λ l. HasStatement l n) (sym is) (part-stands items (nodes_of items) n (λ m at. at) (subst (λ l. Contains (all_statements l) n) is c)))
+    within here (subst (λ l. HasStatement l n) (sym is ∙ braces m) (part-stands items (nodes_of items) n (λ m at. at) (subst (λ l. Contains (all_statements l) n) is c)))
 
 leaf-stands : (m : Node) → inside m ≡ [] → Stands m
 leaf-stands m is body n here c = absurd (none_in n (subst (λ l. Contains (all_statements l) n) is c))
@@ -90,4 +112,4 @@ inner_statement (m ∷ more) block n c h =
 
 pub in_statements : {nodes : List Node} {n : Node} → HasStatement nodes n → Contains (all_statements nodes) n
 in_statements (alone {body} {n} c) = own_statement body n c
-in_statements (within {body} {block} {n} c h) = inner_statement body block n c (in_statements h)
+in_statements (within {body} {block} {n} c h) = inner_statement body block n c (subst (λ l. Contains (all_statements l) n) (sym (braces block)) (in_statements h))

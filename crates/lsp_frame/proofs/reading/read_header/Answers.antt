@@ -13,7 +13,7 @@ returns-in_err-byte-clause-bytes g c =
     let at = c.loop-taken in
     let p = err_from_is_err_and c.from_residual.result c.from_residual.ensures.1 in
     let none = rw (← at.invariant.len) at at.invariant.none_whole in
-    rw (p.1, p.2, c.in_err-byte.ensures.fault) (stopped_in_header (left c.args.source.now) (left at.source) (left c.read_byte.new.source) at.header.items at.invariant.consumed c.in_err-byte.ensures.bytes none)
+    rw (p.1, p.2, c.in_err-byte.ensures.fault) (stopped_in_header (left c.args.source.now) (left at.source) (left c.read_byte.new.source) at.header.items at.invariant.consumed c.in_err-byte.ensures.bytes (omega (arith, at.invariant.len)) none)
 
 pub returns-then-not-is_empty-clause-bytes : goal.returns-then-not-is_empty-clause-bytes
 returns-then-not-is_empty-clause-bytes g c =
