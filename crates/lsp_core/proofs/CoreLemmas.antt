@@ -155,7 +155,7 @@ module _ (o : ℕ) (config : Configuration) where
 
   -- ---- the first message begins
 
-  first-is : (old : CoreState) (h : List Event) (m : MessageData) (ms : List MessageData) → IsAfter o config old h → MayBegin h → old.queue ≡ m ∷ ms → m ∷ ms ≡ message_of (next_body h) ∷ map message_of (drop (suc (processed h)) (messages h))
+  pub first-is : (old : CoreState) (h : List Event) (m : MessageData) (ms : List MessageData) → IsAfter o config old h → MayBegin h → old.queue ≡ m ∷ ms → m ∷ ms ≡ message_of (next_body h) ∷ map message_of (drop (suc (processed h)) (messages h))
   first-is old h m ms after may some =
       sym some ∙ after.queue ∙ ap (λ n. map message_of (drop n (messages h))) (begun-idle h may.idle) ∙ ap (map message_of) (split (messages h) (processed h) may.there)
 

@@ -3,11 +3,12 @@ use Rattle.std.proofs.Common.{◌≡◌, ℕ, suc, Bool, true, false, cond, ◌+
 use Rattle.piece_collector.specs.declared.verdict.Verdict.{Verdict}
 use Rattle.std.proofs.lemmas.List.{take-append-le}
 use Rattle.work_config.specs.Configuration.{Configuration}
-use Rattle.lsp_core.specs.Core.{Event, Advance, messages, processed, done, CoreState, IsAfter, ExhaustsStamps, Advances}
+use Rattle.lsp_core.specs.Core.{Event, Advance, messages, processed, done, CoreState, IsAfter, FindsNoStamp, ExhaustsStamps, Advances}
 use Rattle.lsp_core.specs.Run.{Incoming, Message, Made, Failed, Work, incoming_of, is_message, verdicts_of, Extends, Follows, Runs, HasRun, HasCome, HasFollowed}
 use Rattle.lsp_core.specs.Session.{session}
 use Rattle.lsp_core.specs.Steps.{unprocessed}
 use Rattle.lsp_core.specs.declared.run.CoreEvent.{CoreEvent}
+use Rattle.lsp_core.proofs.StampLemmas.{exhausts_stamps}
 use Rattle.lsp_core.proofs.CoreLemmas.{session-none, processed-known, unprocessed-is, messages-steps, messages-rounds, processed-rounds}
 
 -- ---- one event, and then an advance
@@ -101,9 +102,9 @@ counted-append [] later = omega arith
 counted-append (e ∷ es) later = omega (arith, one-more e (es ++ later), one-more e es, counted-append es later)
 
 -- an advance behind an event found no stamp
-pub out_behind : (o : ℕ) (config : Configuration) (core : CoreState) (e : Incoming) (h : List Event) → HasCome o config core e h → ((g : List Event) → IsAfter o config core g → ExhaustsStamps o config (length (messages g)))
+pub out_behind : (o : ℕ) (config : Configuration) (core : CoreState) (e : Incoming) (h : List Event) → HasCome o config core e h → ((g : List Event) → IsAfter o config core g → FindsNoStamp o config g)
     → ExhaustsStamps o config (length (messages h) + length (filter is_message (e ∷ [])))
-out_behind o config core e h come out = subst (λ n. ExhaustsStamps o config n) (messages-come o config e h come.after come.comes) (out come.after come.is_after)
+out_behind o config core e h come out = subst (λ n. ExhaustsStamps o config n) (messages-come o config e h come.after come.comes) (exhausts_stamps o config come.after (out come.after come.is_after))
 
 -- an event of a run found none
 pub run_out : (config : Configuration) (core : CoreState) (es : List Incoming) (e : Incoming) (later all : List Incoming) (replies : List (List ℕ)) (verdicts : List Verdict) → HasRunTo config core es replies verdicts → es ++ e ∷ later ≡ all

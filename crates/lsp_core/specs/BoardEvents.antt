@@ -1,6 +1,6 @@
 -- What a message does to the board of the texts.
-use Rattle.std.specs.Prelude.{ℕ, List, [], ◌∷◌, Option, Some, None}
-use Rattle.piece_collector.specs.Events.{Event}
+use Rattle.std.specs.Prelude.{◌≡◌, ℕ, List, [], ◌∷◌, Option, Some, None}
+use Rattle.piece_collector.specs.Events.{Event, SetText}
 use Rattle.serde_json.specs.Data.{Data}
 use Rattle.lsp_rpc.specs.Message.{MessageData, notification}
 use Rattle.lsp_rpc.specs.declared.method.Method.{Method}
@@ -36,3 +36,7 @@ events_of s _ files = []
 
 abbrev pub board_events_of : State → MessageData → List Event
 board_events_of s m = events_of s m (turn s m).state.files
+
+-- a text is set, and nothing else is done
+abbrev pub SetsText : List Event → Type 0
+SetsText events = (path : List ℕ) × (text : List ℕ) × (events ≡ SetText path text ∷ [])

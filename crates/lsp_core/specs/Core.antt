@@ -3,6 +3,7 @@ use Rattle.std.specs.Prelude.{◌≡◌, ◌⊎◌, ℕ, suc, ◌+◌, ◌<◌, 
 use Rattle.piece_collector.specs.Board.{IsComplete}
 use Rattle.piece_collector.specs.Board as board
 use Rattle.piece_collector.specs.Events as work
+use Rattle.piece_collector.specs.History.{sets, history}
 use Rattle.piece_collector.specs.Views.{BoardView}
 use Rattle.lsp_rpc.specs.Message.{MessageData, message_of}
 use Rattle.work_config.specs.Configuration.{Configuration, files_of}
@@ -154,6 +155,12 @@ pub record ComesToAnAnalysis (opening : ℕ) (config : Configuration) (h : List 
   pub legal : IsLegal opening config (map Advance steps ++ h)
   pub ready : MayFinish opening config (map Advance steps ++ h)
   pub needs : needs_analysis (beginning config (map Advance steps ++ h)).pending ≡ true
+
+-- steps may come after which more texts were set than there are stamps behind the opening one
+pub record FindsNoStamp (opening : ℕ) (config : Configuration) (h : List Event) : Type 0 where
+  pub steps : List Step
+  pub legal : IsLegal opening config (map Advance steps ++ h)
+  pub run_out : StampsRunOut opening (sets (history opening (board_events config (map Advance steps ++ h))))
 
 -- the files on disk and so many messages with one text each are more than there are stamps behind the opening one
 abbrev pub ExhaustsStamps : ℕ → Configuration → ℕ → Type 0

@@ -85,6 +85,7 @@ impl Session {
         ensures pending { IfOk result (λ p. pending_view p ≡ spec.after_open (spec.opened_path (state_of self.now workspace.old) (view params))) }
         ensures board { OnOk result (Records workspace.old.board workspace.new.board (on_board.events_for_path (λ path. event_at path workspace.new.files ∷ []) (spec.opened_path (state_of self.now workspace.old) (view params)))) }
         ensures exhausted { result ≡ Err BoardFault.Exhausted → IsExhausted workspace.new.board }
+        ensures needed { result ≡ Err BoardFault.Exhausted → on_board.SetsText (on_board.events_for_path (λ path. event_at path (spec.opened (state_of self.now workspace.old) (opened_of (view params))).files ∷ []) (spec.opened_path (state_of self.now workspace.old) (view params))) }
         ensures err { OnErr result (workspace.new.board ≡ workspace.old.board) }
     {
         let Some(opened) = DidOpenParams::from_value(params) else {
@@ -111,6 +112,7 @@ impl Session {
         ensures pending { IfOk result (λ p. pending_view p ≡ spec.after_change workspace.old.files (spec.changed_path (state_of self.now workspace.old) (view params))) }
         ensures board { OnOk result (Records workspace.old.board workspace.new.board (on_board.events_for_path (λ path. events_at path workspace.old.files workspace.new.files) (spec.changed_path (state_of self.now workspace.old) (view params)))) }
         ensures exhausted { result ≡ Err BoardFault.Exhausted → IsExhausted workspace.new.board }
+        ensures needed { result ≡ Err BoardFault.Exhausted → on_board.SetsText (on_board.events_for_path (λ path. events_at path workspace.old.files (spec.changed (state_of self.now workspace.old) (changed_of (view params))).files) (spec.changed_path (state_of self.now workspace.old) (view params))) }
         ensures err { OnErr result (workspace.new.board ≡ workspace.old.board) }
     {
         let Some(changed) = DidChangeParams::from_value(self.alloc, params)? else {
@@ -158,6 +160,7 @@ impl Session {
         ensures pending { IfOk result (λ p. pending_view p ≡ spec.after_close workspace.old.files (spec.path_in (state_of self.now workspace.old) (view params.now))) }
         ensures board { OnOk result (Records workspace.old.board workspace.new.board (on_board.events_for_path (λ path. events_at path workspace.old.files workspace.new.files) (spec.path_in (state_of self.now workspace.old) (view params.now)))) }
         ensures exhausted { result ≡ Err BoardFault.Exhausted → IsExhausted workspace.new.board }
+        ensures needed { result ≡ Err BoardFault.Exhausted → on_board.SetsText (on_board.events_for_path (λ path. events_at path workspace.old.files (spec.closed (state_of self.now workspace.old) (view params.now)).files) (spec.path_in (state_of self.now workspace.old) (view params.now))) }
         ensures err { OnErr result (workspace.new.board ≡ workspace.old.board) }
     {
         let Some(path) = self.path_in(workspace, params)? else {

@@ -152,6 +152,7 @@ impl Session {
         ensures pending { IfOk result (λ p. pending_view p ≡ spec.running_publishes (state_of self.old workspace.old) method (view params)) }
         ensures board { OnOk result (Records workspace.old.board workspace.new.board (on_board.events_by_method (state_of self.old workspace.old) method (view params) workspace.new.files)) }
         ensures exhausted { result ≡ Err BoardFault.Exhausted → IsExhausted workspace.new.board }
+        ensures needed { result ≡ Err BoardFault.Exhausted → on_board.SetsText (on_board.events_by_method (state_of self.old workspace.old) method (view params) (spec.running_notification (state_of self.old workspace.old) method (view params)).files) }
         ensures err { OnErr result (workspace.new.board ≡ workspace.old.board) }
     {
         match method {
@@ -181,6 +182,7 @@ impl Session {
             ≡ spec.publishes (phase_of self.old) (state_of self.old workspace.old) method (view params)) }
         ensures board { OnOk result (Records workspace.old.board workspace.new.board (on_board.events_in_phase (phase_of self.old) (state_of self.old workspace.old) method (view params) workspace.new.files)) }
         ensures exhausted { result ≡ Err BoardFault.Exhausted → IsExhausted workspace.new.board }
+        ensures needed { result ≡ Err BoardFault.Exhausted → on_board.SetsText (on_board.events_in_phase (phase_of self.old) (state_of self.old workspace.old) method (view params) (spec.notified (phase_of self.old) (state_of self.old workspace.old) method (view params)).files) }
         ensures err { OnErr result (workspace.new.board ≡ workspace.old.board) }
     {
         match (self.phase, method) {
@@ -214,6 +216,7 @@ impl Session {
         ensures pending { IfOk result (λ p. pending_view p ≡ (spec.received (state_of self.old workspace.old) (message_view message)).pending) }
         ensures board { OnOk result (Records workspace.old.board workspace.new.board (on_board.events_of (state_of self.old workspace.old) (message_view message) workspace.new.files)) }
         ensures exhausted { result ≡ Err BoardFault.Exhausted → IsExhausted workspace.new.board }
+        ensures needed { result ≡ Err BoardFault.Exhausted → on_board.SetsText (on_board.events_of (state_of self.old workspace.old) (message_view message) (spec.received (state_of self.old workspace.old) (message_view message)).state.files) }
         ensures err { OnErr result (workspace.new.board ≡ workspace.old.board) }
     {
         match message {
@@ -244,7 +247,10 @@ impl Session {
         ensures state { OnOk result (state_of self.new workspace.new ≡ (spec.turn (state_of self.old workspace.old) (message_view message)).state) }
         ensures pending { IfOk result (λ p. pending_view p ≡ (spec.turn (state_of self.old workspace.old) (message_view message)).pending) }
         ensures board { OnOk result (Records workspace.old.board workspace.new.board (on_board.board_events_of (state_of self.old workspace.old) (message_view message))) }
+
+        // No stamp is left only where the last one was given, and the message sets a text.
         ensures exhausted { result ≡ Err BoardFault.Exhausted → IsExhausted workspace.new.board }
+        ensures needed { result ≡ Err BoardFault.Exhausted → on_board.SetsText (on_board.board_events_of (state_of self.old workspace.old) (message_view message)) }
         ensures err { OnErr result (workspace.new.board ≡ workspace.old.board) }
     {
         match self.phase {

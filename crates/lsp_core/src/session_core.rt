@@ -7,7 +7,7 @@ ghost use Rattle.work_config.specs.Fault.{ComesWithoutThreads, IsOfWorkers};
 ghost use Rattle.work_dispatch.specs.Dispatch.{BringsResult, HandsOut};
 ghost use Rattle.work_files.specs.Files.{workspace};
 ghost use Rattle.work_space.specs.BoardTexts.{StampsRunOut};
-ghost use Rattle.lsp_core.specs.Core.{Event, Arrive, Advance, Give, messages, processed, board_events, IsAfter, WhateverCame, Records, MayStep, IsSettled, ComesToAnAnalysis, ExhaustsStamps, Replied, Advances};
+ghost use Rattle.lsp_core.specs.Core.{Event, Arrive, Advance, Give, messages, processed, board_events, IsAfter, WhateverCame, Records, MayStep, IsSettled, ComesToAnAnalysis, FindsNoStamp, Replied, Advances};
 ghost use Rattle.lsp_core.specs.Run.{event_of, incoming_of_done, verdicts_of};
 ghost use Rattle.lsp_core.specs.Steps.{CanStep, IsPrepared, IsReady, NeedsAnalysis, WorksOn, steps_left, unprocessed};
 ghost use Rattle.lsp_core.specs.Session.{exit_of};
@@ -191,8 +191,8 @@ impl Core {
         ensures threads { last_fault self.old ≡ None → IfErr result ComesWithoutThreads }
         ensures exhausted { last_fault self.old ≡ None → result ≡ Err CoreFault.Exhausted → IsExhausted (core_state self.new).board }
 
-        // No stamp is left only where the files on disk and the messages that came are more than the stamps.
-        ensures stamps { last_fault self.old ≡ None → result ≡ Err CoreFault.Exhausted → WhateverCame (core_state self.old) (λ opening config h. ExhaustsStamps opening config (length (messages h))) }
+        // No stamp is left only where steps that may come set more texts than there are stamps.
+        ensures stamps { last_fault self.old ≡ None → result ≡ Err CoreFault.Exhausted → WhateverCame (core_state self.old) FindsNoStamp }
         ensures open { OnOk result (last_fault self.new ≡ None) }
 
         // What the core stood for, it stands for with all messages processed that could be.
@@ -225,8 +225,8 @@ impl Core {
         ensures fault { IfErr result (λ fault. last_fault self.new ≡ Some fault) }
         ensures exhausted { last_fault self.old ≡ None → result ≡ Err CoreFault.Exhausted → IsExhausted (core_state self.new).board }
 
-        // No stamp is left only where the files on disk and the messages that came are more than the stamps.
-        ensures stamps { last_fault self.old ≡ None → result ≡ Err CoreFault.Exhausted → WhateverCame (core_state self.old) (λ opening config h. ExhaustsStamps opening config (length (messages h))) }
+        // No stamp is left only where steps that may come set more texts than there are stamps.
+        ensures stamps { last_fault self.old ≡ None → result ≡ Err CoreFault.Exhausted → WhateverCame (core_state self.old) FindsNoStamp }
 
         // A thread is refused only where a message may finish that is answered from an analysis.
         ensures threads { last_fault self.old ≡ None → result ≡ Err CoreFault.ThreadRefused → WhateverCame (core_state self.old) ComesToAnAnalysis }
@@ -247,7 +247,7 @@ impl Core {
     fn take_steps(&mut self) -> Result<Vec<Reply>, BoardFault>
         ensures fault { last_fault self.new ≡ last_fault self.old }
         ensures exhausted { result ≡ Err BoardFault.Exhausted → IsExhausted (core_state self.new).board }
-        ensures stamps { result ≡ Err BoardFault.Exhausted → WhateverCame (core_state self.old) (λ opening config h. ExhaustsStamps opening config (length (messages h))) }
+        ensures stamps { result ≡ Err BoardFault.Exhausted → WhateverCame (core_state self.old) FindsNoStamp }
         ensures advances { IfOk result (λ replies. WhateverCame (core_state self.old) (λ opening config h. Advances opening config (core_state self.new) h replies.items)) }
     {
         let mut replies = Vec::new(self.alloc);
@@ -266,7 +266,7 @@ impl Core {
     ) -> Result<Vec<Reply>, CoreFault>
         ensures fault { last_fault self.new ≡ last_fault self.old }
         ensures exhausted { result ≡ Err CoreFault.Exhausted → IsExhausted (core_state self.new).board }
-        ensures stamps { result ≡ Err CoreFault.Exhausted → WhateverCame (core_state self.old) (λ opening config h. ExhaustsStamps opening config (length (messages h))) }
+        ensures stamps { result ≡ Err CoreFault.Exhausted → WhateverCame (core_state self.old) FindsNoStamp }
         ensures threads { result ≡ Err CoreFault.ThreadRefused → WhateverCame (core_state self.old) ComesToAnAnalysis }
         ensures advances { IfOk result (λ replies. WhateverCame (core_state self.old) (λ opening config h. Advances opening config (core_state self.new) h replies.items)) }
     {
@@ -343,7 +343,7 @@ impl Core {
         requires prepared { IsPrepared (core_state self.old) self.old.workspace.is_current }
         ensures fault { last_fault self.new ≡ last_fault self.old }
         ensures exhausted { result ≡ Err BoardFault.Exhausted → IsExhausted (core_state self.new).board }
-        ensures stamps { result ≡ Err BoardFault.Exhausted → WhateverCame (core_state self.old) (λ opening config h. ExhaustsStamps opening config (length (messages h))) }
+        ensures stamps { result ≡ Err BoardFault.Exhausted → WhateverCame (core_state self.old) FindsNoStamp }
         ensures shorter { OnOk result (steps_left (core_state self.new) < steps_left (core_state self.old)) }
         ensures after { OnOk result (WhateverCame (core_state self.old) (λ opening config h. MayStep opening config h step → IsAfter opening config (core_state self.new) (Advance step ∷ h))) }
         ensures replied { OnOk result ((opening : ℕ) (config : Configuration) (h : List Event) (first : List (List ℕ)) → IsAfter opening config (core_state self.old) h → MayStep opening config h step → Replied config h first replies.old.items → Replied config (Advance step ∷ h) first replies.new.items) }
@@ -359,7 +359,7 @@ impl Core {
         requires { CanStep (core_state self.old) Step.Begin }
         ensures fault { last_fault self.new ≡ last_fault self.old }
         ensures exhausted { result ≡ Err BoardFault.Exhausted → IsExhausted (core_state self.new).board }
-        ensures stamps { result ≡ Err BoardFault.Exhausted → WhateverCame (core_state self.old) (λ opening config h. ExhaustsStamps opening config (length (messages h))) }
+        ensures stamps { result ≡ Err BoardFault.Exhausted → WhateverCame (core_state self.old) FindsNoStamp }
         ensures shorter { OnOk result (steps_left (core_state self.new) < steps_left (core_state self.old)) }
         ensures after { OnOk result (WhateverCame (core_state self.old) (λ opening config h. MayStep opening config h Step.Begin → IsAfter opening config (core_state self.new) (Advance Step.Begin ∷ h))) }
     {
@@ -394,7 +394,7 @@ impl Core {
         ensures state { (core_state self.new).state ≡ (core_state self.old).state }
         ensures waits { unprocessed (core_state self.new) ≡ unprocessed (core_state self.old) }
         ensures fault { last_fault self.new ≡ last_fault self.old }
-        ensures workers { IfErr result IsOfWorkers }
+        ensures memory { IfErr result (λ fault. fault ≡ ServeFault.Memory) }
     {
         hand_out_jobs(rt, &mut self.workspace, pool)?;
         Ok(())

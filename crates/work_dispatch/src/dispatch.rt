@@ -1,5 +1,5 @@
 // Jobs go out to the workers of a pool, and what became of them comes back.
-ghost use Rattle.std.specs.Prelude.{◌≡◌, ◌+◌, ◌<◌, [], ◌∷◌, true, false, None, IfOk, IfErr, OnOk, OnErr};
+ghost use Rattle.std.specs.Prelude.{◌≡◌, ◌+◌, ◌<◌, [], ◌∷◌, true, false, None, Err, IfOk, IfErr, OnOk, OnErr};
 ghost use Rattle.piece_collector.specs.Board.{IsFirstWanted, WhateverCame, Records};
 ghost use Rattle.piece_collector.specs.Events.{NextJob};
 ghost use Rattle.piece_collector.specs.Views.{TextAt};
@@ -24,6 +24,7 @@ fn hand_out_next<R: Wait>(
     ensures rest { IfOk result (λ more. more ≡ false → pool.new.sent ≡ pool.old.sent) }
     ensures sends { IfOk result (λ more. more ≡ true → (job : TextAt) × Sends workspace.old.board pool.old.sent pool.new.sent (job ∷ [])) }
     ensures out { IfOk result (λ more. more ≡ true → pool.new.out ≡ pool.old.out + 1) }
+    ensures memory { IfErr result (λ fault. fault ≡ PoolFault.Memory) }
 {
     let Some(job) = workspace.next_job()? else {
         return Ok(false);
@@ -43,6 +44,7 @@ pub fn hand_out_jobs<R: Wait>(
 ) -> Result<(), PoolFault>
     ensures files { workspace.new.files ≡ workspace.old.files }
     ensures hands { OnOk result (HandsOut workspace.old.board workspace.new.board pool.old.sent pool.new.sent) }
+    ensures memory { IfErr result (λ fault. fault ≡ PoolFault.Memory) }
 {
     'jobs: while pool.has_room() {
         if !hand_out_next(rt, workspace, pool)? {
@@ -84,6 +86,9 @@ pub fn bring_result<R: Wait>(
     ensures files { workspace.new.files ≡ workspace.old.files }
     ensures brings { OnOk result (BringsResult workspace.old.board workspace.new.board pool.old.sent pool.new.sent) }
     ensures received { OnOk result (pool.old.out ≡ pool.new.out + 1) }
+
+    // If nothing can come, nothing is done.
+    ensures refused { result ≡ Err PoolFault.ThreadRefused → (pool.new ≡ pool.old) × (workspace.new.board ≡ workspace.old.board) }
 {
     match pool.receive(rt) {
         Some(done) => bring(workspace, done),

@@ -1,5 +1,5 @@
 // The files of a workspace, the board of their texts, and the analysis of them.
-ghost use Rattle.std.specs.Prelude.{◌≡◌, ℕ, length, List, [], ◌∷◌, false, IfOk, IfSome, OnOk, OnErr, IsTrue, Option, Some, Err, option_map, map, string_bytes, ◌↔◌, bytes_eq};
+ghost use Rattle.std.specs.Prelude.{◌≡◌, ℕ, length, List, [], ◌∷◌, true, false, IfOk, IfSome, OnOk, OnErr, IsSome, IsTrue, Option, Some, Err, option_map, map, string_bytes, ◌↔◌, bytes_eq};
 ghost use Rattle.std.specs.Map.{update};
 ghost use Rattle.doc_text.specs.Edits.{change_view};
 ghost use Rattle.piece_collector.specs.Board.{IsAfter, IsFirstWanted, IsComplete, IsFull, current_text, WhateverCame, Records};
@@ -8,6 +8,7 @@ ghost use Rattle.piece_collector.specs.History.{verdict_on, failure_on, stands_a
 ghost use Rattle.piece_collector.specs.Views.{known_text};
 ghost use Rattle.work_files.specs.Disk.{disk_view};
 ghost use Rattle.work_files.specs.Files.{from_disk, opened_files, changed_files, saved_files, closed_files, text_at, workspace};
+ghost use Rattle.work_files.specs.Texts.{is_open};
 ghost use Rattle.work_space.specs.BoardTexts.{HoldsTexts, StampsRunOut, text_event, event_at, events_at, first_events};
 ghost use Rattle.work_files.specs.View.{document_view, file_view};
 
@@ -92,6 +93,7 @@ fn tell(
     ensures texts { OnOk result ((q : List ℕ) → known_text q board.new ≡ update bytes_eq (λ p. known_text p board.old) path.now text q) }
     ensures here { board.new.is_lent ≡ false }
     ensures exhausted { result ≡ Err BoardFault.Exhausted → board.new.last ≡ 18446744073709551615 }
+    ensures needed { result ≡ Err BoardFault.Exhausted → IsSome text }
     ensures err { OnErr result (board.new ≡ board.old) }
 {
     match text {
@@ -163,8 +165,9 @@ impl Workspace {
         ensures files { OnOk result (self.new.files ≡ changed_files edits.version edits.encoding (map change_view edits.changes.items) path.now self.old.files) }
         ensures board { OnOk result (Records self.old.board self.new.board (events_at path.now self.old.files self.new.files)) }
 
-        // No stamp is left only where the last one was given.
+        // No stamp is left only where the last one was given, and a document is open, whose text needs one.
         ensures exhausted { result ≡ Err BoardFault.Exhausted → (let board = self.new.board in board.last) ≡ 18446744073709551615 }
+        ensures needed { result ≡ Err BoardFault.Exhausted → is_open path.now self.old.files ≡ true }
         ensures err { OnErr result (self.new ≡ self.old) }
     {
         let Some(document) = self.files.edited(self.alloc, path, edits)? else {
@@ -198,8 +201,10 @@ impl Workspace {
         ensures files { OnOk result (self.new.files ≡ closed_files path.now self.old.files) }
         ensures board { OnOk result (Records self.old.board self.new.board (events_at path.now self.old.files self.new.files)) }
 
-        // No stamp is left only where the last one was given.
+        // No stamp is left only where the last one was given, a document is open, and its path has a text after the close, which
+        // needs one.
         ensures exhausted { result ≡ Err BoardFault.Exhausted → (let board = self.new.board in board.last) ≡ 18446744073709551615 }
+        ensures needed { result ≡ Err BoardFault.Exhausted → (is_open path.now self.old.files ≡ true) × IsSome (text_at path.now (closed_files path.now self.old.files)) }
         ensures err { OnErr result (self.new ≡ self.old) }
     {
         if !self.files.is_open(path) {

@@ -1,5 +1,6 @@
 use Rattle.std.proofs.Common.{◌<◌, length, subst, sym, ◌∙◌}
 use Rattle.work_space.proofs.FirstEvents.{refused_with}
+use Rattle.work_config.specs.Fault.{IsOfWorkers}
 use Rattle.work_config.specs.declared.fault.ServeFault.TheVariants as served
 use Rattle.lsp_core.specs.Core.{ExhaustsStamps}
 use Rattle.lsp_core.proofs.FaultLemmas.{not_of_workers}
@@ -18,7 +19,7 @@ returns-clause-progress g c = if_ok c.advance.result c.advance.ensures.advances 
 pub returns-in_err-hand_out-clause-stamps : goal.returns-in_err-hand_out-clause-stamps
 returns-in_err-hand_out-clause-stamps g c = λ free out.
     let fault = c.in_err-hand_out.field-0.0 in
-    absurd (not_of_workers fault (c.in_err-hand_out.ensures.workers) (refused_with fault served.Exhausted c.from_residual.result c.from_residual.ensures.1 out))
+    absurd (not_of_workers fault (subst IsOfWorkers (sym c.in_err-hand_out.ensures.memory) tt) (refused_with fault served.Exhausted c.from_residual.result c.from_residual.ensures.1 out))
 
 pub returns-in_err-take_result-clause-stamps : goal.returns-in_err-take_result-clause-stamps
 returns-in_err-take_result-clause-stamps g c = λ free out.

@@ -2,7 +2,8 @@ use Rattle.lsp_frame.specs.FrameReader.{source_of}
 use Rattle.lsp_core.specs.View.{core_state}
 use Rattle.lsp_core.proofs.FaultLemmas.{of_workers}
 use Rattle.lsp_session.proofs.ServingLemmas.{serving-on, fails_between, core_caused, no_calls}
-use Rattle.std.proofs.Common.{◌∙◌, ap}
+use Rattle.std.proofs.Common.{◌∙◌, ap, subst, sym}
+use Rattle.work_config.specs.Fault.{IsOfWorkers}
 use Rattle.lsp_core.specs.Session.{is_exited}
 use Rattle.lsp_session.proofs.taking.take_turn.Goals as goal
 
@@ -13,7 +14,7 @@ returns-in-Ok-clause-comes g c = λ config a v so_far not_exited free.
 
 pub returns-in-Err-clause-comes : goal.returns-in-Err-clause-comes
 returns-in-Err-clause-comes g c = λ config a v so_far not_exited free.
-    fails_between config a (g.S.ByteSource.left (source_of c.args.reader.now)) v (g.K.ByteSink.written c.args.writer.now) (core_state c.args.core.now) c.in-Err.fault so_far c.in-Err.ensures.workers
+    fails_between config a (g.S.ByteSource.left (source_of c.args.reader.now)) v (g.K.ByteSink.written c.args.writer.now) (core_state c.args.core.now) c.in-Err.fault so_far (subst IsOfWorkers (sym c.in-Err.ensures.memory) tt)
 
 pub returns-in-Err-clause-reads : goal.returns-in-Err-clause-reads
 returns-in-Err-clause-reads g c = no_calls _ _ _
@@ -22,4 +23,4 @@ pub returns-in-Err-clause-writes : goal.returns-in-Err-clause-writes
 returns-in-Err-clause-writes g c = no_calls _ _ _
 
 pub returns-in-Err-clause-cause : goal.returns-in-Err-clause-cause
-returns-in-Err-clause-cause g c = core_caused (g.S.ByteSource.counts (source_of c.args.reader.now)) (g.S.ByteSource.counts (source_of c.args.reader.now)) (g.K.ByteSink.counts c.args.writer.now) (g.K.ByteSink.counts c.args.writer.now) c.in-Err.fault (of_workers c.in-Err.fault c.in-Err.ensures.workers)
+returns-in-Err-clause-cause g c = core_caused (g.S.ByteSource.counts (source_of c.args.reader.now)) (g.S.ByteSource.counts (source_of c.args.reader.now)) (g.K.ByteSink.counts c.args.writer.now) (g.K.ByteSink.counts c.args.writer.now) c.in-Err.fault (of_workers c.in-Err.fault (subst IsOfWorkers (sym c.in-Err.ensures.memory) tt))

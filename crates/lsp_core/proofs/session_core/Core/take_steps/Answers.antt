@@ -1,10 +1,10 @@
-use Rattle.std.proofs.Common.{Err, ap, ◌∷◌, ◌++◌, ◌∙◌, length, map, sym, subst}
+use Rattle.std.proofs.Common.{Err, ap, ◌∷◌, ◌++◌, ◌∙◌, map, sym, subst}
 use Rattle.piece_collector.specs.declared.fault.BoardFault.TheVariants as board
 use Rattle.work_space.proofs.FirstEvents.{refused_with}
-use Rattle.lsp_core.specs.Core.{Advance, IsAfter, ExhaustsStamps}
+use Rattle.lsp_core.specs.Core.{Advance, IsAfter}
 use Rattle.lsp_core.specs.Steps.{CanStep}
 use Rattle.lsp_core.specs.View.{core_state}
-use Rattle.lsp_core.proofs.CoreLemmas.{messages-steps}
+use Rattle.lsp_core.proofs.StampLemmas.{later_finds_none}
 use Rattle.lsp_core.proofs.session_core.Core.take_steps.Goals as goal
 
 pub steps-preserved : goal.steps-preserved
@@ -37,4 +37,4 @@ returns-in_err-take_step-clause-stamps c = λ none opening config h before.
     let taken = c.steps.invariant.taken opening config h before in
     let now = map Advance taken.steps ++ h in
     let prepared : IsAfter opening config (core_state c.prepare.new.self) now = subst (λ s. IsAfter opening config s now) (sym c.in_ok-prepare.ensures.state) taken.is_after in
-    subst (λ bodies. ExhaustsStamps opening config (length bodies)) (messages-steps taken.steps h) (c.in_err-take_step.ensures.stamps (ap Err is) opening config now prepared)
+    later_finds_none opening config taken.steps h (c.in_err-take_step.ensures.stamps (ap Err is) opening config now prepared)

@@ -1,12 +1,13 @@
-use Rattle.std.proofs.Common.{Err, ap, ◌∷◌, ◌++◌, ◌∙◌, length, map, sym, subst}
+use Rattle.std.proofs.Common.{Err, ap, ◌∷◌, ◌++◌, ◌∙◌, map, sym, subst}
 use Rattle.work_space.proofs.FirstEvents.{refused_with}
 use Rattle.work_config.specs.Fault.{core_fault_of}
 use Rattle.work_config.specs.declared.fault.CoreFault.TheVariants as core
-use Rattle.lsp_core.specs.Core.{Advance, IsAfter, ExhaustsStamps}
+use Rattle.lsp_core.specs.Core.{Advance, IsAfter}
 use Rattle.lsp_core.specs.Steps.{CanStep}
 use Rattle.lsp_core.specs.View.{core_state}
-use Rattle.lsp_core.proofs.CoreLemmas.{messages-steps, comes_to_analysis}
+use Rattle.lsp_core.proofs.CoreLemmas.{comes_to_analysis}
 use Rattle.lsp_core.proofs.FaultLemmas.{of_board, not_of_board}
+use Rattle.lsp_core.proofs.StampLemmas.{later_finds_none}
 use Rattle.lsp_core.proofs.session_core.Core.take_steps_in_shares.Goals as goal
 
 pub steps-preserved : goal.steps-preserved
@@ -40,7 +41,7 @@ returns-in_err-take_step-clause-stamps g c = λ none opening config h before.
     let taken = c.steps.invariant.taken opening config h before in
     let now = map Advance taken.steps ++ h in
     let prepared : IsAfter opening config (core_state c.prepare_in_shares.new.self) now = subst (λ s. IsAfter opening config s now) (sym c.in_ok-prepare_in_shares.ensures.state) taken.is_after in
-    subst (λ bodies. ExhaustsStamps opening config (length bodies)) (messages-steps taken.steps h) (c.in_err-take_step.ensures.stamps (ap Err (of_board fault is)) opening config now prepared)
+    later_finds_none opening config taken.steps h (c.in_err-take_step.ensures.stamps (ap Err (of_board fault is)) opening config now prepared)
 
 pub returns-in_err-take_step-clause-threads : goal.returns-in_err-take_step-clause-threads
 returns-in_err-take_step-clause-threads g c = λ out.

@@ -1,9 +1,9 @@
-use Rattle.std.proofs.Common.{◌∙◌, Option, Some, option_map, ap, sym, subst, refl, true, map}
+use Rattle.std.proofs.Common.{◌≡◌, ◌∙◌, Option, Some, option_map, ap, sym, subst, refl, true, map}
 use Rattle.doc_text.specs.Edits.{change_view}
 use Rattle.work_files.specs.Files.{AreInPathOrder}
 use Rattle.work_space.specs.Kept.{IsKept}
 use Rattle.piece_collector.specs.Board.{Records}
-use Rattle.work_files.specs.Texts.{TextsChangeAt}
+use Rattle.work_files.specs.Texts.{TextsChangeAt, is_open}
 use Rattle.work_space.specs.BoardTexts.{events_at}
 use Rattle.work_files.specs.View.{document_view}
 use Rattle.work_space.specs.View.{WorkspaceData}
@@ -47,3 +47,10 @@ returns-clause-board c =
     let event = event_open path old new (Some text) both.0 (own path (Some text) old new texts) in
     subst (λ (w : WorkspaceData). Records w.board c.tell.new.board (events_at path w.files new)) c.self.view_is
     (subst (λ es. Records c.self.inside.board c.tell.new.board es) (sym event) (rw c.in_ok-text.ensures at c.in_ok-tell.ensures.is_after))
+
+pub returns-in_err-tell-clause-needed : goal.returns-in_err-tell-clause-needed
+returns-in_err-tell-clause-needed c = λ none.
+    let path = c.args.path.now in
+    let changes = map change_view c.args.edits.changes.items in
+    let both = changed_text path c.self.inside.files c.args.edits.version c.args.edits.encoding changes (document_view c.in-Some.document) (ap (option_map document_view) (sym c.in-Some.is) ∙ c.in_ok-document.ensures) in
+    subst (λ (w : WorkspaceData). is_open path w.files ≡ true) c.self.view_is both.0
