@@ -18,5 +18,5 @@ pub use node::{
     Fault, Field, FileTree, Header, Literal, MapField, Node, Number, RangeEnd, ReservedList,
     ReservedRange, Span, SyntaxProblem, TypeName,
 };
-pub use room::make_room;
+pub use room::{make_room, make_room_for_files};
 pub use spans::Spans;

@@ -10,13 +10,13 @@ ghost use Rattle.work_index.specs.Workspace.{Workspace, all_facts, analysis, res
 use crate::analysis::{Analysis, Resolutions};
 use crate::file_work::{FileWork, facts_in, tree_in};
 use crate::gate::{Gate, OpenGate};
-use crate::room::make_room;
 use crate::shared_links::SharedLinks;
 use crate::source_file::SourceFile;
 use crate::table_of::table_of;
 use piece_collector::Piece;
 use proto_decls::{Diag, FileFacts, in_order};
 use proto_resolve::{Links, Table, resolve_file};
+use proto_tree::make_room_for_files;
 use sqlite_items::Items;
 use std::alloc::{AllocError, Global};
 
@@ -114,7 +114,7 @@ pub fn link_files<G: Gate>(
     let mut resolutions = Resolutions { links, diagnostics };
     for (place, piece) in pieces.iter().enumerate() {
         gate.enter(piece.path(), piece.stamp());
-        make_room(alloc, place)?;
+        make_room_for_files(alloc, place)?;
         push_linked(alloc, table, first + place, piece, &mut resolutions)?;
     }
     Ok(resolutions)
@@ -151,7 +151,7 @@ pub fn diagnose_files<G: Gate>(
     let mut diagnostics = Vec::new(alloc);
     for (place, piece) in pieces.iter().enumerate() {
         gate.enter(piece.path(), piece.stamp());
-        make_room(alloc, place)?;
+        make_room_for_files(alloc, place)?;
         push_diagnosed(alloc, table, first + place, piece, &mut diagnostics)?;
     }
     let links = Vec::new(alloc);

@@ -5,13 +5,12 @@ ghost use Rattle.work_links.specs.Asked.{has_all};
 ghost use Rattle.proto_tree.specs.Read.{value_tree};
 ghost use Rattle.work_index.specs.Workspace.{asked_of};
 
-use crate::room::make_room;
 use import_graph::SharedFacts;
 use piece_collector::{Piece, SharedText, Work};
 use proto_decls::FileFacts;
 use proto_facts::facts;
 use proto_syntax::parse_text;
-use proto_tree::{FileTree, is_too_long};
+use proto_tree::{FileTree, is_too_long, make_room_for_files};
 use std::alloc::{AllocError, AllocFailed, Global};
 use std::sync::Arc;
 use work_links::Asked;
@@ -92,7 +91,7 @@ impl Work for FileWork {
     ghost is_product_of = { λ out text. (out.tree ≡ value_tree text) × (out.facts ≡ facts_of text) × (has_all out.asked.value (asked_of text) ≡ true) };
 
     fn work(&self, text: &str) -> Result<FileOut, AllocError> {
-        make_room(self.alloc, text.len())?;
+        make_room_for_files(self.alloc, text.len())?;
         let tree = tree_of(self.alloc, text)?;
         let facts = facts(self.alloc, text, &tree)?;
         let asked = share(self.alloc, self.asked(text, &facts, &tree)?)?;

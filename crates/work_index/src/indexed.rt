@@ -3,8 +3,8 @@ ghost use Rattle.std.specs.Prelude.{IfOk};
 ghost use Rattle.work_index.specs.Parts.{IsIndexed, AreTaken};
 
 use crate::part_table::PartTable;
-use crate::room::make_room;
 use crate::shares::Share;
+use proto_tree::make_room_for_files;
 use std::alloc::{AllocError, Global};
 
 // A share, with the declarations of its files by name.
@@ -25,7 +25,7 @@ pub struct IndexedShares {
 pub fn index_share(alloc: Global, share: Share) -> Result<IndexedShare, AllocError>
     ensures { IfOk result (IsIndexed share) }
 {
-    make_room(alloc, 0)?;
+    make_room_for_files(alloc, 0)?;
     let part = PartTable::of(alloc, share.first, share.pieces.as_slice())?;
     Ok(IndexedShare { share, part })
 }

@@ -21,7 +21,6 @@ mod indexed;
 mod keeping;
 mod linked;
 mod part_table;
-mod room;
 mod shared_links;
 mod shares;
 mod source_file;
