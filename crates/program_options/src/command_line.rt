@@ -1,6 +1,7 @@
 // Reads the words of the command line.
 ghost use Rattle.std.specs.Prelude.{◌≡◌, ◌≤◌, IfOk, IfSome, IsTrue, All, true, false};
 ghost use Rattle.program_options.specs.Path as spec;
+ghost use Rattle.program_options.specs.declared.command_line.Refusal.TheVariants as refusal;
 
 use crate::commands::program;
 use crate::words::Options;
@@ -28,6 +29,8 @@ enum Refusal {
 }
 
 impl From<AllocError> for Refusal {
+    ghost from_gives = { λ _ e. e ≡ refusal.Memory };
+
     fn from(_error: AllocError) -> Refusal {
         Refusal::Memory
     }

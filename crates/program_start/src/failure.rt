@@ -1,4 +1,8 @@
 // Why the program ended before its session or its check did.
+ghost use Rattle.std.specs.Prelude.{◌≡◌};
+ghost use Rattle.work_config.specs.Fault.{serve_code};
+ghost use Rattle.program_start.specs.Failure.{failure_of_folder};
+ghost use Rattle.program_start.specs.declared.failure.Failure.TheVariants as failure;
 
 use program_folder::FolderFault;
 use std::alloc::{AllocError, AllocFailed};
@@ -32,6 +36,8 @@ pub enum Failure<'d> {
 }
 
 impl<'d> From<FolderFault<'d>> for Failure<'d> {
+    ghost from_gives = { λ fault e. e ≡ failure_of_folder fault };
+
     fn from(fault: FolderFault<'d>) -> Failure<'d> {
         match fault {
             FolderFault::Memory => Failure::from(ServeFault::Memory),
@@ -41,18 +47,24 @@ impl<'d> From<FolderFault<'d>> for Failure<'d> {
 }
 
 impl<'d> From<ServeFault> for Failure<'d> {
+    ghost from_gives = { λ fault e. e ≡ failure.Fault (serve_code fault) };
+
     fn from(fault: ServeFault) -> Failure<'d> {
         Failure::Fault(fault.code())
     }
 }
 
 impl<'d> From<AllocError> for Failure<'d> {
+    ghost from_gives = { λ _ e. e ≡ failure.Fault 803 };
+
     fn from(_error: AllocError) -> Failure<'d> {
         Failure::from(ServeFault::Memory)
     }
 }
 
 impl<'d, T: Drop> From<AllocFailed<T>> for Failure<'d> {
+    ghost from_gives = { λ _ e. e ≡ failure.Fault 803 };
+
     fn from(_error: AllocFailed<T>) -> Failure<'d> {
         Failure::from(ServeFault::Memory)
     }
