@@ -135,6 +135,8 @@ class Documents(unittest.TestCase):
 # A file that a document names: below a folder of the repository, or a source by its name alone, of the document's own crate or of the one behind it.
 FILE = re.compile(r"(?<![\w/.])((?:crates|docs|tools|tests|bench|examples|packaging|editors)/[\w./-]*\w)(?![\w*/-])")
 SOURCE = re.compile(r"(?<![\w/])(specs/\w+\.antt|\w+\.rt)\b`?(?:\s+of\s+`(\w+)`)?")
+# A source, and behind it words that stand in it.
+IN_SOURCE = re.compile(r"(?<![\w/])(specs/\w+\.antt|\w+\.rt)`?(?:\s+of\s+`(\w+)`)?((?:,\s+`[\w:]+`)+)")
 # Words of code in a document: a name, or a name of a type or crate and one of its own.
 NAME = re.compile(r"^[^\W\d]\w+$")
 CALL = re.compile(r"^\w+::\w+$")
@@ -207,6 +209,17 @@ class Named(unittest.TestCase):
 
         self.refuse(wrong)
 
+    def test_each_word_stands_in_the_source_that_is_named_with_it(self):
+        def wrong(text, crate):
+            for path, of, words in IN_SOURCE.findall(text):
+                here = [it for it in (ROOT / "crates" / (of or crate or "")).glob(f"**/{path.rpartition('/')[2]}") if not {"out", "proofs"} & set(it.parts)]
+                there = {word for it in here for word in definitions.WORD.findall(it.read_text(encoding="utf-8"))}
+                for word in spans(words):
+                    if word.rpartition("::")[2] not in there:
+                        yield f"{path} of {of or crate}: {word}"
+
+        self.refuse(wrong)
+
     def test_each_name_stands_in_the_sources(self):
         self.refuse(lambda text, crate: (span for span in spans(text) if NAME.match(span) and span not in self.sources.words), besides=ROOT / "README.md")
 
@@ -238,6 +251,9 @@ class Named(unittest.TestCase):
             # (a private function stands in parentheses too, also behind names of clauses)
             for calls, labels in CLAUSES.findall(refused + ")") + CLAUSES.findall(refused.replace("` (", "`; (") + ")"):
                 known = [one.labels() for call in spans(calls) for one in self.sources.functions.get(call.rpartition("::")[2], [])]
+                unknown |= set(spans(labels)) - set(self.sources.functions).union(*known) if known else set()
+            for labels, call in OF_CALL.findall(refused):
+                known = [one.labels() for one in self.sources.functions.get(call, [])]
                 unknown |= set(spans(labels)) - set(self.sources.functions).union(*known) if known else set()
             if unknown:
                 found.append(f"{edit.relative_to(ROOT).as_posix()}: {', '.join(sorted(unknown))}")

@@ -122,7 +122,7 @@ class Planted(unittest.TestCase):
         self.assertEqual(found, WANTED, ran.stdout)
         self.assertEqual(ran.returncode, 1)
         self.assertRegex(ran.stdout, r"wrong_low\.edit: REFUSED: with \d+ others")
-        self.assertTrue(ran.stdout.endswith("\n8 refused, 8 not\n"), ran.stdout)
+        self.assertTrue(ran.stdout.endswith("\n7 refused, 9 not\n"), ran.stdout)
         self.assertRegex(ran.stdout, r"\d+ edits tried now, 4 BAD EDIT, 1 NAMES ONLY, 4 NOT REFUSED;")
 
         # What was refused is on record; the rest is tried again, also after a comment changed.
@@ -266,14 +266,7 @@ class Judged(unittest.TestCase):
         self.assertEqual(wrong_bodies.verdict_of("with 3 others: `search` did not prove `returns`"), "REFUSED")
 
     def test_what_is_a_failure(self):
-        counts, before = {"REFUSED": 5, "NAMES ONLY": 1, "NOT REFUSED": 2}, wrong_bodies.FAILS_ON_NAMES
-        try:
-            found = []
-            for wrong_bodies.FAILS_ON_NAMES in (False, True):
-                found.append(wrong_bodies.failures(counts))
-            self.assertEqual(found, [2, 3])
-        finally:
-            wrong_bodies.FAILS_ON_NAMES = before
+        self.assertEqual(wrong_bodies.failures({"REFUSED": 5, "NAMES ONLY": 1, "NOT REFUSED": 2}), 3)
 
     def test_not_proved_with_no_reason(self):
         self.assertEqual(self.judged("fn planted::high: not proved", "low", "high"), set())

@@ -22,8 +22,7 @@ own. --gate, beside an `rt ci` that has proved these crates or after it, takes t
 tries the edits of must-fail/ too, each time, and also fails where verdicts.json names an edit that isn't there. --apart says where these lie if not in
 the crates: in FOLDER/NAME.
 
-The status is 0 if each edit is REFUSED, else 1; NAMES ONLY is a failure once FAILS_ON_NAMES says so. The last line is `N refused, M not`; the one
-before it counts the others by their verdicts, NAMES ONLY among them.
+The status is 0 if each edit is REFUSED, else 1. The last line is `N refused, M not`; the one before it counts the others by their verdicts.
 
 How edits share a check
   - The unchanged crate has to be proved. A check of edits then asks for the edited functions alone: what they promise is what it was before, so nothing
@@ -68,8 +67,6 @@ STATUS = re.compile(r"(fn|struct|enum|union|impl|trait|const|static) (\S+): (.*)
 SECOND_HAND = re.compile(r"was rejected|was not admitted|were not checked|was not checked|is not proved|are not proved|could not be read")
 NAMES_ONLY = re.compile(r"has no field|\(nearest: |is not in scope|has no `|was not admitted")
 # What the verdict says of a refusal that shows nothing of a contract, here and where the kit has tried an edit.
-# It is a failure if this is true, which it is to be as soon as no edit has that verdict.
-FAILS_ON_NAMES = False
 FOR_NAMES = "only because a proof file names what the edit took away"
 ONLY_CALLEES = re.compile(r"(not proved|no proof)[:;] (in `[^`]+`, of this cycle of calls: )?it calls .*")
 # The goals of functions that call each other in a ring stand in one file, each behind the name of its function, and are said of every one of them.
@@ -589,7 +586,7 @@ def proved_now(crates, jobs):
 
 def failures(counts):
     """How many of the counted verdicts are failures."""
-    return sum(n for verdict, n in counts.items() if verdict != REFUSED and (verdict != NAMES or FAILS_ON_NAMES))
+    return sum(n for verdict, n in counts.items() if verdict != REFUSED)
 
 
 def main(words):
