@@ -191,7 +191,7 @@ impl Core {
         ensures threads { last_fault self.old ≡ None → IfErr result ComesWithoutThreads }
         ensures exhausted { last_fault self.old ≡ None → result ≡ Err CoreFault.Exhausted → IsExhausted (core_state self.new).board }
 
-        // No stamp is left only where steps that may come set more texts than there are stamps.
+        // No stamp is left only if, after steps that may come, more texts were set in all than there are stamps behind the opening one.
         ensures stamps { last_fault self.old ≡ None → result ≡ Err CoreFault.Exhausted → WhateverCame (core_state self.old) FindsNoStamp }
         ensures open { OnOk result (last_fault self.new ≡ None) }
 
@@ -225,7 +225,7 @@ impl Core {
         ensures fault { IfErr result (λ fault. last_fault self.new ≡ Some fault) }
         ensures exhausted { last_fault self.old ≡ None → result ≡ Err CoreFault.Exhausted → IsExhausted (core_state self.new).board }
 
-        // No stamp is left only where steps that may come set more texts than there are stamps.
+        // No stamp is left only if, after steps that may come, more texts were set in all than there are stamps behind the opening one.
         ensures stamps { last_fault self.old ≡ None → result ≡ Err CoreFault.Exhausted → WhateverCame (core_state self.old) FindsNoStamp }
 
         // A thread is refused only where a message may finish that is answered from an analysis.

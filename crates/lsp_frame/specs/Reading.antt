@@ -22,8 +22,8 @@ pub record ShowsEnd (bytes : List ℕ) (left : Option (List ℕ)) (end : StreamE
   pub none : frames bytes ≡ no_frames end
   pub is_left : left ≡ Some (left_behind bytes)
 
--- Some of the bytes were taken, with which no whole frame begins and which show no fault but that they end; none of them is behind
--- the frame, and the others are left.
+-- Some of the bytes were taken. They don't begin with a whole frame, and show no fault but that they end; none of them is behind the
+-- frame, and the others are left.
 pub record BreaksOff (bytes : List ℕ) (left : Option (List ℕ)) : Type 0 where
   pub taken : List ℕ
   pub rest : List ℕ
@@ -34,8 +34,8 @@ pub record BreaksOff (bytes : List ℕ) (left : Option (List ℕ)) : Type 0 wher
   pub unfinished : (end ≡ InputEnd) ⊎ (end ≡ BadFrame Truncated)
   pub needed : left_behind taken ≡ []
 
--- Some of the bytes were taken, with which no whole frame begins or which are one; none of them is behind the frame, nor behind
--- what shows that it is a bad one, and the others are left.
+-- Some of the bytes were taken. They don't begin with a whole frame, or are one; none of them is behind the frame, nor behind what
+-- shows that it is a bad one, and the others are left.
 pub record RunsOut (bytes : List ℕ) (left : Option (List ℕ)) : Type 0 where
   pub taken : List ℕ
   pub rest : List ℕ

@@ -23,7 +23,7 @@ pub data Precedes {X : Type 0} : List X → X → X → Type 0 where
   first : {xs : List X} {x y : X} → Contains xs y → Precedes (x ∷ xs) x y
   behind : {xs : List X} {x y z : X} → Precedes xs x y → Precedes (z ∷ xs) x y
 
--- what stands between the braces of a block; no other statement has any
+-- the statements between the braces of a block; no other statement holds statements
 abbrev pub between_braces : Node-F Node → List Node
 between_braces (Node-F.Message span name items) = items
 between_braces (Node-F.EnumDef span name items) = items

@@ -1,4 +1,4 @@
--- Files with room for a path, and with another document, another kept text or none open.
+-- Files with room for a path, and with another document, another kept text or no document open.
 use Rattle.std.specs.Prelude.{ℕ, List, Bool, false, ◌&&◌, Option, Some, None, is_some, is_none}
 use Rattle.work_files.specs.Files.{OpenDocument, File, Files, empty_file, file_at, with_file, set_file, where_open}
 
