@@ -1,4 +1,6 @@
 // Why folders can't be read.
+ghost use Rattle.std.specs.Prelude.{◌≡◌};
+ghost use Rattle.program_folder.specs.declared.fault.FolderFault.TheVariants.{Memory};
 
 use std::alloc::{AllocError, AllocFailed};
 use std::io;
@@ -33,12 +35,16 @@ pub enum FolderFault<'d> {
 }
 
 impl<'d> From<AllocError> for FolderFault<'d> {
+    ghost from_gives = { λ _ e. e ≡ Memory };
+
     fn from(_error: AllocError) -> FolderFault<'d> {
         FolderFault::Memory
     }
 }
 
 impl<'d, T: Drop> From<AllocFailed<T>> for FolderFault<'d> {
+    ghost from_gives = { λ _ e. e ≡ Memory };
+
     fn from(_error: AllocFailed<T>) -> FolderFault<'d> {
         FolderFault::Memory
     }
