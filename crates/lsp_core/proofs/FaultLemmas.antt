@@ -1,5 +1,5 @@
 -- Which faults a core and its workers can have.
-use Rattle.std.proofs.Common.{◌≡◌, refl, Result, Ok, Err}
+use Rattle.std.proofs.Common.{◌≡◌, refl, ap, Result, Ok, Err}
 use Rattle.std.specs.Prelude.{IfErr}
 use Rattle.piece_collector.specs.declared.fault.BoardFault.{BoardFault}
 use Rattle.piece_collector.specs.declared.fault.BoardFault.TheVariants as board
@@ -27,11 +27,23 @@ pub of_board : (fault : BoardFault) → core_fault_of fault ≡ core.Exhausted �
 of_board board.Memory is = cc
 of_board board.Exhausted is = refl
 
+pub not_of_pool : (fault : PoolFault) → ¬ (fault_of_pool fault ≡ core.Exhausted)
+not_of_pool pool.Memory is = cc
+not_of_pool pool.ThreadRefused is = cc
+
+-- only memory refused is memory refused
+pub memory_of_pool : (fault : PoolFault) → fault ≡ pool.Memory → fault_of_pool fault ≡ core.Memory
+memory_of_pool fault is = ap fault_of_pool is
+
+pub refused_of_pool : (fault : PoolFault) → fault_of_pool fault ≡ core.ThreadRefused → fault ≡ pool.ThreadRefused
+refused_of_pool pool.Memory is = cc
+refused_of_pool pool.ThreadRefused is = refl
+
 pub not_of_analysis : (fault : AnalyseFault) → ¬ (fault_of_analysis fault ≡ core.Exhausted)
 not_of_analysis analysis.Memory is = cc
 not_of_analysis analysis.ThreadRefused is = cc
 
-pub of_pool : (fault : PoolFault) → IsOfWorkers (fault_of_pool fault)
+pub of_pool : (fault : PoolFault) → IsOfWorkers (serve_fault_of (fault_of_pool fault))
 of_pool pool.Memory = tt
 of_pool pool.ThreadRefused = tt
 

@@ -1,10 +1,10 @@
 // The core: messages and work in, replies and jobs out, and nothing of streams.
-ghost use Rattle.std.specs.Prelude.{◌≡◌, ◌↔◌, ◌<◌, ◌+◌, ℕ, List, [], ◌∷◌, length, option_map, Some, None, Err, IfOk, IfErr, IfSome, OnOk, OnErr, IsTrue, false};
+ghost use Rattle.std.specs.Prelude.{◌≡◌, ◌≢◌, ◌↔◌, ◌<◌, ◌+◌, ℕ, List, [], ◌∷◌, length, option_map, Some, None, Err, IfOk, IfErr, IfSome, OnOk, OnErr, IsTrue, false};
 ghost use Rattle.piece_collector.specs.Board.{IsFirstWanted, IsFull, current_text};
 ghost use Rattle.piece_collector.specs.History.{stands_at};
 ghost use Rattle.work_config.specs.Configuration.{Configuration, files_of};
-ghost use Rattle.work_config.specs.Fault.{ComesWithoutThreads, IsOfWorkers};
-ghost use Rattle.work_dispatch.specs.Dispatch.{BringsResult, HandsOut};
+ghost use Rattle.work_config.specs.Fault.{ComesWithoutThreads};
+ghost use Rattle.work_dispatch.specs.Dispatch.{BringsFailure, BringsResult, HandsOut};
 ghost use Rattle.work_files.specs.Files.{workspace};
 ghost use Rattle.work_space.specs.BoardTexts.{StampsRunOut};
 ghost use Rattle.lsp_core.specs.Core.{Event, Arrive, Advance, Give, messages, processed, board_events, IsAfter, WhateverCame, Records, MayStep, IsSettled, ComesToAnAnalysis, FindsNoStamp, Replied, Advances};
@@ -24,7 +24,7 @@ use std::alloc::{AllocError, Global};
 use std::collections::VecDeque;
 use std::sync::Wait;
 use std::thread::Threads;
-use work_config::{Config, CoreFault, ServeFault};
+use work_config::{Config, CoreFault};
 use work_dispatch::{bring_result, hand_out_jobs};
 use work_index::{AnalyseFault, Done, Gate};
 use work_pool::Pool;
@@ -387,31 +387,61 @@ impl Core {
     }
 
     /// Hands out jobs to a pool, in the order of the paths, until no text is wanted or the pool has no room. `Memory` if memory is refused or a
-    /// job can't be sent. The core doesn't keep such a fault: the session ends with it.
-    pub fn hand_out<R: Wait>(&mut self, rt: &R, pool: &mut Pool) -> Result<(), ServeFault>
-        ensures hands { OnOk result (HandsOut (core_state self.old).board (core_state self.new).board pool.old.sent pool.new.sent) }
-        ensures works { OnOk result (WhateverCame (core_state self.old) (λ opening config h. WorksOn opening config (core_state self.new) h)) }
+    /// job can't be sent.
+    pub fn hand_out<R: Wait>(&mut self, rt: &R, pool: &mut Pool) -> Result<(), CoreFault>
+        // After a fault it answers the same again, and changes nothing.
+        ensures repeats { IfSome (last_fault self.old) (λ fault. (result ≡ Err fault) × (self.new ≡ self.old) × (pool.new ≡ pool.old)) }
+        ensures fault { IfErr result (λ fault. last_fault self.new ≡ Some fault) }
+        ensures memory { last_fault self.old ≡ None → IfErr result (λ fault. fault ≡ CoreFault.Memory) }
+        ensures open { OnOk result (last_fault self.new ≡ None) }
+
+        // The state of the session stays, and how many messages aren't processed, also where it fails.
         ensures state { (core_state self.new).state ≡ (core_state self.old).state }
         ensures waits { unprocessed (core_state self.new) ≡ unprocessed (core_state self.old) }
-        ensures fault { last_fault self.new ≡ last_fault self.old }
-        ensures memory { IfErr result (λ fault. fault ≡ ServeFault.Memory) }
+
+        // All jobs went out that could, and nothing else was done.
+        ensures hands { OnOk result (HandsOut (core_state self.old).board (core_state self.new).board pool.old.sent pool.new.sent) }
+        ensures works { OnOk result (WhateverCame (core_state self.old) (λ opening config h. WorksOn opening config (core_state self.new) h)) }
     {
-        hand_out_jobs(rt, &mut self.workspace, pool)?;
-        Ok(())
+        if let Some(fault) = self.fault {
+            return Err(fault);
+        }
+        match hand_out_jobs(rt, &mut self.workspace, pool) {
+            Ok(()) => Ok(()),
+            Err(fault) => Err(self.fail(CoreFault::from(fault))),
+        }
     }
 
     /// Waits for what becomes of a job, and brings it, which is done only while a message isn't processed. `Memory` if the job failed because
     /// memory ran out, unless its text no longer counts; `ThreadRefused` if nothing can come, since no job is out or no worker is left.
-    pub fn take_result<R: Wait>(&mut self, rt: &R, pool: &mut Pool) -> Result<(), ServeFault>
+    pub fn take_result<R: Wait>(&mut self, rt: &R, pool: &mut Pool) -> Result<(), CoreFault>
         requires { 0 < unprocessed (core_state self.old) }
+
+        // After a fault it answers the same again, and changes nothing.
+        ensures repeats { IfSome (last_fault self.old) (λ fault. (result ≡ Err fault) × (self.new ≡ self.old) × (pool.new ≡ pool.old)) }
+        ensures fault { IfErr result (λ fault. last_fault self.new ≡ Some fault) }
+        ensures stamps { last_fault self.old ≡ None → IfErr result (λ fault. fault ≢ CoreFault.Exhausted) }
+        ensures open { OnOk result (last_fault self.new ≡ None) }
+
+        // The state of the session stays, and how many messages aren't processed, also where it fails. Memory ran out only for a failure that
+        // counts, which is brought. If nothing can come, nothing is received or brought.
+        ensures state { (core_state self.new).state ≡ (core_state self.old).state }
+        ensures waits { unprocessed (core_state self.new) ≡ unprocessed (core_state self.old) }
+        ensures failed { last_fault self.old ≡ None → result ≡ Err CoreFault.Memory → BringsFailure (core_state self.old).board (core_state self.new).board pool.old.sent pool.new.sent }
+        ensures refused { result ≡ Err CoreFault.ThreadRefused → (core_state self.new ≡ core_state self.old) × (pool.new ≡ pool.old) }
+
+        // One result was received and brought, and nothing else was done.
         ensures brings { OnOk result (BringsResult (core_state self.old).board (core_state self.new).board pool.old.sent pool.new.sent) }
         ensures received { OnOk result (pool.old.out ≡ pool.new.out + 1) }
         ensures works { OnOk result (WhateverCame (core_state self.old) (λ opening config h. WorksOn opening config (core_state self.new) h)) }
-        ensures fault { last_fault self.new ≡ last_fault self.old }
-        ensures workers { IfErr result IsOfWorkers }
     {
-        bring_result(rt, &mut self.workspace, pool)?;
-        Ok(())
+        if let Some(fault) = self.fault {
+            return Err(fault);
+        }
+        match bring_result(rt, &mut self.workspace, pool) {
+            Ok(()) => Ok(()),
+            Err(fault) => Err(self.fail(CoreFault::from(fault))),
+        }
     }
 
     /// Whether a message came that isn't processed.

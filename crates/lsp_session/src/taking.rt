@@ -149,6 +149,6 @@ pub fn take_turn<R: Threads + Wait, S: ByteSource, K: ByteSink, G: Gate>(
 {
     match core.hand_out(threading.rt, pool) {
         Ok(()) => take_next(threading, reader, writer, core, pool),
-        Err(fault) => Err(fault),
+        Err(fault) => Err(ServeFault::from(fault)),
     }
 }

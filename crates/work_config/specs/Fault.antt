@@ -28,16 +28,16 @@ abbrev pub fault_of_analysis : AnalyseFault → CoreFault
 fault_of_analysis analysis.Memory = core.Memory
 fault_of_analysis analysis.ThreadRefused = core.ThreadRefused
 
+-- the fault of a core whose pool failed
+abbrev pub fault_of_pool : PoolFault → CoreFault
+fault_of_pool pool.Memory = core.Memory
+fault_of_pool pool.ThreadRefused = core.ThreadRefused
+
 -- the fault of a server whose core stopped
 abbrev pub serve_fault_of : CoreFault → ServeFault
 serve_fault_of core.Memory = serve.Memory
 serve_fault_of core.ThreadRefused = serve.ThreadRefused
 serve_fault_of core.Exhausted = serve.Exhausted
-
--- the fault of a server whose workers couldn't be started
-abbrev pub fault_of_pool : PoolFault → ServeFault
-fault_of_pool pool.Memory = serve.Memory
-fault_of_pool pool.ThreadRefused = serve.ThreadRefused
 
 abbrev pub serve_code : ServeFault → ℕ
 serve_code serve.Read = 801

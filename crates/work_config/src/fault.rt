@@ -1,6 +1,6 @@
 // What can fail in a server.
 ghost use Rattle.std.specs.Prelude.{◌≡◌};
-ghost use Rattle.work_config.specs.Fault.{core_fault_of, fault_of_analysis, serve_fault_of, fault_of_pool};
+ghost use Rattle.work_config.specs.Fault.{core_fault_of, fault_of_analysis, fault_of_pool, serve_fault_of};
 ghost use Rattle.work_config.specs.declared.fault.CoreFault.TheVariants as core;
 
 use piece_collector::BoardFault;
@@ -15,7 +15,7 @@ pub enum CoreFault {
     /// 803: memory was refused.
     #[error("out of memory")]
     Memory,
-    /// 804: a thread was refused.
+    /// 804: a thread was refused, or no worker is left.
     #[error("thread refused")]
     ThreadRefused,
     /// 805: a text needed a stamp after `u64::MAX`.
@@ -64,6 +64,17 @@ impl From<AnalyseFault> for CoreFault {
         match fault {
             AnalyseFault::Memory => CoreFault::Memory,
             AnalyseFault::ThreadRefused => CoreFault::ThreadRefused,
+        }
+    }
+}
+
+impl From<PoolFault> for CoreFault {
+    ghost from_gives = { λ fault e. e ≡ fault_of_pool fault };
+
+    fn from(fault: PoolFault) -> CoreFault {
+        match fault {
+            PoolFault::Memory => CoreFault::Memory,
+            PoolFault::ThreadRefused => CoreFault::ThreadRefused,
         }
     }
 }
@@ -129,12 +140,9 @@ impl From<CoreFault> for ServeFault {
 }
 
 impl From<PoolFault> for ServeFault {
-    ghost from_gives = { λ fault e. e ≡ fault_of_pool fault };
+    ghost from_gives = { λ fault e. e ≡ serve_fault_of (fault_of_pool fault) };
 
     fn from(fault: PoolFault) -> ServeFault {
-        match fault {
-            PoolFault::Memory => ServeFault::Memory,
-            PoolFault::ThreadRefused => ServeFault::ThreadRefused,
-        }
+        ServeFault::from(CoreFault::from(fault))
     }
 }

@@ -51,3 +51,10 @@ pub record BringsResult (old new : BoardView) (before after : List SentJob) : Ty
   pub received : after ≡ without_job (stamp_of done) before
   pub records : Records old new (event_of done ∷ [])
   pub uncounted : WhateverCame old (λ opening events. ¬ (IsCountedFailure opening events done))
+
+-- the same, but for what was brought: it is a failure that counts
+pub record BringsFailure (old new : BoardView) (before after : List SentJob) : Type 0 where
+  pub done : Done
+  pub received : after ≡ without_job (stamp_of done) before
+  pub records : Records old new (event_of done ∷ [])
+  pub counted : WhateverCame old (λ opening events. IsCountedFailure opening events done)

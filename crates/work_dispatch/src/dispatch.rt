@@ -3,7 +3,7 @@ ghost use Rattle.std.specs.Prelude.{◌≡◌, ◌+◌, ◌<◌, [], ◌∷◌, 
 ghost use Rattle.piece_collector.specs.Board.{IsFirstWanted, WhateverCame, Records};
 ghost use Rattle.piece_collector.specs.Events.{NextJob};
 ghost use Rattle.piece_collector.specs.Views.{TextAt};
-ghost use Rattle.work_dispatch.specs.Dispatch.{event_of, IsCountedFailure, Sends, HandsOut, BringsResult};
+ghost use Rattle.work_dispatch.specs.Dispatch.{event_of, IsCountedFailure, Sends, HandsOut, BringsResult, BringsFailure};
 
 use piece_collector::Verdict;
 use std::sync::Wait;
@@ -87,7 +87,8 @@ pub fn bring_result<R: Wait>(
     ensures brings { OnOk result (BringsResult workspace.old.board workspace.new.board pool.old.sent pool.new.sent) }
     ensures received { OnOk result (pool.old.out ≡ pool.new.out + 1) }
 
-    // If nothing can come, nothing is done.
+    // Memory ran out only for a failure that counts, which is brought. If nothing can come, nothing is done.
+    ensures failed { result ≡ Err PoolFault.Memory → BringsFailure workspace.old.board workspace.new.board pool.old.sent pool.new.sent }
     ensures refused { result ≡ Err PoolFault.ThreadRefused → (pool.new ≡ pool.old) × (workspace.new.board ≡ workspace.old.board) }
 {
     match pool.receive(rt) {
