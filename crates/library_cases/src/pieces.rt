@@ -5,7 +5,8 @@ use crate::marks::plain;
 use crate::words::first_word;
 use piece_collector::{Board, Job, Lent, Piece, Work};
 use std::alloc::{AllocError, Global};
-use work_index::{FileWork, NamedText};
+use work_index::FileWork;
+use work_update::NamedText;
 
 /// A text with its path and its stamp.
 #[derive(Clone, Copy)]

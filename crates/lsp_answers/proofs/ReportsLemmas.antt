@@ -19,7 +19,7 @@ use Rattle.lsp_rpc.specs.Workspace.{DocumentData}
 use Rattle.work_files.specs.Files.{text_at}
 use Rattle.work_files.proofs.PathOrder.{order-apart}
 use Rattle.work_space.proofs.WorkspaceOrder.{Ascend, ascend-workspace}
-use Rattle.work_index.proofs.ByPath.{AreBehind, paths}
+use Rattle.work_update.proofs.ByPath.{AreBehind, paths}
 use Rattle.work_files.proofs.WorkspaceLemmas.{text_of_workspace}
 use Rattle.work_index.specs.Workspace.{Workspace, AnalysisData, analysis, diags_at}
 use Rattle.lsp_answers.specs.Diagnostics.{placed}

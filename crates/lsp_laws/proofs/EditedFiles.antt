@@ -10,7 +10,7 @@ use Rattle.doc_text.specs.declared.position.Range.{Range}
 use Rattle.proto_laws.proofs.Holders.{cases_in}
 use Rattle.work_index.specs.Workspace.{analysis}
 use Rattle.work_index.proofs.Known.{known_workspace}
-use Rattle.work_index.specs.Bindings.{SameMeaning}
+use Rattle.work_update.specs.Bindings.{SameMeaning}
 use Rattle.lsp_queries.specs.Edited.{edited, places_in, respelled}
 use Rattle.lsp_queries.specs.Offsets.{symbol_at}
 use Rattle.lsp_queries.specs.PlaceLaws.{PlacesLieInTheTexts, text_in}

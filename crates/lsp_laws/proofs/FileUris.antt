@@ -16,7 +16,7 @@ use Rattle.lsp_rpc.specs.Params.{OpenedDocument, ChangedDocument, opened_of, cha
 use Rattle.lsp_rpc.specs.declared.method.Method.{Method}
 use Rattle.lsp_rpc.specs.declared.method.Method.TheVariants.{Initialize, Shutdown, Exit, DidOpen, DidChange, DidSave, DidClose, DocumentDiagnostic, WorkspaceDiagnostic, WorkspaceSymbol, Definition, References, Rename}
 use Rattle.work_index.specs.Workspace.{Workspace}
-use Rattle.work_index.proofs.ByPath.{one_place, text-at}
+use Rattle.work_update.proofs.ByPath.{one_place, text-at}
 use Rattle.work_config.specs.Configuration.{Configuration, in_root_order}
 use Rattle.work_files.specs.Disk.{FileData}
 use Rattle.work_files.specs.Files.{OpenDocument, File, Files, empty_file, file_at, root_at, text_of, text_at, workspace, with_file, set_file, without_file, AreInPathOrder, disk_file, from_disk, opened_file, opened_at, opened_files, with_document, with_open_file, changed_file, changed_files, saved_file, saved_files, closed_at, closed_files}

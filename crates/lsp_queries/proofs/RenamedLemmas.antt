@@ -5,7 +5,7 @@ use Rattle.std.proofs.lemmas.Bool.{false_from_ne_true}
 use Rattle.proto_names.specs.declared.decl_ref.DeclRef.{DeclRef}
 use Rattle.work_index.specs.Workspace.{AnalysisData}
 use Rattle.lsp_queries.specs.Answers.{sites_of}
-use Rattle.work_index.specs.Bindings.{same_meaning}
+use Rattle.work_update.specs.Bindings.{same_meaning}
 use Rattle.lsp_queries.specs.Files.{place_of}
 use Rattle.lsp_queries.specs.Offsets.{symbol_at}
 use Rattle.lsp_queries.specs.Renaming.{ChangesMeaning, ChangesMeaningAt, KeepsMeaning, analysis_after, checked, is_identifier, is_taken, new_full_name, renamed_decl, renamed_symbol}

@@ -1,14 +1,15 @@
 // The texts that a rename makes.
 ghost use Rattle.std.specs.Prelude.{◌≡◌, ◌≤◌, ◌<◌, ◌++◌, ◌==◌, All, false, drop, take, length, map, string_bytes, IfOk, IfSome};
 ghost use Rattle.std.specs.List.{slice_get};
-ghost use Rattle.work_index.specs.Edited.{edit_view};
+ghost use Rattle.work_update.specs.Edited.{edit_view};
 ghost use Rattle.lsp_queries.specs.Cutting.{AreCutOut, CanBeCut, edits_of};
 ghost use Rattle.lsp_queries.specs.Edited as spec;
 
 use crate::place::Place;
 use import_graph::FileNo;
 use std::alloc::{AllocError, Global};
-use work_index::{Analysis, EditedText};
+use work_index::Analysis;
+use work_update::EditedText;
 
 // A text with a name at each of some places, which can be cut out of it in turn.
 fn respelled(alloc: Global, text: &str, places: &[Place], name: &str) -> Result<String, AllocError>

@@ -1,5 +1,5 @@
 // What the definitions of the queries say, beside what the code meets.
-ghost use Rattle.work_index.specs.Bindings.{SameMeaningLaw};
+ghost use Rattle.work_update.specs.Bindings.{SameMeaningLaw};
 ghost use Rattle.lsp_queries.specs.Matching.{ContainsLaw};
 ghost use Rattle.lsp_queries.specs.RenamingLaws.{FullNameScopeLaw, IdentifierFormLaw, RefusedForMeaning, RenamesKeepMeaning, TakenLaw};
 

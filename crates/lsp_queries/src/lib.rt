@@ -4,7 +4,7 @@
 //! [`symbols`], [`definition`], [`references`] and [`rename`] answer by declarations and [`Place`]s in bytes; nothing here knows
 //! of positions, URIs or the protocol. What stands at an offset is said in specs/Offsets.antt, which names match a query in
 //! specs/Matching.antt, the answers in specs/Answers.antt, what a new name changes in specs/Renaming.antt, and when it changes the
-//! meaning of a name in specs/Bindings.antt of `work_index`. [`report`] gives the diagnostics of a file.
+//! meaning of a name in specs/Bindings.antt of `work_update`. [`report`] gives the diagnostics of a file.
 #![tactic(auto)]
 
 mod defining;
@@ -35,4 +35,4 @@ pub use referring::references;
 pub use renaming::{Edits, rename};
 pub use reporting::report;
 pub use searching::symbols;
-pub use work_index::same_meaning;
+pub use work_update::same_meaning;

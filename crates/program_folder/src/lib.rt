@@ -6,7 +6,6 @@ mod found;
 mod listing;
 mod queue;
 mod reader;
-mod room;
 mod skipping;
 mod walk;
 

@@ -8,12 +8,12 @@ ghost use Rattle.program_folder.specs.declared.found.Met.TheVariants as met;
 use crate::fault::FolderFault;
 use crate::found::{Folder, FoundFile, Met, MetFile};
 use crate::reader::{FolderReader, path_in};
-use crate::room::make_room;
 use crate::skipping::Skipped;
 use std::alloc::{AllocError, Global};
 use std::fs::Metadata;
 use std::io::{self, ErrorKind};
 use std::str;
+use thread_heap::make_room_for_files;
 
 // How many folders may stand in one another below a root.
 pub(crate) const MAX_DEPTH: u32 = 64;
@@ -222,7 +222,7 @@ fn read<'d, F: FolderReader>(
     let place = path_in(listing.alloc, root.dir, path.as_str())?;
     match reader.read_text(place.as_str(), length) {
         Ok(text) => {
-            make_room(listing.alloc, listing.files.len())?;
+            make_room_for_files(listing.alloc, listing.files.len())?;
             let root = root.number;
             Ok(listing.files.push(FoundFile { root, path, text })?)
         }

@@ -6,9 +6,10 @@ ghost use Rattle.proto_decls.specs.declared.fact.DeclKind.TheVariants as kinds;
 
 use crate::text::Source;
 use proto_decls::{Decl, DeclKind, FullName, ScopeName, text_at};
-use proto_tree::{Node, Span, make_room};
+use proto_tree::{Node, Span};
 use sqlite_items::Items;
 use std::alloc::AllocError;
+use thread_heap::make_room;
 
 // Where a statement stands, and so what it declares there.
 #[derive(Clone, Copy)]

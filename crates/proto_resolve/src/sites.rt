@@ -6,9 +6,10 @@ use crate::full_names::copied;
 use crate::scope_chain::{ScopeChain, Scopes};
 use crate::site::{Component, NameSite, Needs};
 use proto_decls::{FileFacts, PackageFact, SyntaxFact, text_at};
-use proto_tree::{Node, Span, TypeName, make_room};
+use proto_tree::{Node, Span, TypeName};
 use sqlite_items::Items;
 use std::alloc::{AllocError, Global};
+use thread_heap::make_room;
 
 fn components(alloc: Global, text: &str, spans: &[Span]) -> Result<Items<Component>, AllocError>
     ensures { IfOk result (λ cs. cs ≡ map (spec.component text.now) spans.now) }

@@ -10,9 +10,10 @@ use crate::forms::statement;
 use crate::headers::{header_and_rest, opens};
 use crate::parts::span_of;
 use crate::skips::{Matched, skips};
-use proto_tree::{Body, Fault, Header, Lexeme, Node, Span, SyntaxProblem, Terminal, make_room};
+use proto_tree::{Body, Fault, Header, Lexeme, Node, Span, SyntaxProblem, Terminal};
 use sqlite_items::{Boxed, Items};
 use std::alloc::{AllocError, Global};
+use thread_heap::make_room;
 
 // How many tokens a statement and a block may be expected to have.
 const TOKENS_OF_A_STATEMENT: usize = 7;

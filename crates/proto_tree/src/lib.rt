@@ -9,7 +9,6 @@
 mod lexeme;
 mod limit;
 mod node;
-mod room;
 mod spans;
 
 pub use lexeme::{Body, Lexeme, Terminal};
@@ -18,5 +17,4 @@ pub use node::{
     Fault, Field, FileTree, Header, Literal, MapField, Node, Number, RangeEnd, ReservedList,
     ReservedRange, Span, SyntaxProblem, TypeName,
 };
-pub use room::{make_room, make_room_for_files};
 pub use spans::Spans;

@@ -1,14 +1,22 @@
--- An analysis is that of the workspace of its paths and texts.
-use Rattle.std.proofs.Common.{◌≡◌, ◌∙◌, List, length, map, sym, ap, ap₂, subst}
+-- An analysis is that of the workspace of its paths and texts, and so are its parts.
+use Rattle.std.proofs.Common.{◌≡◌, ◌∙◌, List, [], ◌∷◌, length, map, refl, sym, ap, ap₂, subst}
+use Rattle.std.specs.List.{zip}
 use Rattle.std.proofs.lemmas.List.{length-map}
 use Rattle.std.proofs.lemmas.Simd.{map-map}
+use Rattle.proto_decls.specs.Facts.{facts_of}
 use Rattle.proto_decls.specs.declared.diagnostic.Diag.{Diag}
 use Rattle.proto_decls.specs.declared.named_facts.NamedFacts.{NamedFacts}
 use Rattle.proto_names.specs.Files.{all_decls}
 use Rattle.proto_resolve.specs.declared.resolve.Links.{Links}
+use Rattle.work_index.specs.declared.analysis.AnalysisParts.{AnalysisParts}
+use Rattle.work_index.specs.AnalysisParts.{AreParts}
 use Rattle.work_index.specs.Known.{HoldTogether, analysis_with}
 use Rattle.work_index.specs.Workspace.{AnalysisData, IsKnown, Workspace, all_facts, analysis, diagnostics_of, named_facts, resolution_of, workspace_in}
-use Rattle.work_index.proofs.Changed.{AreParts, made, made_length, parts, zipped}
+use Rattle.work_index.proofs.Numbered.{made, made_length}
+
+pub zipped : (w : Workspace) → zip (map (λ f. f.0) w) (map (λ f. f.1) w) ≡ w
+zipped [] = refl
+zipped (f ∷ w) = ap (λ rest. f ∷ rest) (zipped w)
 
 -- the workspace of the analysis of a workspace is that one
 pub known_workspace : (w : Workspace) → workspace_in (analysis w) ≡ w
@@ -17,14 +25,35 @@ known_workspace w = zipped w
 pub is_known : (a : AnalysisData) (w : Workspace) → a ≡ analysis w → IsKnown a
 is_known a w is = record { is = is ∙ ap analysis (sym (ap workspace_in is ∙ known_workspace w)) }
 
--- ---- an analysis and its parts
+-- ---- taken apart
 
--- the parts of an analysis are those of its own workspace
-pub own_parts : (a : AnalysisData) (table : List NamedFacts) (files : Workspace) (links : List Links) (diagnostics : List (List Diag))
-    → HoldTogether table files links diagnostics → analysis_with table files links diagnostics ≡ a → AreParts table files links diagnostics (workspace_in a)
-own_parts a table files links diagnostics hold is =
+pub same_files : (files : List NamedFacts) (w : Workspace) → map (λ f. f.path) files ≡ map (λ f. f.0) w → map (λ f. f.facts) files ≡ map (λ f. facts_of f.1) w → files ≡ all_facts w
+same_files [] [] paths facts = refl
+same_files [] (y ∷ w) paths facts = absurd (cc)
+same_files (x ∷ files) [] paths facts = absurd (cc)
+same_files (x ∷ files) (y ∷ w) paths facts =
+    let path : x.path ≡ y.0 = cc in
+    let said : x.facts ≡ facts_of y.1 = cc in
+    let paths' : map (λ f. f.path) files ≡ map (λ f. f.0) w = cc in
+    let facts' : map (λ f. f.facts) files ≡ map (λ f. facts_of f.1) w = cc in
+    let head : x ≡ named_facts y = ap₂ (λ p fs. record { path = p; facts = fs }) path said in
+    ap₂ (λ a as'. a ∷ as') head (same_files files w paths' facts')
+
+-- the parts of what holds together are those of its own workspace
+pub own_parts : (a : AnalysisData) (parts : AnalysisParts)
+    → HoldTogether parts.table parts.files.items parts.resolutions.links.items parts.resolutions.diagnostics.items → analysis_with parts.table parts.files.items parts.resolutions.links.items parts.resolutions.diagnostics.items ≡ a → AreParts (workspace_in a) parts
+own_parts a parts hold is =
     let known : IsKnown a = subst (λ (b : AnalysisData). IsKnown b) is hold.4 in
-    parts table files links diagnostics (workspace_in a) hold.3 (is ∙ known.is)
+    let w = workspace_in a in
+    let all = is ∙ known.is in
+    record {
+      table = same_files parts.table w (sym hold.3 ∙ ap (λ (b : AnalysisData). b.paths) all) (ap (λ (b : AnalysisData). b.facts) all);
+      files = sym (zipped parts.files.items) ∙ ap (λ (b : AnalysisData). zip b.paths b.texts) is;
+      links = ap (λ (b : AnalysisData). b.links) all;
+      diagnostics = ap (λ (b : AnalysisData). b.diagnostics) all;
+    }
+
+-- ---- put together
 
 module _ (w : Workspace) (table : List NamedFacts) (files : Workspace) (links : List Links) (diagnostics : List (List Diag))
     (all : table ≡ all_facts w) (are : files ≡ w) (linked : links ≡ made (resolution_of w) w) (wrong : diagnostics ≡ made (diagnostics_of w) w) where

@@ -1,13 +1,7 @@
-mod Ascending
+pub mod Numbered
+pub mod ByFile
+pub mod Ascending
 pub mod Steps
-pub mod Changed
-pub mod Relinked
-pub mod Stayed
-pub mod FilesMoves
-pub mod Unimported
-pub mod Arrived
-pub mod ByPath
-pub mod Updates
 pub mod Balance
 pub mod Crossing
 pub mod Merged
@@ -19,11 +13,5 @@ pub mod KeptShares
 pub mod Promised
 pub mod OwnDiags
 pub mod Known
-pub mod KeptFiles
-pub mod OtherTexts
-pub mod Alike
-pub mod FileByFile
 pub mod FirstLost
 pub mod WhyUnchecked
-pub mod Quiet
-pub mod TextsByFile

@@ -1,16 +1,9 @@
 pub mod Workspace
 pub mod Unchecked
 pub mod Pieces
-pub mod Changes
-pub mod Stayed
-pub mod FilesMoves
 pub mod Fault
 pub mod Stretches
 pub mod Parts
 pub mod Shares
-pub mod Arrivals
-pub mod Updates
 pub mod Known
-pub mod Edited
-pub mod Bindings
-pub mod Quiet
+pub mod AnalysisParts

@@ -1,5 +1,5 @@
 -- What is known of a workspace.
-use Rattle.std.specs.Prelude.{◌≡◌, ℕ, List, ◌++◌, map, filter, slice_index_or, bytes_eq, [], position}
+use Rattle.std.specs.Prelude.{◌≡◌, ℕ, List, ◌++◌, All, false, map, filter, slice_index_or, bytes_eq, [], position}
 use Rattle.std.specs.Option.{option_map_or}
 use Rattle.std.specs.List.{enumerate_from, zip}
 use Rattle.proto_tree.specs.Read.{value_tree}
@@ -93,3 +93,7 @@ decls_named a name = filter (λ r. bytes_eq (let found = decl_in a.facts r in fo
 -- what is wrong in the file with a path; nothing where there is none
 abbrev pub diags_at : AnalysisData → List ℕ → List Diag
 diags_at a path = option_map_or (λ file. slice_index_or a.diagnostics file []) (position (λ p. bytes_eq p path) a.paths) []
+
+-- no import of the files has the path
+abbrev pub NoneImports : List FileFacts → List ℕ → Type 0
+NoneImports facts path = All (λ f. All (λ i. bytes_eq i.path path ≡ false) f.imports) facts

@@ -7,20 +7,20 @@ ghost use Rattle.work_index.specs.Pieces.{workspace_of};
 ghost use Rattle.work_index.specs.Shares.{AreNumbersIn};
 ghost use Rattle.work_index.specs.Workspace.{Workspace, all_facts, analysis, resolution_of, merged, diagnostics_of};
 
-use crate::analysis::{Analysis, Resolutions};
+use crate::analysis::{Analysis, AnalysisParts, Resolutions};
+use crate::file_tables::table_of;
 use crate::file_work::{FileWork, facts_in, tree_in};
 use crate::gate::{Gate, OpenGate};
 use crate::shared_links::SharedLinks;
 use crate::source_file::SourceFile;
-use crate::table_of::table_of;
 use piece_collector::Piece;
 use proto_decls::{Diag, FileFacts, in_order};
 use proto_resolve::{Links, Table, resolve_file};
-use proto_tree::make_room_for_files;
 use sqlite_items::Items;
 use std::alloc::{AllocError, Global};
+use thread_heap::make_room_for_files;
 
-// The files of pieces.
+/// The files of pieces, in their order. An `Err` comes only where memory was refused.
 pub fn files_of(alloc: Global, pieces: &[Piece<FileWork>]) -> Result<Vec<SourceFile>, AllocError>
     ensures { IfOk result (λ files. files.items ≡ workspace_of pieces.now) }
 {
@@ -31,7 +31,7 @@ pub fn files_of(alloc: Global, pieces: &[Piece<FileWork>]) -> Result<Vec<SourceF
     Ok(files)
 }
 
-// What the names of a file of the table mean, and what is wrong in it by what it sees.
+/// What the names of a file of the table mean, and what is wrong in it by what it sees. An `Err` comes only where memory was refused.
 pub fn resolution_of(
     alloc: Global,
     table: &Table,
@@ -45,7 +45,8 @@ pub fn resolution_of(
     SharedLinks::of(alloc, found)
 }
 
-// All that is wrong in a file with these facts, which are those of a text, by itself and by what it sees.
+/// All that is wrong in a file with these facts, which are those of a text, by itself and by what it sees. An `Err` comes only where memory was
+/// refused.
 pub fn diagnostics_of(
     alloc: Global,
     facts: &FileFacts,
@@ -64,7 +65,7 @@ pub fn diagnostics_of(
     in_order(alloc, found.as_slice())
 }
 
-// Adds the links of a file, and all that is wrong in it.
+/// Adds the links of a file, and all that is wrong in it. An `Err` comes only where memory was refused.
 pub fn push_found(
     alloc: Global,
     piece: &Piece<FileWork>,
@@ -167,9 +168,9 @@ pub fn analyse_here(alloc: Global, pieces: &[Piece<FileWork>]) -> Result<Analysi
     let table = table_of(alloc, pieces)?;
     let files = files_of(alloc, pieces)?;
     let resolutions = link_files(alloc, &table, 0, pieces, &OpenGate)?;
-    Ok(Analysis {
+    Ok(Analysis::of_parts(AnalysisParts {
         table,
         files,
         resolutions,
-    })
+    }))
 }

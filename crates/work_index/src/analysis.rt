@@ -1,6 +1,6 @@
 // What is known of a workspace.
 ghost use Rattle.std.specs.Prelude.{◌≡◌, ◌<◌, ◌↔◌, [], length, Some, None, bytes_eq, position, slice_index_or, IfOk, IsFalse};
-ghost use Rattle.work_index.specs.Arrivals.{NoneImports};
+ghost use Rattle.work_index.specs.Workspace.{NoneImports};
 
 use crate::shared_links::SharedLinks;
 use crate::source_file::SourceFile;
@@ -17,15 +17,28 @@ use std::marker::Model;
 /// A file is a number: its place, counted from 0, in the list of paths. An analysis owns all that it holds.
 #[derive(Drop)]
 pub struct Analysis {
-    pub(crate) table: Table,
-    pub(crate) files: Vec<SourceFile>,
-    pub(crate) resolutions: Resolutions,
+    table: Table,
+    files: Vec<SourceFile>,
+    resolutions: Resolutions,
 }
 
-// What the names of each file mean, and what is wrong in each file.
+/// What an analysis is made of.
+#[derive(Drop)]
+pub struct AnalysisParts {
+    /// The facts of all files, and all declarations.
+    pub table: Table,
+    /// The files, in the order of their paths.
+    pub files: Vec<SourceFile>,
+    /// What their names mean, and what is wrong in them.
+    pub resolutions: Resolutions,
+}
+
+/// What the names of each file mean, and what is wrong in each file.
 #[derive(Drop)]
 pub struct Resolutions {
+    /// What the names of each file mean, with what is wrong by what it sees.
     pub links: Vec<SharedLinks>,
+    /// All that is wrong in each file.
     pub diagnostics: Vec<Items<Diag>>,
 }
 
@@ -75,7 +88,8 @@ impl Model for Analysis {
 
 impl Analysis {
     ghost use Rattle.std.specs.List.{slice_get};
-    ghost use Rattle.work_index.specs.Workspace.{IsKnown, decls_named, diags_at};
+    ghost use Rattle.work_index.specs.AnalysisParts.{AreParts};
+    ghost use Rattle.work_index.specs.Workspace.{IsKnown, Workspace, analysis, decls_named, diags_at, workspace_in};
 
     /// How many files there are.
     pub fn file_count(&self) -> usize
@@ -107,9 +121,43 @@ impl Analysis {
         let _ = &self.files;
     }
 
-    // The same analysis, in memory of its own but for what is known of each text by itself and what its names mean, which it shares. An `Err`
-    // comes only where memory was refused.
-    pub(crate) fn copy(&self, alloc: Global) -> Result<Analysis, AllocError>
+    /// Takes an analysis apart: it is that of the workspace of its paths and texts, and these are its parts.
+    pub fn into_parts(self) -> AnalysisParts
+        ensures known { IsKnown self }
+        ensures parts { AreParts (workspace_in self) result }
+    {
+        let Analysis {
+            table,
+            files,
+            resolutions,
+        } = self;
+        AnalysisParts {
+            table,
+            files,
+            resolutions,
+        }
+    }
+
+    /// Puts together the parts of the analysis of a workspace.
+    pub fn of_parts(parts: AnalysisParts) -> Analysis
+        requires { (w : Workspace) × AreParts w parts }
+        ensures { (w : Workspace) → AreParts w parts → result ≡ analysis w }
+    {
+        let AnalysisParts {
+            table,
+            files,
+            resolutions,
+        } = parts;
+        Analysis {
+            table,
+            files,
+            resolutions,
+        }
+    }
+
+    /// The same analysis, in memory of its own but for what is known of each text by itself and what its names mean, which it shares. An `Err`
+    /// comes only where memory was refused.
+    pub fn copy(&self, alloc: Global) -> Result<Analysis, AllocError>
         ensures { IfOk result (λ a. a ≡ self.now) }
     {
         let table = self.table.copy(alloc)?;

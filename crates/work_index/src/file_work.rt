@@ -10,9 +10,10 @@ use piece_collector::{Piece, SharedText, Work};
 use proto_decls::FileFacts;
 use proto_facts::facts;
 use proto_syntax::parse_text;
-use proto_tree::{FileTree, is_too_long, make_room_for_files};
+use proto_tree::{FileTree, is_too_long};
 use std::alloc::{AllocError, AllocFailed, Global};
 use std::sync::Arc;
+use thread_heap::make_room_for_files;
 use work_links::Asked;
 
 /// What is made of a file's text by itself.
@@ -110,7 +111,7 @@ fn share(alloc: Global, asked: Asked) -> Result<Arc<Asked>, AllocError>
     }
 }
 
-// The tree of a text. A text that is too long has the tree of the empty text.
+/// The tree of a text. A text that is too long has the tree of the empty text. An `Err` comes only where memory was refused.
 pub fn tree_of(alloc: Global, text: &str) -> Result<FileTree, AllocError>
     ensures { IfOk result (λ tree. tree ≡ value_tree text.now) }
 {
@@ -128,7 +129,7 @@ pub fn shared_text_in(piece: &Piece<FileWork>) -> Result<SharedText, AllocError>
     piece.shared_text()
 }
 
-// The tree of a piece's text.
+/// The tree of a piece's text.
 pub fn tree_in(piece: &Piece<FileWork>) -> &FileTree
     ensures { result.now ≡ value_tree piece.now.text }
 {
@@ -149,7 +150,7 @@ pub fn shared_asked_in(piece: &Piece<FileWork>) -> &Arc<Asked>
     &piece.out().asked
 }
 
-// The facts of a piece's text.
+/// The facts of a piece's text.
 pub fn facts_in(piece: &Piece<FileWork>) -> &FileFacts
     ensures { result.now ≡ facts_of piece.now.text }
 {

@@ -9,7 +9,7 @@ ghost use Rattle.work_index.specs.Shares.{pieces_in, AreConsecutive, AreNumbersI
 ghost use Rattle.work_index.specs.Workspace.{all_facts, analysis, diagnosis};
 
 use crate::analyse::files_of;
-use crate::analysis::{Analysis, Resolutions};
+use crate::analysis::{Analysis, AnalysisParts, Resolutions};
 use crate::diagnosis::Diagnosis;
 use crate::fault::AnalyseFault;
 use crate::file_work::FileWork;
@@ -206,11 +206,11 @@ pub fn analyse_in_shares<R: Threads + Wait, G: Gate>(
         resolutions,
     } = linked;
     let files = files_of(alloc, pieces.as_slice())?;
-    let analysis = Analysis {
+    let analysis = Analysis::of_parts(AnalysisParts {
         table,
         files,
         resolutions,
-    };
+    });
     Ok((Lent::of(pieces), analysis))
 }
 

@@ -4,8 +4,8 @@ ghost use Rattle.work_index.specs.Parts.{IsIndexed, AreTaken};
 
 use crate::part_table::PartTable;
 use crate::shares::Share;
-use proto_tree::make_room_for_files;
 use std::alloc::{AllocError, Global};
+use thread_heap::make_room_for_files;
 
 // A share, with the declarations of its files by name.
 #[derive(Drop)]

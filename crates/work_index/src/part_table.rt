@@ -6,8 +6,8 @@ ghost use Rattle.work_index.specs.Pieces.{workspace_of};
 ghost use Rattle.work_index.specs.Stretches.{Cover};
 ghost use Rattle.work_index.specs.Workspace.{all_facts};
 
+use crate::file_tables::all_facts;
 use crate::file_work::FileWork;
-use crate::table_of::all_facts;
 use piece_collector::Piece;
 use proto_resolve::{NameEntries, NameTable};
 use std::alloc::{AllocError, Global};

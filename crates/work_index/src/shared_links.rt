@@ -10,7 +10,7 @@ use std::marker::Model;
 use std::sync::Arc;
 use work_links::{Renumbering, move_files, renumber};
 
-// The links of a file, shared by all that were made of one another, until one of them changes. Contracts see them as the links.
+/// The links of a file, shared by all that were made of one another, until one of them changes. Contracts see them as the links.
 #[derive(Drop)]
 pub struct SharedLinks {
     shared: Arc<Links>,
@@ -25,7 +25,7 @@ impl Model for SharedLinks {
 }
 
 impl SharedLinks {
-    // Links that nothing shares yet.
+    /// Links that nothing shares yet. An `Err` comes only where memory was refused, here and below.
     pub fn of(alloc: Global, links: Links) -> Result<SharedLinks, AllocError>
         ensures { IfOk result (λ l. l ≡ links) }
     {
@@ -35,7 +35,7 @@ impl SharedLinks {
         }
     }
 
-    // The same links once more, shared. Takes no memory.
+    /// The same links once more, shared. Takes no memory.
     pub fn another(&self) -> Result<SharedLinks, AllocError>
         ensures { IfOk result (λ l. l ≡ self.now) }
     {
@@ -44,13 +44,14 @@ impl SharedLinks {
         })
     }
 
+    /// The links.
     pub fn get(&self) -> &Links
         ensures { result.now ≡ self.now }
     {
         &self.shared
     }
 
-    // Gives the declarations the numbers that they have after a change of their file. Who else shares the links keeps them as they were.
+    /// Gives the declarations the numbers that they have after a change of their file. Who else shares the links keeps them as they were.
     pub fn renumber(&mut self, alloc: Global, by: &Renumbering) -> Result<(), AllocError>
         ensures { OnOk result (self.new ≡ links_after (decl_after by.now) self.old) }
     {
@@ -64,7 +65,7 @@ impl SharedLinks {
         Ok(())
     }
 
-    // Gives the files of the declarations the numbers that they have after files came or left. Who else shares the links keeps them as they were.
+    /// Gives the files of the declarations the numbers that they have after files came or left. Who else shares the links keeps them as they were.
     pub fn move_files(&mut self, alloc: Global, to: &[Option<FileNo>]) -> Result<(), AllocError>
         ensures { OnOk result (self.new ≡ links_after (decl_moved to.now) self.old) }
     {

@@ -12,8 +12,8 @@ use std::marker::Model;
 use std::sync::Arc;
 use work_links::Asked;
 
-// A file of a workspace: its path, its text, what that says by itself, and for which names the file asks. The last three are shared with the
-// piece that was made of the text. Contracts see the path and the text.
+/// A file of a workspace: its path, its text, what that says by itself, and for which names the file asks. The last three are shared with the
+/// piece that was made of the text. Contracts see the path and the text.
 #[derive(Drop)]
 pub struct SourceFile {
     path: Name,
@@ -36,7 +36,7 @@ impl Model for SourceFile {
 }
 
 impl SourceFile {
-    // The file of a piece.
+    /// The file of a piece. An `Err` comes only where memory was refused, here and below.
     pub fn of(alloc: Global, piece: &Piece<FileWork>) -> Result<SourceFile, AllocError>
         ensures { IfOk result (λ file. file ≡ (piece.now.path, piece.now.text)) }
     {
@@ -52,7 +52,7 @@ impl SourceFile {
         })
     }
 
-    // The file with another text, which is read. It is as if it asked for all names: its links are made anew, whatever else changes.
+    /// The file with another text, which is read. It is as if it asked for all names: its links are made anew, whatever else changes.
     pub fn with_text(&self, alloc: Global, text: String) -> Result<SourceFile, AllocError>
         ensures { IfOk result (λ file. file ≡ (self.now.0, string_bytes text)) }
     {
@@ -67,7 +67,7 @@ impl SourceFile {
         })
     }
 
-    // The same file once more. What is known of its text is shared.
+    /// The same file once more. What is known of its text is shared.
     pub fn another(&self, alloc: Global) -> Result<SourceFile, AllocError>
         ensures { IfOk result (λ file. file ≡ self.now) }
     {
@@ -83,26 +83,28 @@ impl SourceFile {
         })
     }
 
+    /// Its path.
     pub fn path(&self) -> &str
         ensures { result.now ≡ self.now.0 }
     {
         self.path.as_str()
     }
 
+    /// Its text.
     pub fn text(&self) -> &str
         ensures { result.now ≡ self.now.1 }
     {
         self.text.as_str()
     }
 
-    // What its text says by itself.
+    /// What its text says by itself.
     pub fn facts(&self) -> &SharedFacts
         ensures { result.now ≡ facts_of self.now.1 }
     {
         &self.facts
     }
 
-    // For which full names it asks.
+    /// For which full names it asks.
     pub fn asked(&self) -> &Asked
         ensures { has_all result.now (asked_of self.now.1) ≡ true }
     {

@@ -19,7 +19,7 @@ use Rattle.work_files.specs.Files.{File, Files, text_of, text_at, workspace, Are
 use Rattle.work_space.specs.BoardTexts.{HoldsTexts, StampsRunOut, first_events}
 use Rattle.work_space.proofs.Held.{text_in_workspace}
 use Rattle.work_space.proofs.WorkspaceOrder.{Ascend, ascend-workspace}
-use Rattle.work_index.proofs.ByPath.{AreBehind, paths}
+use Rattle.work_update.proofs.ByPath.{AreBehind, paths}
 
 abbrev set_text : List Event → List ℕ × List ℕ → List Event
 set_text events file = SetText file.0 file.1 ∷ events

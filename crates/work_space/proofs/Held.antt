@@ -3,7 +3,7 @@ use Rattle.std.proofs.Common.{◌≡◌, ℕ, List, sym, ap, ◌∙◌}
 use Rattle.std.specs.Prelude.{bytes_eq}
 use Rattle.std.specs.Map.{lookup}
 use Rattle.piece_collector.specs.Views.{BoardView}
-use Rattle.work_index.specs.Updates.{IsWorkspaceOf}
+use Rattle.work_update.specs.Updates.{IsWorkspaceOf}
 use Rattle.work_files.specs.Files.{Files, text_at, workspace, AreInPathOrder}
 use Rattle.work_space.specs.BoardTexts.{HoldsTexts}
 use Rattle.work_files.proofs.PathOrder.{order-apart}

@@ -9,10 +9,10 @@ use Rattle.std.proofs.lemmas.Option.{get_or_from_slice_get, slice_get_cases}
 use Rattle.piece_collector.specs.Board.{IsTextsIn}
 use Rattle.piece_collector.specs.Views.{BoardView, TextAt, known_text}
 use Rattle.work_index.specs.Pieces.{workspace_of}
-use Rattle.work_index.specs.Updates.{NameAllChanges}
 use Rattle.work_index.specs.Workspace.{AnalysisData, analysis}
-use Rattle.work_index.proofs.ByPath.{path-at, text-at}
-use Rattle.work_index.proofs.Updates.{lent_workspace, one_workspace}
+use Rattle.work_update.specs.Updates.{NameAllChanges}
+use Rattle.work_update.proofs.ByPath.{path-at, text-at}
+use Rattle.work_update.proofs.Updates.{lent_workspace, one_workspace}
 use Rattle.work_files.specs.Files.{OpenDocument, File, Files, file_at, set_file, text_at, workspace, with_open_file, with_document, closed_at, closed_files, AreInPathOrder}
 use Rattle.work_space.specs.Kept.{IsOf, IsKept, is_current}
 use Rattle.work_files.specs.Steps.{with_document_at}
@@ -23,7 +23,7 @@ use Rattle.work_space.proofs.Held.{text_in_workspace, workspace_of_board}
 use Rattle.work_space.proofs.Noted.{known_fresh, known_still, one_change}
 use Rattle.work_files.proofs.PathOrder.{from_disk-order}
 use Rattle.work_space.proofs.WorkspaceOrder.{ascend-workspace}
-use Rattle.work_index.proofs.ByPath.{paths}
+use Rattle.work_update.proofs.ByPath.{paths}
 use Rattle.work_files.proofs.TextChanges.{set-texts, without-texts}
 
 -- ---- the fields of a workspace

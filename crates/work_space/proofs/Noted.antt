@@ -8,9 +8,9 @@ use Rattle.std.proofs.lemmas.Bool.{false≢true}
 use Rattle.std.proofs.lemmas.List.{map_push}
 use Rattle.std.proofs.lemmas.List.Elements.{Contains-append_left, Contains-push}
 use Rattle.collector_laws.proofs.Lists.{one_list}
-use Rattle.work_index.specs.Updates.{IsInOrder, NameAllChanges, texts_by_path}
 use Rattle.work_index.specs.Workspace.{AnalysisData, IsKnown, analysis, workspace_in}
 use Rattle.work_index.proofs.Known.{known_workspace}
+use Rattle.work_update.specs.Updates.{IsInOrder, NameAllChanges, texts_by_path}
 use Rattle.work_files.specs.Files.{Files, AreInPathOrder, text_at, workspace}
 use Rattle.work_space.specs.Kept.{AreNoted, IsOf}
 use Rattle.work_files.specs.Texts.{TextsChangeAt}

@@ -4,9 +4,9 @@ use Rattle.std.specs.List.{cons_option}
 use Rattle.std.specs.List.Sorted.{IsStrictlySortedBy}
 use Rattle.std.specs.Cmp.Lexicographic.{slice_cmp}
 use Rattle.std.specs.Map.{keys_of}
-use Rattle.work_index.specs.Updates.{IsInOrder}
 use Rattle.work_index.specs.Workspace.{Workspace}
-use Rattle.work_index.proofs.ByPath.{AreBehind, paths}
+use Rattle.work_update.specs.Updates.{IsInOrder}
+use Rattle.work_update.proofs.ByPath.{AreBehind, paths}
 use Rattle.work_files.specs.Files.{Files, text_of, workspace, AreInPathOrder}
 
 abbrev pub Ascend : Workspace → Type 0

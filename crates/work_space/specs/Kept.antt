@@ -1,8 +1,8 @@
 -- What a workspace keeps beside its files.
 use Rattle.std.specs.Prelude.{◌≡◌, ℕ, ◌==◌, List, Bool, false, Option, Some, None, Contains, length, map, IfSome, string_bytes}
 use Rattle.piece_collector.specs.Views.{BoardView}
-use Rattle.work_index.specs.Updates.{IsInOrder, NameAllChanges, texts_by_path}
 use Rattle.work_index.specs.Workspace.{IsKnown, workspace_in}
+use Rattle.work_update.specs.Updates.{IsInOrder, NameAllChanges, texts_by_path}
 use Rattle.work_files.specs.Files.{Files, AreInPathOrder, text_at}
 use Rattle.work_space.specs.BoardTexts.{HoldsTexts}
 use Rattle.work_space.specs.View.{WorkspaceData}

@@ -3,14 +3,15 @@ ghost use Rattle.std.specs.Prelude.{◌≡◌, List, ℕ, Option, Some, [], ◌�
 ghost use Rattle.std.specs.List.{list_any};
 ghost use Rattle.piece_collector.specs.Board.{IsFull};
 ghost use Rattle.piece_collector.specs.Views.{known_text};
-ghost use Rattle.work_index.specs.Updates.{IsWorkspaceOf, NameAllChanges};
 ghost use Rattle.work_index.specs.Workspace.{Workspace, analysis};
+ghost use Rattle.work_update.specs.Updates.{IsWorkspaceOf, NameAllChanges};
 ghost use Rattle.work_space.specs.Kept.{AreNoted, IsOf, is_current};
 
 use arrayvec::ArrayVec;
 use piece_collector::Board;
 use std::alloc::{AllocError, Global};
-use work_index::{Analysis, FileWork, analyse_board};
+use work_index::{Analysis, FileWork};
+use work_update::{analyse_board, update_analysis};
 
 // After more changes than that a whole analysis, by threads, is faster than one that takes a change after the other.
 const MOST_CHANGES: usize = 64;
@@ -89,5 +90,5 @@ pub fn analyse(
         return analyse_board(alloc, board);
     };
     let LastAnalysis { analysis, changes } = known;
-    analysis.update(alloc, changes.as_slice(), board)
+    update_analysis(alloc, analysis, changes.as_slice(), board)
 }

@@ -1,5 +1,5 @@
 use Rattle.std.proofs.Common.{◌≡◌, ◌≤◌, ◌-◌, ◌++◌, drop, length, map}
-use Rattle.work_index.specs.Edited.{edit_view}
+use Rattle.work_update.specs.Edited.{edit_view}
 use Rattle.lsp_queries.specs.Cutting.{edits_of}
 use Rattle.lsp_queries.proofs.edited.edited_texts.Given as goal
 

@@ -1,8 +1,8 @@
 use Rattle.std.proofs.Common.{◌≡◌, ◌+◌, ◌-◌, ◌++◌, take, drop, length, map, get_or, ℕ, List, [], ap, subst, sym, ◌∙◌, arith, length-drop, IsUtf8}
 use Rattle.std.proofs.lemmas.List.{take_all}
 use Rattle.std.proofs.lemmas.Option.{get_or_from_slice_get}
-use Rattle.work_index.specs.Edited.{edit_view}
-use Rattle.work_index.specs.declared.edited.EditedText.{EditedText}
+use Rattle.work_update.specs.Edited.{edit_view}
+use Rattle.work_update.specs.declared.edited.EditedText.{EditedText}
 use Rattle.lsp_queries.specs.ByFile.{by_file}
 use Rattle.lsp_queries.specs.Cutting.{CanBeCut, edits_of}
 use Rattle.lsp_queries.specs.Edited.{respelled}

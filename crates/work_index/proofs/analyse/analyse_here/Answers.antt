@@ -1,22 +1,19 @@
 use Rattle.std.proofs.Common.{rules}
 use Rattle.work_index.specs.Pieces.{workspace_of}
-use Rattle.work_index.proofs.Known.{hold_together, is_analysis}
 use Rattle.work_index.proofs.Steps.{all_numbered}
 use Rattle.work_index.proofs.analyse.analyse_here.Goals as goal
 
 pub link_files-requires-after_bounds : goal.link_files-requires-after_bounds
 link_files-requires-after_bounds c κs = all_numbered c.args.pieces.now _ c.in_ok-table.ensures (search rules)
 
-pub invariant_of-result : goal.invariant_of-result
-invariant_of-result c =
-    let ts = c.args.pieces.now in
-    let w = workspace_of ts in
+pub of_parts-requires : goal.of_parts-requires
+of_parts-requires c =
+    let w = workspace_of c.args.pieces.now in
     let all = c.in_ok-table.ensures in
-    hold_together w _ _ _ _ all c.in_ok-files.ensures (c.in_ok-resolutions.ensures.links w all) (c.in_ok-resolutions.ensures.diagnostics w all)
+    (w, record { table = all; files = c.in_ok-files.ensures; links = c.in_ok-resolutions.ensures.links w all; diagnostics = c.in_ok-resolutions.ensures.diagnostics w all })
 
 pub returns : goal.returns
 returns c =
-    let ts = c.args.pieces.now in
-    let w = workspace_of ts in
+    let w = workspace_of c.args.pieces.now in
     let all = c.in_ok-table.ensures in
-    is_analysis w _ _ _ _ all c.in_ok-files.ensures (c.in_ok-resolutions.ensures.links w all) (c.in_ok-resolutions.ensures.diagnostics w all)
+    c.of_parts.ensures w (record { table = all; files = c.in_ok-files.ensures; links = c.in_ok-resolutions.ensures.links w all; diagnostics = c.in_ok-resolutions.ensures.diagnostics w all })

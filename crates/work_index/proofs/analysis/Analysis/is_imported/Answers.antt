@@ -2,9 +2,8 @@ use Rattle.std.proofs.Common.{◌≡◌, List, map, ap, sym, subst, ◌∙◌}
 use Rattle.std.specs.Prelude.{bytes_eq, position}
 use Rattle.proto_decls.specs.declared.fact.FileFacts.{FileFacts}
 use Rattle.proto_decls.specs.declared.named_facts.NamedFacts.{NamedFacts}
-use Rattle.work_index.specs.Arrivals.{NoneImports}
-use Rattle.work_index.specs.Workspace.{AnalysisData}
-use Rattle.work_index.proofs.Arrived.{nobody_imports, none_imports, position_mapped}
+use Rattle.work_index.specs.Workspace.{AnalysisData, NoneImports}
+use Rattle.work_index.proofs.ByFile.{nobody_imports, none_imports, position_mapped}
 use Rattle.work_index.proofs.analysis.Analysis.is_imported.Goals as goal
 
 pub is_imported-requires : goal.is_imported-requires

@@ -2,7 +2,7 @@ use Rattle.std.proofs.Common.{ap, sym, ◌∙◌}
 use Rattle.std.specs.Prelude.{bytes_eq, position}
 use Rattle.proto_decls.specs.declared.named_facts.NamedFacts.{NamedFacts}
 use Rattle.work_index.specs.Workspace.{AnalysisData}
-use Rattle.work_index.proofs.Arrived.{position_mapped}
+use Rattle.work_index.proofs.ByFile.{position_mapped}
 use Rattle.work_index.proofs.analysis.Analysis.number_of.Goals as goal
 
 pub returns : goal.returns

@@ -4,7 +4,7 @@ use Rattle.work_index.specs.Pieces.{workspace_of}
 use Rattle.work_index.specs.Workspace.{analysis}
 use Rattle.work_files.specs.Files.{workspace}
 use Rattle.work_space.proofs.Keeps.{keeps_fresh, keeps_nothing, lent_files}
-use Rattle.work_index.proofs.Updates.{back_again}
+use Rattle.work_update.proofs.Updates.{back_again}
 use Rattle.work_space.proofs.workspace.Workspace.analyse_lent.Goals as goal
 
 pub lend_all-requires-clause-full : goal.lend_all-requires-clause-full

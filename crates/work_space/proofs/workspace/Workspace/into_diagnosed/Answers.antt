@@ -2,11 +2,11 @@ use Rattle.std.proofs.Common.{◌≡◌, ◌∙◌, ap, sym, subst}
 use Rattle.piece_collector.specs.Board.{IsFull}
 use Rattle.work_index.specs.Pieces.{workspace_of}
 use Rattle.work_index.specs.Workspace.{DiagnosisData, diagnosis}
-use Rattle.work_index.proofs.Changed.{zipped}
 use Rattle.work_files.specs.Files.{Files, workspace}
 use Rattle.work_space.specs.View.{WorkspaceData, diagnosed_files}
 use Rattle.work_space.proofs.Keeps.{lent_files}
 use Rattle.work_space.proofs.workspace.Workspace.into_diagnosed.Goals as goal
+use Rattle.work_index.proofs.Known.{zipped}
 
 pub lend_all-requires-clause-full : goal.lend_all-requires-clause-full
 lend_all-requires-clause-full g c = λ k. subst IsFull (sym (ap (λ w. w.board) c.self.view_is)) c.requires

@@ -8,9 +8,9 @@ use Rattle.std.proofs.lemmas.Iterator.Adapters.{YieldsList-from_vec}
 use Rattle.std.proofs.lemmas.List.{map-id}
 use Rattle.work_index.proofs.Crossing.{two_send, heap_send, share_send, indexed_send}
 use Rattle.work_index.proofs.Taken.{all_indexed}
+use Rattle.work_index.proofs.in_shares.fn.index_all.scope.Lts as lts
 use Rattle.work_index.proofs.in_shares.fn.index_all.scope.Goals as goal
 use Rattle.work_index.proofs.in_shares.fn.index_all.scope.Given as given
-use Rattle.work_index.proofs.in_shares.fn.index_all.scope.Lts as lts
 
 -- what the closure of a thread takes with it: the allocator and its share
 closure_send : (g : given.Over) (κs : Lfts 6) → IsSend (lts.arg-4-2 g.row.R g.R.laws g.R.Threads-dict g.R.Wait-dict κs)

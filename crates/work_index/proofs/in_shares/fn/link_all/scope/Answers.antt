@@ -9,9 +9,9 @@ use Rattle.std.proofs.lemmas.Iterator.Adapters.{YieldsList-from_vec}
 use Rattle.std.proofs.lemmas.List.{map-id}
 use Rattle.work_index.proofs.Crossing.{four_send, heap_send, share_send, table_sync, linked_send}
 use Rattle.work_index.proofs.Promised.{all_linked}
+use Rattle.work_index.proofs.in_shares.fn.link_all.scope.Lts as lts
 use Rattle.work_index.proofs.in_shares.fn.link_all.scope.Goals as goal
 use Rattle.work_index.proofs.in_shares.fn.link_all.scope.Given as given
-use Rattle.work_index.proofs.in_shares.fn.link_all.scope.Lts as lts
 
 -- what the closure of a thread takes with it: the allocator, its share, and references to the table and to the gate
 closure_send : (g : given.Over) (κs : Lfts 8) → IsSync (param 1 g.row.G) → IsSend (lts.arg-5-2 g.row.R g.row.G g.R.laws g.G.laws g.R.Threads-dict g.R.Wait-dict g.G.Gate-dict g.G.Destruct-dict κs)

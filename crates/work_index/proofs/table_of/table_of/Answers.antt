@@ -1,5 +1,0 @@
-use Rattle.work_index.proofs.Ascending.{in_path_order}
-use Rattle.work_index.proofs.table_of.table_of.Goals as goal
-
-pub of-requires : goal.of-requires
-of-requires c = rw c.in_ok-files.ensures (in_path_order c.args.pieces.now c.requires)

@@ -1,0 +1,32 @@
+-- Other texts for some files of a workspace.
+use Rattle.std.specs.Prelude.{◌≡◌, ◌==◌, ℕ, List, [], Contains, find, map, slice_index_or, string_bytes}
+use Rattle.std.specs.List.{enumerate_from}
+use Rattle.std.specs.Option.{option_map_or}
+use Rattle.work_index.specs.Workspace.{Workspace}
+use Rattle.work_update.specs.declared.edited.EditedText.{EditedText}
+use Rattle.work_update.specs.declared.edited.NamedText.{NamedText}
+
+-- a file's number with its other text
+abbrev pub edit_view : EditedText → ℕ × List ℕ
+edit_view e = (e.file, string_bytes e.text)
+
+-- the text of a file, given its number and the text that it has where none is in the list: of two for one file the first counts
+abbrev pub text_after : List (ℕ × List ℕ) → ℕ → List ℕ → List ℕ
+text_after edits file text = option_map_or (λ e. e.1) (find (λ e. e.0 == file) edits) text
+
+-- the workspace with these texts
+abbrev pub with_texts : List (ℕ × List ℕ) → Workspace → Workspace
+with_texts edits w = map (λ e. (e.1.0, text_after edits e.0 e.1.1)) (enumerate_from 0 w)
+
+-- a workspace with other texts of these files: the paths stay, and so does each file that is none of these
+pub record StaysBut (files : List ℕ) (old new : Workspace) : Type 0 where
+  pub paths : map (λ f. f.0) old ≡ map (λ f. f.0) new
+  pub others : (n : ℕ) → (Contains files n → ⊥) → slice_index_or old n ([], []) ≡ slice_index_or new n ([], [])
+
+-- so it is with texts for some files
+abbrev pub OthersStay : Type 0
+OthersStay = (edits : List (ℕ × List ℕ)) (w : Workspace) → StaysBut (map (λ e. e.0) edits) w (with_texts edits w)
+
+-- a file, by its path and its text
+abbrev pub named_text : NamedText → List ℕ × List ℕ
+named_text f = (string_bytes f.path, string_bytes f.text)
