@@ -4,7 +4,7 @@ use Rattle.std.specs.Prelude.{if◌then◌else◌}
 use Rattle.std.proofs.lemmas.Bool.{eqb-true}
 use Rattle.std.proofs.lemmas.List.Folds.{flat_map-map}
 use Rattle.doc_text.specs.declared.position.Range.{Range}
-use Rattle.lsp_queries.specs.ByFile.{behind, later, by_file}
+use Rattle.lsp_renames.specs.ByFile.{behind, later, by_file}
 use Rattle.lsp_queries.specs.declared.place.Place.{Place}
 use Rattle.lsp_rpc.specs.Location.{LocationData, locations_at, all_locations}
 use Rattle.lsp_rpc.specs.WorkspaceEdit.{document_ranges}

@@ -10,11 +10,11 @@ use Rattle.proto_decls.specs.declared.fact.Decl.{Decl}
 use Rattle.proto_decls.specs.declared.fact.DeclKind.{DeclKind}
 use Rattle.proto_decls.specs.declared.fact.DeclKind.TheVariants as decl
 use Rattle.lsp_queries.specs.Answers as answers
-use Rattle.lsp_queries.specs.ByFile.{by_file}
+use Rattle.lsp_renames.specs.ByFile.{by_file}
 use Rattle.lsp_queries.specs.Files.{place, decl_of}
-use Rattle.lsp_queries.specs.Renaming.{renamed}
-use Rattle.lsp_queries.specs.declared.fault.RenameFault.{RenameFault}
-use Rattle.lsp_queries.specs.declared.fault.RenameFault.TheVariants as fault
+use Rattle.lsp_renames.specs.Renaming.{renamed}
+use Rattle.lsp_renames.specs.declared.fault.RenameFault.{RenameFault}
+use Rattle.lsp_renames.specs.declared.fault.RenameFault.TheVariants as fault
 use Rattle.lsp_queries.specs.declared.place.Place.{Place}
 use Rattle.lsp_rpc.specs.Location.{LocationData}
 use Rattle.lsp_rpc.specs.Message.{IdData}

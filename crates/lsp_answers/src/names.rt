@@ -11,7 +11,8 @@ ghost use Rattle.lsp_answers.specs.Views.{place_view};
 
 use crate::answers::Answers;
 use crate::question::DocumentPlace;
-use lsp_queries::{RenameFault, definition, references, rename};
+use lsp_queries::{definition, references};
+use lsp_renames::{RenameFault, rename};
 use lsp_rpc::{
     DocumentRanges, ErrorCode, Id, RenameRefusal, error_reply, locations_reply, null_reply,
 };

@@ -90,6 +90,17 @@ impl Core {
         fault
     }
 
+    // Answers the fault that is kept, if one is.
+    fn fail_again(&self) -> Result<(), CoreFault>
+        ensures kept { IfErr result (λ fault. last_fault self.now ≡ Some fault) }
+        ensures none { OnOk result (last_fault self.now ≡ None) }
+    {
+        match self.fault {
+            Some(fault) => Err(fault),
+            None => Ok(()),
+        }
+    }
+
     // ---- messages
 
     /// Queues a message by its body, to be processed by an advance. `Memory` where memory is refused.
@@ -103,9 +114,7 @@ impl Core {
         // What the core stood for, it stands for with one more message.
         ensures arrives { OnOk result (Records (core_state self.old) (core_state self.new) (Arrive body.now ∷ [])) }
     {
-        if let Some(fault) = self.fault {
-            return Err(fault);
-        }
+        self.fail_again()?;
         match self.enqueue(body) {
             Ok(()) => Ok(()),
             Err(_) => Err(self.fail(CoreFault::Memory)),
@@ -142,9 +151,7 @@ impl Core {
         ensures first { IfOk result (λ job. WhateverCame (core_state self.old) (λ opening config h. IsFirstWanted opening (board_events config h) (option_map (λ j. j.path) job))) }
         ensures text { IfOk result (λ job. WhateverCame (core_state self.old) (λ opening config h. IfSome job (λ j. option_map (current_text j.path) (stands_at opening (board_events config h) j.path) ≡ Some j))) }
     {
-        if let Some(fault) = self.fault {
-            return Err(fault);
-        }
+        self.fail_again()?;
         match self.workspace.next_job() {
             Ok(job) => Ok(job),
             Err(_) => Err(self.fail(CoreFault::Memory)),
@@ -162,9 +169,7 @@ impl Core {
         ensures brings { OnOk result (Records (core_state self.old) (core_state self.new) (event_of sent ∷ [])) }
         ensures verdict { IfOk result (λ verdict. WhateverCame (core_state self.old) (λ opening config h. verdict ∷ [] ≡ verdicts_of opening config h (incoming_of_done sent))) }
     {
-        if let Some(fault) = self.fault {
-            return Err(fault);
-        }
+        self.fail_again()?;
         Ok(self.take(sent))
     }
 
@@ -198,9 +203,7 @@ impl Core {
         // What the core stood for, it stands for with all messages processed that could be.
         ensures advances { IfOk result (λ replies. WhateverCame (core_state self.old) (λ opening config h. Advances opening config (core_state self.new) h replies.items)) }
     {
-        if let Some(fault) = self.fault {
-            return Err(fault);
-        }
+        self.fail_again()?;
         match self.take_steps() {
             Ok(replies) => Ok(replies),
             Err(fault) => Err(self.fail(CoreFault::from(fault))),
@@ -235,9 +238,7 @@ impl Core {
         // What the core stood for, it stands for with all messages processed that could be.
         ensures advances { IfOk result (λ replies. WhateverCame (core_state self.old) (λ opening config h. Advances opening config (core_state self.new) h replies.items)) }
     {
-        if let Some(fault) = self.fault {
-            return Err(fault);
-        }
+        self.fail_again()?;
         match self.take_steps_in_shares(rt, workers, gate) {
             Ok(replies) => Ok(replies),
             Err(fault) => Err(self.fail(fault)),
@@ -403,9 +404,7 @@ impl Core {
         ensures hands { OnOk result (HandsOut (core_state self.old).board (core_state self.new).board pool.old.sent pool.new.sent) }
         ensures works { OnOk result (WhateverCame (core_state self.old) (λ opening config h. WorksOn opening config (core_state self.new) h)) }
     {
-        if let Some(fault) = self.fault {
-            return Err(fault);
-        }
+        self.fail_again()?;
         match hand_out_jobs(rt, &mut self.workspace, pool) {
             Ok(()) => Ok(()),
             Err(fault) => Err(self.fail(CoreFault::from(fault))),
@@ -423,11 +422,11 @@ impl Core {
         ensures stamps { last_fault self.old ≡ None → IfErr result (λ fault. fault ≢ CoreFault.Exhausted) }
         ensures open { OnOk result (last_fault self.new ≡ None) }
 
-        // The state of the session stays, and how many messages aren't processed, also where it fails. Memory ran out only for a failure that
-        // counts, which is brought. If nothing can come, nothing is received or brought.
+        // The state of the session stays, and so does the number of messages that aren't processed, also where it fails. `Memory` comes only for a
+        // failure that counts, which is brought. With `ThreadRefused` nothing is received or brought.
         ensures state { (core_state self.new).state ≡ (core_state self.old).state }
         ensures waits { unprocessed (core_state self.new) ≡ unprocessed (core_state self.old) }
-        ensures failed { last_fault self.old ≡ None → result ≡ Err CoreFault.Memory → BringsFailure (core_state self.old).board (core_state self.new).board pool.old.sent pool.new.sent }
+        ensures failed { last_fault self.old ≡ None → result ≡ Err CoreFault.Memory → BringsFailure (core_state self.old).board (core_state self.new).board pool.old.sent pool.new.sent × (pool.old.out ≡ pool.new.out + 1) }
         ensures refused { result ≡ Err CoreFault.ThreadRefused → (core_state self.new ≡ core_state self.old) × (pool.new ≡ pool.old) }
 
         // One result was received and brought, and nothing else was done.
@@ -435,9 +434,7 @@ impl Core {
         ensures received { OnOk result (pool.old.out ≡ pool.new.out + 1) }
         ensures works { OnOk result (WhateverCame (core_state self.old) (λ opening config h. WorksOn opening config (core_state self.new) h)) }
     {
-        if let Some(fault) = self.fault {
-            return Err(fault);
-        }
+        self.fail_again()?;
         match bring_result(rt, &mut self.workspace, pool) {
             Ok(()) => Ok(()),
             Err(fault) => Err(self.fail(CoreFault::from(fault))),

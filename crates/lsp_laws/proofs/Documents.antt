@@ -5,14 +5,14 @@ use Rattle.std.specs.List.{AllPairs}
 use Rattle.std.specs.Option.{option_map_or}
 use Rattle.doc_text.specs.declared.encoding.Encoding.{Encoding}
 use Rattle.doc_text.specs.declared.position.Range.{Range}
-use Rattle.lsp_queries.specs.declared.fault.RenameFault.{RenameFault}
-use Rattle.lsp_queries.specs.declared.fault.RenameFault.TheVariants as fault
+use Rattle.lsp_renames.specs.declared.fault.RenameFault.{RenameFault}
+use Rattle.lsp_renames.specs.declared.fault.RenameFault.TheVariants as fault
 use Rattle.lsp_queries.specs.declared.place.Place.{Place}
-use Rattle.lsp_queries.specs.ByFile.{by_file}
-use Rattle.lsp_queries.specs.Edited.{respelled}
+use Rattle.lsp_renames.specs.ByFile.{by_file}
+use Rattle.lsp_renames.specs.Edited.{respelled}
 use Rattle.lsp_queries.specs.Offsets.{symbol_at}
 use Rattle.lsp_queries.specs.PlaceLaws.{IsBefore, PlacesAscend, places_of, text_in}
-use Rattle.lsp_queries.specs.Renaming.{renamed}
+use Rattle.lsp_renames.specs.Renaming.{renamed}
 use Rattle.lsp_answers.specs.Answers.{DocumentPlaceData, documents_of, edits_of, number_of}
 use Rattle.lsp_answers.specs.Context.{Context}
 use Rattle.work_laws.specs.EditLaws.{RenamesChangeTheNames, change_of, changed_from_the_last, range_of}

@@ -11,11 +11,11 @@ use Rattle.proto_laws.proofs.Holders.{cases_in}
 use Rattle.work_index.specs.Workspace.{analysis}
 use Rattle.work_index.proofs.Known.{known_workspace}
 use Rattle.work_update.specs.Bindings.{SameMeaning}
-use Rattle.lsp_queries.specs.Edited.{edited, places_in, respelled}
+use Rattle.lsp_renames.specs.Edited.{edited, places_in, respelled}
 use Rattle.lsp_queries.specs.Offsets.{symbol_at}
 use Rattle.lsp_queries.specs.PlaceLaws.{PlacesLieInTheTexts, text_in}
-use Rattle.lsp_queries.specs.Renaming.{KeepsMeaning, analysis_after}
-use Rattle.lsp_queries.specs.RenamingLaws.{RenamesKeepMeaning}
+use Rattle.lsp_renames.specs.Renaming.{KeepsMeaning, analysis_after}
+use Rattle.lsp_renames.specs.RenamingLaws.{RenamesKeepMeaning}
 use Rattle.lsp_queries.specs.declared.place.Place.{Place}
 use Rattle.lsp_answers.specs.Answers.{DocumentPlaceData, document_of}
 use Rattle.lsp_answers.specs.Context.{Context}

@@ -7,8 +7,8 @@ use Rattle.std.proofs.lemmas.List.Elements.{All-cons, All-contains, All-head, Al
 use Rattle.std.proofs.lemmas.List.Kept.{AllPairs-cons}
 use Rattle.proto_laws.proofs.Holders.{cases_in}
 use Rattle.lsp_queries.specs.declared.place.Place.{Place}
-use Rattle.lsp_queries.specs.ByFile.{behind, by_file, later}
-use Rattle.lsp_queries.specs.Edited.{places_in}
+use Rattle.lsp_renames.specs.ByFile.{behind, by_file, later}
+use Rattle.lsp_renames.specs.Edited.{places_in}
 use Rattle.lsp_queries.proofs.Pairs.{pairs-head, pairs-nil, pairs-tail}
 use Rattle.lsp_laws.specs.DocumentLaws.{AreByFile, GroupsAreTheFiles}
 

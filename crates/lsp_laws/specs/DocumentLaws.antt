@@ -6,10 +6,10 @@ use Rattle.doc_text.specs.declared.position.Range.{Range}
 use Rattle.doc_text.specs.Edits.{ChangeData}
 use Rattle.work_index.specs.Workspace.{Workspace, analysis}
 use Rattle.work_update.specs.Bindings.{SameMeaning}
-use Rattle.lsp_queries.specs.ByFile.{by_file}
-use Rattle.lsp_queries.specs.Edited.{edited, places_in, respelled}
+use Rattle.lsp_renames.specs.ByFile.{by_file}
+use Rattle.lsp_renames.specs.Edited.{edited, places_in, respelled}
 use Rattle.lsp_queries.specs.PlaceLaws.{text_in}
-use Rattle.lsp_queries.specs.Renaming.{renamed}
+use Rattle.lsp_renames.specs.Renaming.{renamed}
 use Rattle.lsp_queries.specs.declared.place.Place.{Place}
 use Rattle.lsp_rpc.specs.Message.{IdData}
 use Rattle.lsp_rpc.specs.Reply.{result_reply}

@@ -1,7 +1,8 @@
 // Laws of documents with edits. Each is proved for all workspaces, and its function does nothing.
 ghost use Rattle.lsp_laws.specs.DocumentLaws.{GroupsAreTheFiles, RenamesEditTheWorkspace, RenamesEditUnderUris, RenamesRespellDocuments};
 
-use lsp_queries::{meaning_law, places_apart, places_in_order};
+use lsp_queries::{places_apart, places_in_order};
+use lsp_renames::meaning_law;
 use lsp_rpc::edit_ranges;
 use work_laws::renames_change_the_names;
 

@@ -1,21 +1,11 @@
-pub mod AfterEdits
 pub mod AllPlaces
-pub mod ByFile
-pub mod CutPlaces
-pub mod Cuts
 pub mod FirstByteLemmas
-pub mod Groups
 pub mod MatchingLemmas
-pub mod Meaning
 pub mod Names
 pub mod NeighbourLemmas
+pub mod NextFile
 pub mod OneSymbol
 pub mod Pairs
 pub mod Places
 pub mod Read
-pub mod RenamedLemmas
-pub mod RenamingLemmas
 pub mod Spans
-pub mod TakenLemmas
-pub mod WithTexts
-mod NextFile

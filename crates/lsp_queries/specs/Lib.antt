@@ -5,9 +5,3 @@ pub mod Answers
 pub mod Searching
 pub mod PlaceLaws
 pub mod Standing
-pub mod Edited
-pub mod ByFile
-pub mod Cutting
-pub mod Fault
-pub mod Renaming
-pub mod RenamingLaws

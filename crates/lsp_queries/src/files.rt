@@ -9,7 +9,7 @@ use proto_resolve::{DeclRef, Links, NameUse};
 use proto_tree::Span;
 use work_index::Analysis;
 
-// What a file says by itself.
+/// What the text of a file says by itself; `None` if no file has the number. Takes no memory.
 pub fn facts_in(analysis: &Analysis, file: FileNo) -> Option<&FileFacts>
     ensures { option_map (λ facts. facts.now) result ≡ facts_in analysis.now file }
 {
@@ -73,14 +73,14 @@ pub fn uses_in(analysis: &Analysis, file: FileNo) -> &[NameUse]
     }
 }
 
-/// A declaration, if it is there. Takes no memory.
+/// A declaration; `None` if there is no such file or number. Takes no memory.
 pub fn decl_of(analysis: &Analysis, decl: DeclRef) -> Option<&Decl>
     ensures { option_map (λ d. d.now) result ≡ decl_of analysis.now decl }
 {
     decls_in(analysis, decl.file).get(decl.number)
 }
 
-// Where its name stands.
+/// Where the name of a declaration stands, in bytes; `None` if there is no such declaration. Takes no memory.
 pub fn place_of(analysis: &Analysis, decl: DeclRef) -> Option<Place>
     ensures { result ≡ place_of analysis.now decl }
 {

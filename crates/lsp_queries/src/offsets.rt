@@ -10,12 +10,12 @@ use proto_resolve::{DeclRef, Target};
 use proto_tree::Span;
 use work_index::Analysis;
 
-// What a name in a text stands for.
+/// What a name in a text stands for.
 #[derive(Clone, Copy, Debug, PartialEq, Eq)]
 pub enum Symbol {
-    // A declaration.
+    /// A declaration.
     Declared(DeclRef),
-    // A package.
+    /// A package.
     Package,
 }
 
@@ -76,8 +76,9 @@ fn package_at(analysis: &Analysis, file: FileNo, offset: usize) -> Option<Symbol
     }
 }
 
-// What the name at an offset of a file stands for: the first declared name that holds the offset, else the first use of a
-// name, else a component of the package.
+/// What the name at a byte offset of a file stands for: the first declared name that holds the offset, else the first use that
+/// does, else a component of the package. A name also holds the offset behind its last byte. `None` if no name that means something
+/// is there, or no file has the number. Takes no memory.
 pub fn symbol_at(analysis: &Analysis, file: FileNo, offset: usize) -> Option<Symbol>
     ensures { result ≡ symbol_at analysis.now file offset }
 {

@@ -1,5 +1,4 @@
 // Laws of what stands at an offset, and of the places of a declaration. Each is proved for all workspaces, and its function does nothing.
-ghost use Rattle.lsp_queries.specs.Cutting.{PlacesAreCutOut};
 ghost use Rattle.lsp_queries.specs.PlaceLaws.{PlacesAreApart, PlacesAscend, PlacesLieInTheTexts};
 ghost use Rattle.lsp_queries.specs.Standing.{OneListOfPlaces, OneNameHolds, PlacesAreAll, SymbolsStandThere};
 
@@ -43,14 +42,4 @@ pub fn places_are_all()
     ensures only { OneListOfPlaces }
 {
     places_in_order();
-}
-
-// A law: the places of a declaration are in order, none overlaps another, and each can be cut out of the text of its file.
-pub fn places_cut_out()
-    ensures { PlacesAreCutOut }
-{
-    identifiers_law();
-    names_apart();
-    size_law();
-    uses_in_order();
 }

@@ -97,7 +97,9 @@ fn sites_in(
     Ok(places)
 }
 
-// Where all files have it.
+/// Where a declaration is used in all files, by file, then offset. If `own` is given, the place of its name, that is put among them,
+/// before the uses in its file that don't start before it; it is left out if there is no such file. An `Err` comes only where memory
+/// was refused.
 pub fn sites_of(
     alloc: Global,
     analysis: &Analysis,
@@ -125,8 +127,8 @@ fn own_place(analysis: &Analysis, decl: DeclRef, include_declaration: bool) -> O
 }
 
 /// Where the declaration is used that the name at a byte offset of a file stands for, and where it is declared if that is asked
-/// for, by path, then offset. `None` if no name is there, or one that stands for a package. An `Err` comes only where memory
-/// was refused.
+/// for, by file, then offset. `None` if no name that means something is there, or one that stands for a package. An `Err` comes only
+/// where memory was refused.
 pub fn references(
     alloc: Global,
     analysis: &Analysis,

@@ -1,10 +1,10 @@
 -- Jobs that are given and sent one after the other.
-use Rattle.std.proofs.Common.{◌≡◌, ℕ, zero, suc, List, [], ◌∷◌, ◌++◌, replicate, length, map, refl, sym, ap, ◌∙◌, subst, arith, append_assoc, length-append}
-use Rattle.std.proofs.lemmas.List.{map-append}
+use Rattle.std.proofs.Common.{◌≡◌, ℕ, zero, suc, ◌<◌, List, [], ◌∷◌, ◌++◌, replicate, length, map, take, refl, sym, ap, ◌∙◌, subst, arith, append_assoc, length-append}
+use Rattle.std.proofs.lemmas.List.{map-append, take-append-le}
 use Rattle.piece_collector.specs.Events.{Event, NextJob}
 use Rattle.piece_collector.specs.Views.{TextAt, BoardView}
 use Rattle.piece_collector.specs.Board.{Records}
-use Rattle.work_pool.specs.SentJobs.{noted}
+use Rattle.work_pool.specs.SentJobs.{noted, HasRoom}
 use Rattle.work_pool.specs.declared.sent_jobs.SentJob.{SentJob}
 use Rattle.work_dispatch.specs.Dispatch.{IsNextJob, AreNextJobs, Sends}
 
@@ -30,3 +30,19 @@ sends-more old now before sent after jobs job records so_far next = record {
 
 pub sends-same : (old : BoardView) (before sent after : List SentJob) (jobs : List TextAt) → after ≡ sent → Sends old before sent jobs → Sends old before after jobs
 sends-same old before sent after jobs same so_far = record { given = so_far.given; sent = same ∙ so_far.sent }
+
+-- what is so of each front of a list and of the whole
+pub up-to : (P : List TextAt → Type 0) (jobs : List TextAt) → ((k : ℕ) → k < length jobs → P (take k jobs)) → P jobs → (k : ℕ) → k < suc (length jobs) → P (take k jobs)
+up-to P [] front all zero lt = all
+up-to P [] front all (suc k) lt = absurd (omega (arith, lt))
+up-to P (job ∷ jobs) front all zero lt = front zero (omega arith)
+up-to P (job ∷ jobs) front all (suc k) lt = up-to (λ some. P (job ∷ some)) jobs (λ i less. front (suc i) (omega (arith, less))) all k (omega (arith, lt))
+
+-- each time there was room, and now there is room for one more
+abbrev had-room : List SentJob → List TextAt → Type 0
+had-room before jobs = (k : ℕ) → k < length jobs → HasRoom (before ++ map noted (take k jobs))
+
+pub room-more : (before : List SentJob) (jobs : List TextAt) (job : TextAt) → had-room before jobs → HasRoom (before ++ map noted jobs) → had-room before (jobs ++ job ∷ [])
+room-more before jobs job front all k lt =
+    let less : k < suc (length jobs) = omega (arith, lt, length-append jobs (job ∷ [])) in
+    subst (λ some. HasRoom (before ++ map noted some)) (sym (take-append-le k jobs (job ∷ []) (omega (arith, less)))) (up-to (λ some. HasRoom (before ++ map noted some)) jobs front all k less)

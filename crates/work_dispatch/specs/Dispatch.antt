@@ -1,5 +1,5 @@
 -- What is done to the board of a workspace where jobs go out, and where what became of one comes back.
-use Rattle.std.specs.Prelude.{◌≡◌, ◌⊎◌, ℕ, ◌+◌, List, [], ◌∷◌, ◌++◌, ⊤, Some, None, option_map, length, map, replicate, string_bytes}
+use Rattle.std.specs.Prelude.{◌≡◌, ◌⊎◌, ℕ, ◌+◌, ◌<◌, List, [], ◌∷◌, ◌++◌, ⊤, Some, None, option_map, length, map, replicate, string_bytes, take}
 use Rattle.piece_collector.specs.Board.{IsFirstWanted, current_text, WhateverCame, Records}
 use Rattle.piece_collector.specs.Events.{Event, NextJob, Offer, Fail}
 use Rattle.piece_collector.specs.History.{failure_on, stands_at}
@@ -26,13 +26,14 @@ pub record Sends (board : BoardView) (before after : List SentJob) (jobs : List 
   pub given : WhateverCame board (λ opening events. AreNextJobs opening events jobs)
   pub sent : after ≡ before ++ map noted jobs
 
--- So many jobs were asked for, and these were sent: all of them, until there was no room for more; or all but the last, where behind these
--- no text was wanted.
+-- So many times a job was asked for, each time with room for one more. These jobs were sent: one each time, until there was no room for more; or one each
+-- time but the last, when no text was wanted.
 pub record HandsOut (old new : BoardView) (before after : List SentJob) : Type 0 where
   pub asked : ℕ
   pub records : Records old new (replicate asked NextJob)
   pub jobs : List TextAt
   pub sends : Sends old before after jobs
+  pub room : (k : ℕ) → k < asked → HasRoom (before ++ map noted (take k jobs))
   pub stops : ((asked ≡ length jobs) × (¬ HasRoom after)) ⊎ ((asked ≡ length jobs + 1) × WhateverCame old (λ opening events. IsFirstWanted opening (replicate (length jobs) NextJob ++ events) None))
 
 -- what became of a job, as what is done to the board
@@ -45,14 +46,15 @@ abbrev pub IsCountedFailure : ℕ → List Event → Done → Type 0
 IsCountedFailure opening events (job.Made piece) = ⊥
 IsCountedFailure opening events (job.Failed path stamp) = failure_on stamp (stands_at opening events (string_bytes path)) ≡ Taken
 
--- a result was received, by its stamp, and what was brought has that stamp and isn't a failure that counts
+-- A result was received: the job that is no longer out is the first with the stamp of what was brought, or the first of all if none has it. What was
+-- brought isn't a failure that counts.
 pub record BringsResult (old new : BoardView) (before after : List SentJob) : Type 0 where
   pub done : Done
   pub received : after ≡ without_job (stamp_of done) before
   pub records : Records old new (event_of done ∷ [])
   pub uncounted : WhateverCame old (λ opening events. ¬ (IsCountedFailure opening events done))
 
--- the same, but for what was brought: it is a failure that counts
+-- the same, but what was brought is a failure that counts
 pub record BringsFailure (old new : BoardView) (before after : List SentJob) : Type 0 where
   pub done : Done
   pub received : after ≡ without_job (stamp_of done) before

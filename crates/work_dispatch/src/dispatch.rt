@@ -88,7 +88,7 @@ pub fn bring_result<R: Wait>(
     ensures received { OnOk result (pool.old.out ≡ pool.new.out + 1) }
 
     // Memory ran out only for a failure that counts, which is brought. If nothing can come, nothing is done.
-    ensures failed { result ≡ Err PoolFault.Memory → BringsFailure workspace.old.board workspace.new.board pool.old.sent pool.new.sent }
+    ensures failed { result ≡ Err PoolFault.Memory → BringsFailure workspace.old.board workspace.new.board pool.old.sent pool.new.sent × (pool.old.out ≡ pool.new.out + 1) }
     ensures refused { result ≡ Err PoolFault.ThreadRefused → (pool.new ≡ pool.old) × (workspace.new.board ≡ workspace.old.board) }
 {
     match pool.receive(rt) {

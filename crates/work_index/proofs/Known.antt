@@ -25,6 +25,17 @@ known_workspace w = zipped w
 pub is_known : (a : AnalysisData) (w : Workspace) → a ≡ analysis w → IsKnown a
 is_known a w is = record { is = is ∙ ap analysis (sym (ap workspace_in is ∙ known_workspace w)) }
 
+-- it has as many of each as files
+module _ (a : AnalysisData) (known : IsKnown a) where
+  pub paths-long : length a.paths ≡ length (workspace_in a)
+  paths-long = ap (λ (x : AnalysisData). length x.paths) known.is ∙ length-map (workspace_in a) (λ file. file.0)
+
+  pub facts-long : length a.facts ≡ length a.paths
+  facts-long = ap (λ (x : AnalysisData). length x.facts) known.is ∙ length-map (workspace_in a) (λ file. facts_of file.1) ∙ sym paths-long
+
+  pub links-long : length a.links ≡ length a.paths
+  links-long = let w = workspace_in a in ap (λ (x : AnalysisData). length x.links) known.is ∙ made_length (resolution_of w) w ∙ sym paths-long
+
 -- ---- taken apart
 
 pub same_files : (files : List NamedFacts) (w : Workspace) → map (λ f. f.path) files ≡ map (λ f. f.0) w → map (λ f. f.facts) files ≡ map (λ f. facts_of f.1) w → files ≡ all_facts w

@@ -121,7 +121,7 @@ impl Analysis {
         let _ = &self.files;
     }
 
-    /// Takes an analysis apart: it is that of the workspace of its paths and texts, and these are its parts.
+    /// Takes an analysis apart: it is that of the workspace of its paths and texts, and these are its parts. Takes no memory.
     pub fn into_parts(self) -> AnalysisParts
         ensures known { IsKnown self }
         ensures parts { AreParts (workspace_in self) result }
@@ -138,7 +138,7 @@ impl Analysis {
         }
     }
 
-    /// Puts together the parts of the analysis of a workspace.
+    /// The analysis of a workspace, put together from its parts. Takes no memory.
     pub fn of_parts(parts: AnalysisParts) -> Analysis
         requires { (w : Workspace) × AreParts w parts }
         ensures { (w : Workspace) → AreParts w parts → result ≡ analysis w }

@@ -12,7 +12,7 @@ use Rattle.doc_text.specs.Edits.{replaced}
 use Rattle.doc_text.specs.Laws.{ChangesKeepUtf8, PositionsComeBack}
 use Rattle.doc_text.specs.Positions.{offset_of}
 use Rattle.lsp_queries.specs.declared.place.Place.{Place}
-use Rattle.lsp_queries.specs.Edited.{respelled_from}
+use Rattle.lsp_renames.specs.Edited.{respelled_from}
 use Rattle.lsp_queries.proofs.Pairs.{pairs-head, pairs-tail}
 use Rattle.work_laws.specs.EditLaws.{EditsChangeThePlaces, IsCutOut, change_of, changed_from_the_last, range_of}
 use Rattle.work_laws.proofs.Alike.{IsSameUpTo, comes-back}

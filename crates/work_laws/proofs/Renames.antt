@@ -21,18 +21,18 @@ use Rattle.work_index.specs.Workspace.{Workspace, analysis}
 use Rattle.lsp_queries.specs.Answers.{sites_of}
 use Rattle.lsp_queries.specs.Files.{place_of}
 use Rattle.lsp_queries.specs.Offsets.{symbol_at}
-use Rattle.lsp_queries.specs.Renaming.{checked, is_identifier, is_taken, new_full_name, renamed_symbol}
-use Rattle.lsp_queries.specs.RenamingLaws.{IdentifierFormLaw}
-use Rattle.lsp_queries.specs.declared.fault.RenameFault.{RenameFault}
-use Rattle.lsp_queries.specs.declared.fault.RenameFault.TheVariants.{BadName, NameTaken}
+use Rattle.lsp_renames.specs.Renaming.{checked, is_identifier, is_taken, new_full_name, renamed_symbol}
+use Rattle.lsp_renames.specs.RenamingLaws.{IdentifierFormLaw}
+use Rattle.lsp_renames.specs.declared.fault.RenameFault.{RenameFault}
+use Rattle.lsp_renames.specs.declared.fault.RenameFault.TheVariants.{BadName, NameTaken}
 use Rattle.lsp_queries.specs.declared.offsets.Symbol.{Symbol}
 use Rattle.lsp_queries.specs.declared.offsets.Symbol.TheVariants.{Declared, Package}
 use Rattle.lsp_queries.specs.declared.place.Place.{Place}
-use Rattle.lsp_queries.specs.Edited.{places_in}
+use Rattle.lsp_renames.specs.Edited.{places_in}
 use Rattle.lsp_queries.specs.PlaceLaws.{IsApart, PlacesAreApart, places_of, text_in}
 use Rattle.lsp_queries.proofs.Pairs.{pairs-with}
 use Rattle.lsp_queries.proofs.Places.{places-identifiers, span_of}
-use Rattle.lsp_queries.proofs.RenamedLemmas.{checked-keeps}
+use Rattle.lsp_renames.proofs.RenamedLemmas.{checked-keeps}
 use Rattle.work_laws.specs.EditLaws.{EditsChangeThePlaces, IsCutOut, RenamesChangeTheNames}
 
 -- ---- identifiers have no line ends

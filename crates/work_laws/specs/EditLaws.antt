@@ -8,9 +8,9 @@ use Rattle.doc_text.specs.Edits.{ChangeData, change_view, edited, replaced}
 use Rattle.doc_text.specs.Laws.{IsInsideLineEnd}
 use Rattle.doc_text.specs.Positions.{position_of}
 use Rattle.work_index.specs.Workspace.{Workspace, analysis}
-use Rattle.lsp_queries.specs.Edited.{places_in, respelled}
+use Rattle.lsp_renames.specs.Edited.{places_in, respelled}
 use Rattle.lsp_queries.specs.PlaceLaws.{text_in}
-use Rattle.lsp_queries.specs.Renaming.{renamed}
+use Rattle.lsp_renames.specs.Renaming.{renamed}
 use Rattle.lsp_queries.specs.declared.place.Place.{Place}
 
 -- ---- the changes

@@ -2,7 +2,8 @@
 ghost use Rattle.work_laws.specs.EditLaws.{ChangesEdit, EditsChangeThePlaces, RenamesChangeTheNames};
 
 use doc_text::{changes_keep_utf8, round_trips};
-use lsp_queries::{identifier_form_law, places_apart};
+use lsp_queries::places_apart;
+use lsp_renames::identifier_form_law;
 use proto_laws::{identifiers_law, size_law};
 
 /// A law: changes of a UTF-8 text that give a name to each of some places, the last one made first, put it there and keep all the

@@ -6,11 +6,10 @@ use Rattle.std.proofs.lemmas.List.{length-map}
 use Rattle.std.proofs.lemmas.List.FromFn.{length-enumerate_from}
 use Rattle.std.proofs.lemmas.Option.{slice_get-get_or, slice_get-map}
 use Rattle.proto_decls.specs.declared.diagnostic.Diag.{Diag}
-use Rattle.proto_decls.specs.Facts.{facts_of}
 use Rattle.proto_resolve.specs.declared.resolve.Links.{Links}
 use Rattle.work_index.proofs.Numbered.{made, made_at, made_length, nothing}
 use Rattle.work_index.specs.Workspace.{AnalysisData, IsKnown, Workspace, analysis, diagnostics_of, resolution_of, workspace_in}
-use Rattle.work_index.proofs.Known.{is_known}
+use Rattle.work_index.proofs.Known.{is_known, links-long, paths-long}
 use Rattle.work_update.specs.Bindings.{Means, SameInFile, SameMeaning, bindings, bindings_in, codes, codes_in}
 
 -- lists that have the same at each number are one
@@ -24,15 +23,6 @@ all-same (x ∷ xs) (y ∷ ys) long same =
     cc (first, rest)
 
 module _ (a : AnalysisData) (known : IsKnown a) where
-  pub paths-long : length a.paths ≡ length (workspace_in a)
-  paths-long = ap (λ (x : AnalysisData). length x.paths) known.is ∙ length-map (workspace_in a) (λ file. file.0)
-
-  pub facts-long : length a.facts ≡ length a.paths
-  facts-long = ap (λ (x : AnalysisData). length x.facts) known.is ∙ length-map (workspace_in a) (λ file. facts_of file.1) ∙ sym paths-long
-
-  pub links-long : length a.links ≡ length a.paths
-  links-long = let w = workspace_in a in ap (λ (x : AnalysisData). length x.links) known.is ∙ length-map (enumerate_from 0 w) (resolution_of w) ∙ length-enumerate_from 0 w ∙ sym paths-long
-
   bindings-long : length (bindings a) ≡ length a.paths
   bindings-long = length-map a.links bindings_in ∙ links-long
 

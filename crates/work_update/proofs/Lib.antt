@@ -10,5 +10,6 @@ pub mod KeptFiles
 pub mod OtherTexts
 pub mod Alike
 pub mod FileByFile
+pub mod Meaning
 pub mod Quiet
 pub mod TextsByFile

@@ -10,7 +10,8 @@ use Rattle.work_links.specs.Touched.{links_after}
 use Rattle.work_index.specs.declared.analysis.AnalysisParts.{AnalysisParts}
 use Rattle.work_index.specs.Workspace.{AnalysisData, NoneImports, Workspace, all_facts, analysis, diagnostics_of, named_facts, resolution_of}
 
--- the numbers of so many files, once another comes to the place `at`: those before it keep theirs, and those from there on get one more
+-- the numbers of so many files, once another comes to the place `at`: those before it keep theirs, and those from there on get the next
+-- higher one
 abbrev pub numbers_with : ℕ → ℕ → List (Option ℕ)
 numbers_with at count = map (λ g. Some (if nat_lt g at then g else g + 1)) (range_with_len 0 count)
 
@@ -24,7 +25,8 @@ pub record Arrives (a : AnalysisData) (file : List ℕ × List ℕ) : Type 0 whe
   pub ordered : IsStrictlySortedBy (slice_cmp nat_cmp) (map (λ f. f.0) (insert old at file))
   pub nobody : NoneImports a.facts file.0
 
--- With the file at the place `at` of each part, and the links that there were under these new numbers, the parts are those of the workspace.
+-- With the file at the place `at` of each part, and the declarations in the other links under the numbers `to` of their files, the parts are those of
+-- the workspace. Its files are in the order of their paths.
 pub record TakesIn (w : Workspace) (to : List (Option ℕ)) (at : ℕ) (file : List ℕ × List ℕ) (parts : AnalysisParts) : Type 0 where
   pub here : at < length w
   pub table_place : at ≤ length parts.table

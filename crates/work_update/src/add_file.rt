@@ -42,7 +42,8 @@ fn move_all(
     Ok(())
 }
 
-// Gives them the numbers that so many files have once another comes to the place `at`. If that is the last one, no number changes.
+// Gives the declarations in the links the numbers that so many files have once another comes to the place `at`. If that is behind all others,
+// no number changes.
 fn make_way(
     alloc: Global,
     at: FileNo,

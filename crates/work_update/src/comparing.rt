@@ -1,7 +1,7 @@
 // Whether names stand for the same in two workspaces, and the numbers of what is wrong are the same.
 ghost use Rattle.std.specs.Prelude.{◌≡◌, ◌↔◌, ◌<◌, IsTrue, Some, length, map};
 ghost use Rattle.std.specs.List.{slice_get};
-ghost use Rattle.work_update.specs.Bindings.{Means, SameMeaning, bindings, bindings_in, bound, codes, codes_in};
+ghost use Rattle.work_update.specs.Bindings.{Means, SameMeaning, SameMeaningLaw, bindings, bindings_in, bound, codes, codes_in};
 
 use import_graph::FileNo;
 use proto_decls::Diag;
@@ -95,3 +95,8 @@ pub fn same_meaning(a: &Analysis, b: &Analysis) -> bool
     }
     true
 }
+
+/// A law. The test of two analyses says whether, file by file, the names stand for the same and what is wrong has the same numbers.
+pub fn same_meaning_law()
+    ensures { SameMeaningLaw }
+{}

@@ -16,6 +16,6 @@ mod update_files;
 mod update_table;
 mod update_texts;
 
-pub use comparing::same_meaning;
+pub use comparing::{same_meaning, same_meaning_law};
 pub use edited::{EditedText, NamedText, analyse_texts, edits_keep_meaning};
 pub use update::{analyse_board, update_analysis};

@@ -1,6 +1,6 @@
 use Rattle.std.proofs.Common.{sym, arith}
 use Rattle.std.proofs.lemmas.Option.{slice_get_past}
-use Rattle.work_update.proofs.FileByFile.{facts-long}
+use Rattle.work_index.proofs.Known.{facts-long}
 use Rattle.lsp_queries.proofs.files.facts_in.Goals as goal
 
 pub returns-else-file-file_count : goal.returns-else-file-file_count

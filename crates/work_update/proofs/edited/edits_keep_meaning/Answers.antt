@@ -3,7 +3,7 @@ use Rattle.std.specs.Prelude.{option_map, string_bytes}
 use Rattle.work_index.specs.Workspace.{workspace_in}
 use Rattle.work_update.specs.Edited.{edit_view, with_texts}
 use Rattle.work_update.specs.Quiet.{HasTexts}
-use Rattle.work_update.proofs.FileByFile.{paths-long}
+use Rattle.work_index.proofs.Known.{paths-long}
 use Rattle.work_update.proofs.Quiet.{has-texts}
 use Rattle.work_update.proofs.edited.edits_keep_meaning.Goals as goal
 

@@ -1,8 +1,8 @@
 use Rattle.std.proofs.Common.{◌≡◌, ◌+◌, ◌-◌, ◌++◌, take, drop, length, map, get_or, ap, ◌∙◌, arith, length-drop}
 use Rattle.std.proofs.lemmas.List.{take_all}
-use Rattle.lsp_queries.specs.ByFile.{by_file}
+use Rattle.lsp_renames.specs.ByFile.{by_file}
 use Rattle.lsp_queries.specs.declared.place.Place.{Place}
-use Rattle.lsp_queries.proofs.ByFile.{first_run, one_more}
+use Rattle.lsp_renames.proofs.ByFile.{first_run, one_more}
 use Rattle.lsp_rpc.specs.WorkspaceEdit.{document_ranges}
 use Rattle.lsp_answers.specs.Answers.{document_of}
 use Rattle.lsp_answers.proofs.answers.Answers.push_document.Goals as goal

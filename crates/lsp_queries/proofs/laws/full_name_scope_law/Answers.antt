@@ -1,5 +1,0 @@
-use Rattle.lsp_queries.proofs.RenamingLemmas.{full-name-scope-law}
-use Rattle.lsp_queries.proofs.laws.full_name_scope_law.Goals as goal
-
-pub returns : goal.returns
-returns c = full-name-scope-law

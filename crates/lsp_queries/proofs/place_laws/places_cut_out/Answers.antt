@@ -1,6 +1,0 @@
-use Rattle.lsp_queries.proofs.Names.{value-stands_apart}
-use Rattle.lsp_queries.proofs.CutPlaces.{places-cut_out}
-use Rattle.lsp_queries.proofs.place_laws.places_cut_out.Goals as goal
-
-pub returns : goal.returns
-returns c = places-cut_out c.size_law.ensures.empty c.identifiers_law.ensures c.uses_in_order.ensures (value-stands_apart c.names_apart.ensures)

@@ -1,0 +1,9 @@
+pub mod AfterEdits
+pub mod ByFile
+pub mod CutPlaces
+pub mod Cuts
+pub mod Groups
+pub mod RenamedLemmas
+pub mod RenamingLemmas
+pub mod TakenLemmas
+pub mod WithTexts

@@ -1,0 +1,6 @@
+pub mod Edited
+pub mod ByFile
+pub mod Cutting
+pub mod Fault
+pub mod Renaming
+pub mod RenamingLaws

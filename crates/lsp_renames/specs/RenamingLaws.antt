@@ -1,0 +1,46 @@
+-- Laws of the definitions of renaming.
+use Rattle.std.specs.Prelude.{◌≡◌, ◌≢◌, ◌↔◌, ◌⊎◌, ℕ, ◌<◌, List, true, Ok, Err, length, Contains}
+use Rattle.proto_lex.specs.declared.token.Kind.TheVariants.{Ident}
+use Rattle.proto_lex.specs.Forms.{IsForm}
+use Rattle.proto_decls.specs.Nesting.{IsWithin}
+use Rattle.proto_decls.specs.Text.{joined}
+use Rattle.proto_names.specs.declared.decl_ref.DeclRef.{DeclRef}
+use Rattle.proto_decls.specs.FullNames.{dot, scope_of}
+use Rattle.work_index.specs.Workspace.{AnalysisData, decl_in}
+use Rattle.lsp_queries.specs.Files.{package_in}
+use Rattle.lsp_renames.specs.Renaming.{ChangesMeaningAt, KeepsMeaning, is_identifier, is_taken, renamed}
+use Rattle.lsp_renames.specs.declared.fault.RenameFault.TheVariants.{MeaningChanges}
+use Rattle.lsp_queries.specs.declared.place.Place.{Place}
+
+-- an identifier is what has the form of a name from its first byte to its last
+abbrev pub IdentifierFormLaw : Type 0
+IdentifierFormLaw = (name : List ℕ) → (is_identifier name ≡ true) ↔ IsForm Ident name
+
+-- the scope of a full name is the one that its last component was joined to
+abbrev pub FullNameScopeLaw : Type 0
+FullNameScopeLaw = (scope name : List ℕ) → ¬ Contains name dot → scope_of (joined scope name) ≡ scope
+
+-- another declaration than r has the full name
+pub record HasAnother (a : AnalysisData) (r : DeclRef) (full_name : List ℕ) : Type 0 where
+  pub another : DeclRef
+  pub listed : Contains a.decls another
+  pub other : another ≢ r
+  pub named : (let found = decl_in a.facts another in found.full_name) ≡ full_name
+
+-- the package of a file is the full name, or lies in it
+pub record IsPackage (a : AnalysisData) (full_name : List ℕ) : Type 0 where
+  pub file : ℕ
+  pub there : file < length a.paths
+  pub within : IsWithin full_name (package_in a file)
+
+-- a full name is taken exactly if another declaration has it or it is a package
+abbrev pub TakenLaw : Type 0
+TakenLaw = (a : AnalysisData) (r : DeclRef) (full_name : List ℕ) → (is_taken a r full_name ≡ true) ↔ (HasAnother a r full_name ⊎ IsPackage a full_name)
+
+-- a rename keeps all meanings
+abbrev pub RenamesKeepMeaning : Type 0
+RenamesKeepMeaning = (a : AnalysisData) (file offset : ℕ) (new_name : List ℕ) (places : List Place) → renamed a file offset new_name ≡ Ok places → KeepsMeaning a places new_name
+
+-- and is refused because a meaning changes exactly if one does and nothing else speaks against the new name
+abbrev pub RefusedForMeaning : Type 0
+RefusedForMeaning = (a : AnalysisData) (file offset : ℕ) (new_name : List ℕ) → (renamed a file offset new_name ≡ Err MeaningChanges) ↔ ChangesMeaningAt a file offset new_name
