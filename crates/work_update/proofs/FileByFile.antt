@@ -24,12 +24,12 @@ all-same (x ∷ xs) (y ∷ ys) long same =
 
 module _ (a : AnalysisData) (known : IsKnown a) where
   bindings-long : length (bindings a) ≡ length a.paths
-  bindings-long = length-map a.links bindings_in ∙ links-long
+  bindings-long = length-map a.links bindings_in ∙ links-long a known
 
   codes-long : length (codes a) ≡ length a.paths
   codes-long =
       let w = workspace_in a in
-      length-map a.diagnostics codes_in ∙ ap (λ (x : AnalysisData). length x.diagnostics) known.is ∙ length-map (enumerate_from 0 w) (diagnostics_of w) ∙ length-enumerate_from 0 w ∙ sym paths-long
+      length-map a.diagnostics codes_in ∙ ap (λ (x : AnalysisData). length x.diagnostics) known.is ∙ length-map (enumerate_from 0 w) (diagnostics_of w) ∙ length-enumerate_from 0 w ∙ sym (paths-long a known)
 
 module _ (a b : AnalysisData) (first : IsKnown a) (second : IsKnown b) where
   -- where the meaning is the same in each of as many files it is the same
