@@ -32,7 +32,7 @@ pub sends-same : (old : BoardView) (before sent after : List SentJob) (jobs : Li
 sends-same old before sent after jobs same so_far = record { given = so_far.given; sent = same ∙ so_far.sent }
 
 -- what is so of each front of a list and of the whole
-pub up-to : (P : List TextAt → Type 0) (jobs : List TextAt) → ((k : ℕ) → k < length jobs → P (take k jobs)) → P jobs → (k : ℕ) → k < suc (length jobs) → P (take k jobs)
+up-to : (P : List TextAt → Type 0) (jobs : List TextAt) → ((k : ℕ) → k < length jobs → P (take k jobs)) → P jobs → (k : ℕ) → k < suc (length jobs) → P (take k jobs)
 up-to P [] front all zero lt = all
 up-to P [] front all (suc k) lt = absurd (omega (arith, lt))
 up-to P (job ∷ jobs) front all zero lt = front zero (omega arith)
@@ -42,7 +42,10 @@ up-to P (job ∷ jobs) front all (suc k) lt = up-to (λ some. P (job ∷ some)) 
 abbrev had-room : List SentJob → List TextAt → Type 0
 had-room before jobs = (k : ℕ) → k < length jobs → HasRoom (before ++ map noted (take k jobs))
 
+pub room-also : (before : List SentJob) (jobs : List TextAt) → had-room before jobs → HasRoom (before ++ map noted jobs) → (k : ℕ) → k < suc (length jobs) → HasRoom (before ++ map noted (take k jobs))
+room-also before jobs = up-to (λ some. HasRoom (before ++ map noted some)) jobs
+
 pub room-more : (before : List SentJob) (jobs : List TextAt) (job : TextAt) → had-room before jobs → HasRoom (before ++ map noted jobs) → had-room before (jobs ++ job ∷ [])
 room-more before jobs job front all k lt =
     let less : k < suc (length jobs) = omega (arith, lt, length-append jobs (job ∷ [])) in
-    subst (λ some. HasRoom (before ++ map noted some)) (sym (take-append-le k jobs (job ∷ []) (omega (arith, less)))) (up-to (λ some. HasRoom (before ++ map noted some)) jobs front all k less)
+    subst (λ some. HasRoom (before ++ map noted some)) (sym (take-append-le k jobs (job ∷ []) (omega (arith, less)))) (room-also before jobs front all k less)

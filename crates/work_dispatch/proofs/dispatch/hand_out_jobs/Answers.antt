@@ -1,8 +1,8 @@
-use Rattle.std.proofs.Common.{◌∷◌, ◌++◌, [], suc, arith, length, map, refl, sym, ap, subst, ◌∙◌, replicate, append-nil, inl, inr}
+use Rattle.std.proofs.Common.{◌∷◌, ◌++◌, [], suc, arith, length, refl, sym, subst, ◌∙◌, replicate, append-nil, inl, inr}
 use Rattle.std.proofs.lemmas.Bool.{false≢true}
 use Rattle.piece_collector.specs.Events.{NextJob}
-use Rattle.work_pool.specs.SentJobs.{HasRoom, noted}
-use Rattle.work_dispatch.proofs.SendingJobs.{records-more, room-more, sends-more, sends-same, up-to}
+use Rattle.work_pool.specs.SentJobs.{HasRoom}
+use Rattle.work_dispatch.proofs.SendingJobs.{records-more, room-also, room-more, sends-more, sends-same}
 use Rattle.work_dispatch.proofs.dispatch.hand_out_jobs.Goals as goal
 
 pub jobs-init : goal.jobs-init
@@ -30,7 +30,7 @@ returns-then-not-branch-clause-hands g c =
       records = λ opening events after. c.in_ok-hand_out_next.ensures.gives opening (replicate n NextJob ++ events) (before.jobs.1 opening events after);
       jobs = jobs;
       sends = sends-same _ _ _ _ jobs (c.in_ok-hand_out_next.ensures.rest c.if-not-branch.true) before.jobs.2;
-      room = up-to (λ some. HasRoom (_ ++ map noted some)) jobs before.jobs.3 room;
+      room = room-also _ jobs before.jobs.3 room;
       stops = inr (
         omega arith,
         λ opening events after. c.in_ok-hand_out_next.ensures.none c.if-not-branch.true opening (replicate n NextJob ++ events) (before.jobs.1 opening events after),
