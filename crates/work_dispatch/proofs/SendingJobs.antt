@@ -38,7 +38,7 @@ up-to P [] front all (suc k) lt = absurd (omega (arith, lt))
 up-to P (job ∷ jobs) front all zero lt = front zero (omega arith)
 up-to P (job ∷ jobs) front all (suc k) lt = up-to (λ some. P (job ∷ some)) jobs (λ i less. front (suc i) (omega (arith, less))) all k (omega (arith, lt))
 
--- each time there was room, and now there is room for one more
+-- each time there was room for one more
 abbrev had-room : List SentJob → List TextAt → Type 0
 had-room before jobs = (k : ℕ) → k < length jobs → HasRoom (before ++ map noted (take k jobs))
 
