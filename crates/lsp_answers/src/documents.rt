@@ -1,6 +1,5 @@
 // Places in files, document by document.
-ghost use Rattle.std.specs.Prelude.{◌≡◌, ◌≤◌, ◌<◌, ◌==◌, ◌++◌, All, false, length, map, take, drop, string_bytes, IfOk, IfSome};
-ghost use Rattle.std.specs.List.{slice_get};
+ghost use Rattle.std.specs.Prelude.{◌≡◌, ◌≤◌, ◌<◌, ◌++◌, length, map, drop, string_bytes, IfOk};
 ghost use Rattle.lsp_rpc.specs.Location.{all_locations};
 ghost use Rattle.lsp_rpc.specs.WorkspaceEdit.{document_ranges};
 ghost use Rattle.lsp_answers.specs.Answers as spec;
@@ -8,7 +7,7 @@ ghost use Rattle.lsp_answers.specs.Answers as spec;
 use crate::answers::Answers;
 use crate::ranges::ranges_of;
 use doc_text::{Encoding, Range};
-use lsp_queries::Place;
+use lsp_queries::{Place, count_in};
 use lsp_rpc::DocumentRanges;
 use std::alloc::{AllocError, Global};
 
@@ -35,20 +34,6 @@ fn place_ranges(
     let parts = parts_of(alloc, places)?;
     let ranges = ranges_of(alloc, encoding, text, parts.as_slice())?;
     Ok(ranges)
-}
-
-// How many of the first places are in a file.
-fn count_in(places: &[Place], file: usize) -> usize
-    ensures within { result ≤ length places.now }
-    ensures all { All (λ p. p.file ≡ file) (take result places.now) }
-    ensures end { IfSome (slice_get places.now result) (λ p. (p.file == file) ≡ false) }
-{
-    for (number, place) in places.iter().enumerate() {
-        if place.file != file {
-            return number;
-        }
-    }
-    places.len()
 }
 
 impl<'s> Answers<'s> {

@@ -21,7 +21,7 @@ pub use defining::definition;
 pub use files::{decl_of, facts_in, place_of};
 pub use laws::contains_law;
 pub use offsets::{Symbol, symbol_at};
-pub use place::Place;
+pub use place::{Place, count_in};
 pub use place_laws::{one_symbol, places_apart, places_are_all, places_in_order};
 pub use proto_decls::Diag;
 pub use referring::{references, sites_of};

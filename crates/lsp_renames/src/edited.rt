@@ -1,12 +1,10 @@
 // The texts that a rename makes.
-ghost use Rattle.std.specs.Prelude.{◌≡◌, ◌≤◌, ◌<◌, ◌++◌, ◌==◌, All, false, drop, take, length, map, string_bytes, IfOk, IfSome};
-ghost use Rattle.std.specs.List.{slice_get};
+ghost use Rattle.std.specs.Prelude.{◌≡◌, ◌≤◌, ◌<◌, ◌++◌, drop, length, map, string_bytes, IfOk};
 ghost use Rattle.work_update.specs.Edited.{edit_view};
 ghost use Rattle.lsp_renames.specs.Cutting.{AreCutOut, CanBeCut, edits_of};
 ghost use Rattle.lsp_renames.specs.Edited as spec;
 
-use import_graph::FileNo;
-use lsp_queries::Place;
+use lsp_queries::{Place, count_in};
 use std::alloc::{AllocError, Global};
 use work_index::Analysis;
 use work_update::EditedText;
@@ -26,20 +24,6 @@ fn respelled(alloc: Global, text: &str, places: &[Place], name: &str) -> Result<
     }
     edited.push_str(&text[offset..])?;
     Ok(edited)
-}
-
-// How many of the first places are in a file.
-fn count_in(places: &[Place], file: FileNo) -> usize
-    ensures within { result ≤ length places.now }
-    ensures all { All (λ p. p.file ≡ file) (take result places.now) }
-    ensures end { IfSome (slice_get places.now result) (λ p. (p.file == file) ≡ false) }
-{
-    for (number, place) in places.iter().enumerate() {
-        if place.file != file {
-            return number;
-        }
-    }
-    places.len()
 }
 
 // Adds the text of the file of the first places, with the name at those that are in it, and says how many they are.

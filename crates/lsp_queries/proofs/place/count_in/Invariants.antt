@@ -1,6 +1,6 @@
 use Rattle.std.proofs.Common.{◌≡◌, take}
 use Rattle.std.specs.Prelude.{All}
-use Rattle.lsp_answers.proofs.documents.count_in.Given as goal
+use Rattle.lsp_queries.proofs.place.count_in.Given as goal
 
 -- those so far are in the file
 abbrev pub invariant-loop-number : goal.invariant-loop-number
