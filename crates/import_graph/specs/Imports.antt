@@ -4,7 +4,7 @@ use Rattle.std.specs.List.{filter_map, list_all}
 use Rattle.proto_decls.specs.declared.fact.FileFacts.{FileFacts}
 use Rattle.proto_decls.specs.declared.fact.ImportFact.{ImportFact}
 use Rattle.proto_decls.specs.declared.fact.SyntaxFact.{SyntaxFact}
-use Rattle.proto_decls.specs.declared.fact.SyntaxFact.TheVariants.{Proto3, Opaque}
+use Rattle.proto_decls.specs.declared.fact.SyntaxFact.TheVariants.{Proto3, Other, Opaque}
 use Rattle.proto_decls.specs.declared.named_facts.NamedFacts.{NamedFacts}
 use Rattle.import_graph.specs.declared.imports.ImportEdge.{ImportEdge}
 use Rattle.import_graph.specs.declared.imports.FileImports.{FileImports}
@@ -12,6 +12,7 @@ use Rattle.import_graph.specs.Paths.{file_named}
 
 abbrev pub is_opaque : SyntaxFact → Bool
 is_opaque Proto3 = false
+is_opaque Other = false
 is_opaque Opaque = true
 
 -- an import, with the file that it names

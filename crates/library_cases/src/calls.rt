@@ -1,7 +1,7 @@
 // Which call a line asks for.
 use crate::line::Line;
 use crate::words::field;
-use crate::{boards, command_line, counts, documents, shares, tables, texts, uris};
+use crate::{boards, command_line, counts, documents, others, shares, tables, texts, uris};
 use std::alloc::{AllocError, Global};
 use std::sync::Wait;
 use std::thread::Threads;
@@ -24,6 +24,7 @@ pub fn answer_call<R: Threads + Wait>(
         "edits" => documents::write_edits(alloc, line, given),
         "parse" => counts::write_statements(alloc, line, given),
         "facts" => counts::write_diagnostics(alloc, line, given),
+        "others" => others::write_others(alloc, line, field(given, 1)),
         "analyse" => counts::write_analysis(alloc, line, given),
         "merge" => tables::write_merged(alloc, line, given),
         "closed" => tables::write_closed(alloc, line, given),

@@ -10,6 +10,7 @@ mod documents;
 mod line;
 mod marks;
 mod names;
+mod others;
 mod pieces;
 mod shares;
 mod tables;

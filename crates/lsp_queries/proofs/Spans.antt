@@ -24,7 +24,6 @@ use Rattle.proto_decls.specs.Facts.{facts_at, facts_of, opaque, stated, package_
 use Rattle.proto_decls.specs.Text.{joined as scoped}
 use Rattle.proto_laws.proofs.Nesting.{all_left, all_right}
 use Rattle.proto_decls.specs.declared.named_facts.NamedFacts.{NamedFacts}
-use Rattle.import_graph.specs.Imports.{is_opaque}
 use Rattle.proto_resolve.specs.declared.site.Component.{Component}
 use Rattle.proto_resolve.specs.declared.site.NameSite.{NameSite}
 use Rattle.proto_resolve.specs.declared.site.Needs.{Needs}
@@ -32,7 +31,7 @@ use Rattle.proto_resolve.specs.declared.site.Needs.TheVariants as needs
 use Rattle.proto_resolve.specs.declared.target.Target.{Target}
 use Rattle.proto_resolve.specs.declared.uses.NameUse.{NameUse}
 use Rattle.proto_resolve.specs.Names.{found, joined_all, scope_of, texts_of}
-use Rattle.proto_resolve.specs.Sites.{Named, component, in_turn, inner, is_scalar, names_in, names_of, names_of_file, names_step, package_scopes, site, type_names}
+use Rattle.proto_resolve.specs.Sites.{Named, component, in_turn, inner, is_proto3, is_scalar, names_in, names_of, names_of_file, names_step, package_scopes, site, type_names}
 use Rattle.proto_resolve.specs.Uses.{uses, uses_at, uses_in, uses_of}
 use Rattle.proto_laws.proofs.IdentifierLaws.{facts-have}
 use Rattle.lsp_queries.proofs.Pairs.{from_map, pairs-from_map, pairs-nil}
@@ -209,13 +208,13 @@ module _ (text : List ℕ) (P : Span → Type 0) where
       All-append OfName (names_of text n scopes) (names_in text more scopes)
       (node-carries n (all_left OfType (type_names_of n) (type_names_in more) all) scopes) (nodes-carry more (all_right OfType (type_names_of n) (type_names_in more) all) scopes)
 
-  -- the names of a file, of which an opaque one has none
+  -- the names of a file, of which one that isn't proto3 has none
   of_names : (facts : FileFacts) (nodes : List Node) → All P (type_components_in nodes) → All OfName (names_of_file text facts nodes)
-  of_names facts nodes all = by (is_opaque facts.syntax)
+  of_names facts nodes all = by (is_proto3 facts.syntax)
     where
-      by : (b : Bool) → All OfName (cond {A = List NameSite} b [] (names_in text nodes (package_scopes text facts.«package»)))
-      by true = All-nil OfName
-      by false = nodes-carry nodes (each_part P (λ t. t.components) (type_names_in nodes) all) (package_scopes text facts.«package»)
+      by : (b : Bool) → All OfName (cond {A = List NameSite} b (names_in text nodes (package_scopes text facts.«package»)) [])
+      by true = nodes-carry nodes (each_part P (λ t. t.components) (type_names_in nodes) all) (package_scopes text facts.«package»)
+      by false = All-nil OfName
 
   abbrev OfUse : NameUse → Type 0
   OfUse u = P u.span

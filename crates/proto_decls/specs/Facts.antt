@@ -1,5 +1,5 @@
 -- What a text says by itself.
-use Rattle.std.specs.Prelude.{◌≡◌, ℕ, Bool, not, List, [], ◌∷◌, ◌++◌, Option, Some, None, map, drop, nat_lt, codes, if◌then◌else◌}
+use Rattle.std.specs.Prelude.{◌≡◌, ℕ, Bool, not, ◌&&◌, is_some, List, [], ◌∷◌, ◌++◌, Option, Some, None, map, drop, nat_lt, codes, if◌then◌else◌}
 use Rattle.std.specs.List.{flat_map, filter_map, list_any}
 use Rattle.std.specs.Str.{bytes_eq}
 use Rattle.std.specs.declared.alloc.Global.{Global}
@@ -10,6 +10,7 @@ use Rattle.proto_tree.specs.declared.node.SyntaxProblem.TheVariants as problem
 use Rattle.proto_tree.specs.declared.node.FileTree.{FileTree}
 use Rattle.proto_tree.specs.declared.node.Node.{Node, out-Node}
 use Rattle.proto_tree.specs.declared.node.Node.TheOpen.{Node-F}
+use Rattle.proto_tree.specs.Others.{other_tree}
 use Rattle.proto_tree.specs.Read.{is_too_long, value_tree}
 use Rattle.proto_decls.specs.declared.fact.Decl.{Decl}
 use Rattle.proto_decls.specs.declared.fact.DeclKind.TheVariants as kind
@@ -20,7 +21,7 @@ use Rattle.proto_decls.specs.declared.problem.Problem.TheVariants as m
 use Rattle.proto_decls.specs.declared.fact.PackageFact.{PackageFact}
 use Rattle.proto_decls.specs.declared.stated.StatedPackage.{StatedPackage}
 use Rattle.proto_decls.specs.declared.stated.StatedSyntax.{StatedSyntax}
-use Rattle.proto_decls.specs.declared.fact.SyntaxFact.TheVariants.{Proto3, Opaque}
+use Rattle.proto_decls.specs.declared.fact.SyntaxFact.TheVariants.{Proto3, Other, Opaque}
 use Rattle.proto_decls.specs.Text.{literal_text, dotted}
 use Rattle.proto_decls.specs.Tree.{all_statements}
 use Rattle.proto_decls.specs.Starts.{start_of}
@@ -154,6 +155,24 @@ facts_in text tree = facts_at (opaque text (stated text tree.nodes)) (stated tex
 -- the facts of a text: those of its tree
 abbrev pub facts_of : List ℕ → FileFacts
 facts_of text = facts_in text (value_tree text)
+
+-- ---- the facts of a text that isn't proto3, where its declarations are read
+
+-- the facts of a text with this tree and these diagnostics
+abbrev pub other_facts_in : List ℕ → FileTree → List Diag → FileFacts
+other_facts_in text tree diags = record (analysed_facts [] text tree) { syntax = Other; diags = diags }
+
+-- its package, imports and declarations are those of its own tree, and its one diagnostic stays
+abbrev pub other_facts : List ℕ → FileFacts
+other_facts text = let own = facts_of text in other_facts_in text (other_tree text) own.diags
+
+-- a text is of another language: it isn't too long, and its first `syntax` doesn't say proto3
+abbrev pub is_other : List ℕ → Bool
+is_other text = let tree = value_tree text in not (is_too_long text) && is_some (not_proto3 (stated text tree.nodes))
+
+-- the facts of a text, where the declarations of such texts are read, or aren't
+abbrev pub facts_by : Bool → List ℕ → FileFacts
+facts_by reads_others text = if reads_others && is_other text then other_facts text else facts_of text
 
 -- ---- the same as a relation
 

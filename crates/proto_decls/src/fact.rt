@@ -14,7 +14,9 @@ use std::alloc::{AllocError, Global};
 pub enum SyntaxFact {
     /// Protocol Buffers version 3: the file's first `syntax` says so.
     Proto3,
-    /// Another language, no `syntax` at all, or a text that is too long: nothing but this is known of the file.
+    /// Another language, or no `syntax` at all, where the declarations of such files are read. The file's own names aren't resolved.
+    Other,
+    /// The same where they aren't read, or a text that is too long: nothing but this is known of the file.
     Opaque,
 }
 

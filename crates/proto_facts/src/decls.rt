@@ -39,7 +39,7 @@ fn declared(kind: DeclKind, name: Span, place: Enclosing<'_>) -> Result<Decl, Al
 
 // Adds the declarations of statements, and of all inside them.
 #[cycle(decls)]
-fn add_decls(
+pub fn add_decls(
     nodes: &[Node],
     place: Enclosing<'_>,
     found: &mut Items<Decl>,

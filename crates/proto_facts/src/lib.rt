@@ -23,4 +23,4 @@ pub use proto_decls::{
     Decl, DeclKind, Diag, FileFacts, FullName, ImportFact, Name, PackageFact, Problem, SyntaxFact,
     in_order, joined, text_at,
 };
-pub use report::facts;
+pub use report::{facts, other_facts};

@@ -2,8 +2,10 @@
 
 ghost use Rattle.std.specs.Prelude.{◌≡◌, ◌++◌, [], ◌∷◌, OnOk, IfOk, None, Some, List};
 ghost use Rattle.proto_decls.specs.Facts as spec;
+ghost use Rattle.proto_tree.specs.Others.{other_tree};
 ghost use Rattle.proto_tree.specs.Read.{value_tree};
 
+use crate::decls::{Enclosing, add_decls};
 use crate::file::{
     add_faults, add_imports, add_package_diags, add_packages, add_stated, add_syntax_late,
     first_package, opaque,
@@ -12,8 +14,8 @@ use crate::text::Source;
 use crate::twice::{add_declared_twice, add_imported_twice};
 use crate::walk::add_statements;
 use proto_decls::{
-    Decl, Decls, Diag, FileFacts, ImportFact, ScopeName, StatedPackage, StatedSyntax, SyntaxFact,
-    put_in_order,
+    Decl, DeclKind, Decls, Diag, FileFacts, ImportFact, ScopeName, StatedPackage, StatedSyntax,
+    SyntaxFact, put_in_order,
 };
 use proto_tree::FileTree;
 use sqlite_items::Items;
@@ -153,4 +155,59 @@ pub fn facts(alloc: Global, text: &str, tree: &FileTree) -> Result<FileFacts, Al
         Some(diag) => opaque_facts(alloc, diag),
         None => analysed_facts(alloc, text, tree, stated.as_slice()),
     }
+}
+
+// The declarations of a file in a package.
+fn declarations(
+    source: Source<'_>,
+    tree: &FileTree,
+    package: &str,
+) -> Result<Items<Decl>, AllocError>
+    ensures { IfOk result (λ d. d ≡ spec.decls_with source.entry.text.now «package».now tree.now.nodes) }
+{
+    let scope = ScopeName::of(source.alloc, package)?;
+    let mut decls = Items::new(source.alloc);
+    let top = Enclosing {
+        source,
+        members: DeclKind::Field,
+        scope: &scope,
+        parent: None,
+    };
+    add_decls(tree.nodes.as_slice(), top, &mut decls)?;
+    Ok(decls)
+}
+
+/// What a text that isn't proto3 says by itself where its declarations are read. Its package, imports and declarations are those of this tree; what is
+/// wrong in it is what `own` says.
+///
+/// Any text and any tree has such facts. An `Err` comes only where memory was refused.
+pub fn other_facts(
+    alloc: Global,
+    text: &str,
+    tree: &FileTree,
+    own: &FileFacts,
+) -> Result<FileFacts, AllocError>
+    ensures any { IfOk result (λ f. f ≡ spec.other_facts_in text.now tree.now (let facts = own.now in facts.diags)) }
+    ensures of_text { tree.now ≡ other_tree text.now → own.now ≡ spec.facts_of text.now → IfOk result (λ f. f ≡ spec.other_facts text.now) }
+{
+    let nodes = tree.nodes.as_slice();
+    let mut packages = Items::new(alloc);
+    add_packages(alloc, text, nodes, &mut packages)?;
+    let mut imports = Items::new(alloc);
+    add_imports(alloc, text, nodes, &mut imports)?;
+    let decls = declarations(
+        Source { alloc, text },
+        tree,
+        package_name(packages.as_slice()),
+    )?;
+    let diags = Items::from_slice(alloc, own.diags.as_slice())?;
+    let package = first_package(packages);
+    Ok(FileFacts {
+        syntax: SyntaxFact::Other,
+        package,
+        imports,
+        decls: Decls::of(alloc, decls)?,
+        diags,
+        alloc,
+    })
 }

@@ -18,7 +18,7 @@ use Rattle.proto_tree.specs.declared.lexeme.Body.TheVariants as b
 use Rattle.proto_tree.specs.declared.node.Span.{Span}
 use Rattle.proto_tree.specs.Grammar.{IsIdent}
 use Rattle.proto_tree.specs.Lexeme.{is_bad, lexeme_of, lexemes}
-use Rattle.proto_tree.specs.Read.{max_blocks, read, tree_of}
+use Rattle.proto_tree.specs.Read.{body_tree, max_blocks, read, tree_of}
 use Rattle.proto_laws.specs.Apart.{NamesAreApart}
 use Rattle.proto_laws.proofs.Identifiers.{identifiers-spelled, identifiers-same, identifiers_in}
 use Rattle.proto_laws.proofs.Spelled.{Spell}
@@ -57,7 +57,7 @@ one_longer (x ∷ xs) c h e = (h.0, All-push (λ y. is_name_byte y ≡ true) xs 
 -- ---- tokens
 
 -- the span is that of an identifier, as a token of the text
-abbrev IsIdentAt : List ℕ → Span → Type 0
+abbrev pub IsIdentAt : List ℕ → Span → Type 0
 IsIdentAt text s = IsTokenAt text (record { kind = k.Ident; start = s.start; «end» = s.«end» })
 
 order : (i j : ℕ) → i ≤ j → (i < j) ⊎ (i ≡ j)
@@ -88,11 +88,11 @@ apart_at text s u h g le = by (order s.«end» u.start le)
     by (inr same) = absurd (no_touch text s u h g same)
 
 -- lexemes one behind the other
-abbrev InLine : ℕ → List Lexeme → Type 0
+abbrev pub InLine : ℕ → List Lexeme → Type 0
 InLine at [] = Unit {0}
 InLine at (t ∷ ts) = (at ≤ t.span.start) × (t.span.start < t.span.«end») × InLine t.span.«end» ts
 
-line-sooner : (at later : ℕ) (ts : List Lexeme) → at ≤ later → InLine later ts → InLine at ts
+pub line-sooner : (at later : ℕ) (ts : List Lexeme) → at ≤ later → InLine later ts → InLine at ts
 line-sooner at later [] le h = tt
 line-sooner at later (t ∷ ts) le h = (omega (arith, le, h.0), h.1, h.2)
 
@@ -106,7 +106,7 @@ all-after at (t ∷ ts) h zero d lt = h.0
 all-after at (t ∷ ts) h (suc i) d lt = all-after at ts (line-sooner at t.span.«end» ts (omega (arith, h.0, h.1)) h.2) i d (omega (arith, lt))
 
 module _ (text : List ℕ) where
-  lexemes-in_line : (limit at : ℕ) (ts : List Token) → IsOrderedFrom limit at ts → InLine at (lexemes text ts)
+  pub lexemes-in_line : (limit at : ℕ) (ts : List Token) → IsOrderedFrom limit at ts → InLine at (lexemes text ts)
   lexemes-in_line limit at [] h = tt
   lexemes-in_line limit at (t ∷ ts) h = by (is_bad t.kind) (lexemes-in_line limit t.«end» ts h.2)
     where
@@ -125,7 +125,7 @@ module _ (text : List ℕ) where
     };
   }
 
-  lexemes-known : (ts : List Token) → All (IsTokenAt text) ts → All (IfIdentifier (IsIdentAt text)) (lexemes text ts)
+  pub lexemes-known : (ts : List Token) → All (IsTokenAt text) ts → All (IfIdentifier (IsIdentAt text)) (lexemes text ts)
   lexemes-known ts are =
       let good : Token → Bool = λ t. not (is_bad t.kind) in
       All-map (IfIdentifier (IsIdentAt text)) (lexeme_of text) (filter good ts)
@@ -148,19 +148,20 @@ module _ (text : List ℕ) where
       (λ i d lt is. apart_at text s (get_or h.2 i d).span own (behind i d lt is) (subst (λ x. x.«end» ≤ (get_or h.2 i d).span.start) h.4.3 (all-after t.span.«end» h.2 up.2 i d lt))) h.5 in
       AllPairs-cons (λ a b. a.«end» < b.start) s more later (spelled-apart t.span.«end» h.2 more behind up.2 h.5)
 
-pub tree-apart : (text : List ℕ) (ts : List Token) (at : ℕ) → AreTokensFrom text at ts → IsOrderedFrom (length text) at ts → NamesAreApart (tree_of text ts).nodes
-unfolding tree_of
-tree-apart text ts at are line =
-    let its = lexemes text ts in
-    let known = lexemes-known text ts (tokens_from-known text at ts are) in
+pub lexemes-apart : (text : List ℕ) (at : ℕ) (its : List Lexeme) → All (IfIdentifier (IsIdentAt text)) its → InLine at its → NamesAreApart (body_tree max_blocks b.File its).nodes
+lexemes-apart text at its known line =
     let spelled = identifiers-spelled max_blocks b.File its in
-    let nodes = (tree_of text ts).nodes in
+    let nodes = (body_tree max_blocks b.File its).nodes in
     record {
       all = identifiers_in nodes;
       same = identifiers-same nodes;
       some = All-weaker (IsIdentAt text) (λ s. s.start < s.«end») (λ s h. h.ordered) (identifiers_in nodes) (spelled-all (IsIdentAt text) its (identifiers_in nodes) known spelled);
-      apart = spelled-apart text at its (identifiers_in nodes) known (lexemes-in_line text (length text) at ts line) spelled;
+      apart = spelled-apart text at its (identifiers_in nodes) known line spelled;
     }
+
+tree-apart : (text : List ℕ) (ts : List Token) (at : ℕ) → AreTokensFrom text at ts → IsOrderedFrom (length text) at ts → NamesAreApart (tree_of text ts).nodes
+unfolding tree_of
+tree-apart text ts at are line = lexemes-apart text at (lexemes text ts) (lexemes-known text ts (tokens_from-known text at ts are)) (lexemes-in_line text (length text) at ts line)
 
 pub names_are_apart : ((text : List ℕ) → AreTokens text (tokens text)) → ((text : List ℕ) → IsOrderedFrom (length text) (byte_order_mark_len text) (tokens text)) → (text : List ℕ) → NamesAreApart (read text).nodes
 unfolding read

@@ -88,6 +88,10 @@ close-header (header.Enum name) ts h = close-named w.Enum name refl ts h
 close-header (header.Service name) ts h = close-named w.Service name refl ts h
 close-header (header.Oneof name) ts h = close-named w.Oneof name refl ts h
 close-header (header.Extend target) ts h = close-turn (IsTerminal w.Extend) (IsType target) ts (close-terminal w.Extend refl) (close-type target) h
+close-header (header.Group name) ts h =
+    close-turn (IsTerminal w.Group) (IsIdent name ⊳ (IsTerminal w.Equals ⊳ IsTerminal w.Int)) ts (close-terminal w.Group refl)
+    (λ t1 h1. close-turn (IsIdent name) (IsTerminal w.Equals ⊳ IsTerminal w.Int) t1 (close-ident name)
+    (λ t2 h2. close-turn (IsTerminal w.Equals) (IsTerminal w.Int) t2 (close-terminal w.Equals refl) (close-terminal w.Int refl) h2) h1) h
 close-header (header.Rpc name request response) ts h =
     close-turn (IsTerminal w.Rpc) (IsIdent name ⊳ (IsInParentheses request ⊳ (IsTerminal w.Returns ⊳ IsInParentheses response))) ts (close-terminal w.Rpc refl)
     (λ t1 h1. close-turn (IsIdent name) (IsInParentheses request ⊳ (IsTerminal w.Returns ⊳ IsInParentheses response)) t1 (close-ident name)
@@ -180,6 +184,7 @@ block_word (header.Enum name) = refl
 block_word (header.Service name) = refl
 block_word (header.Oneof name) = refl
 block_word (header.Extend target) = refl
+block_word (header.Group name) = refl
 block_word (header.Rpc name request response) = refl
 
 header_begins : (body : Body) (head : Header) (front : List Lexeme) → IsTrue (has_block_words body) → (IsHeader head ⊳ IsTerminal w.OpenBrace) front → begins_block body front ≡ true

@@ -25,7 +25,7 @@ use Rattle.proto_tree.specs.declared.node.TypeName.{TypeName}
 use Rattle.proto_tree.specs.Lexeme.{is, same_terminal, is_identifier}
 use Rattle.proto_tree.specs.Cut.{ends_in, begins}
 use Rattle.proto_tree.specs.Parts.{Reader, ◌>>=◌, ◌>>◌, pure, nothing, if_all, and_then, one, eat, run, terminal, identifier, separated_by, separated, full, type_name, texts, literal_of, literal, number, but_last, is_content, is_options_end, rest_if, between, last_of, last_span, span_of}
-use Rattle.proto_tree.specs.Forms.{option_parts, block_name, extend_header, in_parentheses, rpc_header, header_form, header_and_brace, header_and_rest, numbered, is_label, label, labels_given, labels, plain_field, map_field, field, field_or_map, begins_map, syntax_form, import_form, package_form, value_form, empty_form, rpc_form, rpc_of, option_part, option_value, option_form, named_from, range_end, range, ranges, literals, reserved_list, reserved_form, form, statement}
+use Rattle.proto_tree.specs.Forms.{option_parts, block_name, extend_header, group_header, in_parentheses, rpc_header, header_form, header_and_brace, header_and_rest, numbered, is_label, label, labels_given, labels, plain_field, map_field, field, field_or_map, begins_map, syntax_form, import_form, package_form, value_form, empty_form, rpc_form, rpc_of, option_part, option_value, option_form, named_from, range_end, range, ranges, literals, reserved_list, reserved_form, form, statement}
 use Rattle.proto_tree.specs.Grammar.{◌⊳◌, IsTerminal, IsWordAt, IsIdent, IsFlag, IsSeparated, IsFull, IsType, IsLiteral, IsNumber, IsLabels, begins_with_label, AreAllLabels, IsAt, IsContent, IsFieldEnd, IsOptionPart, IsOptionName, IsRangeEnd, IsRange, IsReservedList, IsInParentheses, IsHeader, IsModifier, Spells, is_syntax, is_import, is_package, is_option, is_field, is_map_field, is_value, is_reserved_in_message, is_reserved_in_enum, is_rpc, is_empty, may_be_field, has_options, is_listed_in_enum}
 use Rattle.proto_laws.proofs.BracketsLaw.{balanced_is}
 use Rattle.proto_tree.proofs.PartLemmas.{pair_is}
@@ -253,6 +253,11 @@ gives-extend_header : Gives extend_header IsHeader
 unfolding extend_header
 gives-extend_header = after _ _ _ (gives-terminal w.Extend) (λ s1 f1 p1. last _ _ _ gives-type_name (λ name f2 p2. turn _ _ p1 p2))
 
+gives-group_header : Gives group_header IsHeader
+unfolding group_header
+gives-group_header =
+    after _ _ _ (gives-terminal w.Group) (λ s1 f1 p1. after _ _ _ gives-identifier (λ name f2 p2. after _ _ _ (gives-terminal w.Equals) (λ s3 f3 p3. last _ _ _ (gives-terminal w.Int) (λ s4 f4 p4. turn _ _ p1 (turn _ _ p2 (turn _ _ p3 p4))))))
+
 pub gives-rpc_header : Gives rpc_header IsHeader
 unfolding rpc_header
 gives-rpc_header =
@@ -264,6 +269,7 @@ gives-header_form w.Enum = last _ _ _ (gives-block_name w.Enum) (λ name f p. p)
 gives-header_form w.Service = last _ _ _ (gives-block_name w.Service) (λ name f p. p)
 gives-header_form w.Oneof = last _ _ _ (gives-block_name w.Oneof) (λ name f p. p)
 gives-header_form w.Extend = gives-extend_header
+gives-header_form w.Group = gives-group_header
 gives-header_form w.Rpc = gives-rpc_header
 gives-header_form _ = λ ts a rest e. never e
 

@@ -124,6 +124,8 @@ block-spells span (header.Oneof name) nodes front back h q =
     at_level (front ++ back) _ _ (node.rolls-Oneof span name nodes) refl (spell-joined IsIdent front back (name ∷ []) (joined (map identifiers_of nodes)) (behind (name ∷ []) (spell-one IsIdent name) front h) (fewer nodes back q))
 block-spells span (header.Extend target) nodes front back h q =
     at_level (front ++ back) _ _ (node.rolls-Extend span target nodes) refl (spell-joined IsIdent front back target.components (joined (map identifiers_of nodes)) (behind target.components (type-spelled target) front h) (fewer nodes back q))
+block-spells span (header.Group name) nodes front back h q =
+    at_level (front ++ back) _ _ (node.rolls-Message span name nodes) refl (spell-joined IsIdent front back (name ∷ []) (joined (map identifiers_of nodes)) (behind (name ∷ []) (named name) front h) (fewer nodes back q))
 block-spells span (header.Rpc name request response) nodes front back h q =
     at_level (front ++ back) _ _ (node.rolls-Rpc span name request response nodes) refl (spell-sooner IsIdent front back (name ∷ (request.components ++ response.components)) (rpc-spells name request response front h))
 

@@ -34,3 +34,4 @@ pub mod BodiesSaid
 pub mod FileSaid
 pub mod NameScopes
 pub mod NamesOrder
+pub mod OtherNames

@@ -63,6 +63,8 @@ block-names span (header.Oneof name) nodes front back h q =
     at_level (front ++ back) _ _ (node.rolls-Oneof span name nodes) (spell-joined IsIdent front back (name ∷ []) (names_in nodes) (behind name (spell-one IsIdent name) front h) q)
 block-names span (header.Extend target) nodes front back h q =
     at_level (front ++ back) _ _ (node.rolls-Extend span target nodes) (spell-later IsIdent front back (names_in nodes) q)
+block-names span (header.Group name) nodes front back h q =
+    at_level (front ++ back) _ _ (node.rolls-Message span name nodes) (spell-joined IsIdent front back (name ∷ []) (names_in nodes) (behind name (named name) front h) q)
 block-names span (header.Rpc name request response) nodes front back h q =
     at_level (front ++ back) _ _ (node.rolls-Rpc span name request response nodes) (spell-sooner IsIdent front back (name ∷ []) (behind name (named name) front h))
 
@@ -116,6 +118,7 @@ block-types span (header.Service name) nodes front back h q = type_level (front 
 block-types span (header.Oneof name) nodes front back h q = type_level (front ++ back) _ _ (node.rolls-Oneof span name nodes) (spell-later IsType front back (type_names_in nodes) q)
 block-types span (header.Extend target) nodes front back h q =
     type_level (front ++ back) _ _ (node.rolls-Extend span target nodes) (spell-joined IsType front back (target ∷ []) (type_names_in nodes) (type_behind target (spell-one IsType target) front h) q)
+block-types span (header.Group name) nodes front back h q = type_level (front ++ back) _ _ (node.rolls-Message span name nodes) (spell-later IsType front back (type_names_in nodes) q)
 block-types span (header.Rpc name request response) nodes front back h q =
     type_level (front ++ back) _ _ (node.rolls-Rpc span name request response nodes) (spell-sooner IsType front back (request ∷ response ∷ []) (rpc-types name request response front h))
 
@@ -129,7 +132,7 @@ components-spelled limit body ts = spell-parts IsType IsIdent (λ t. t.component
 -- ---- texts
 
 -- tokens in order, the bad ones left out
-lexemes-rise : (text : List ℕ) (limit at : ℕ) (ts : List Token) → IsOrderedFrom limit at ts → Rise start_of at (lexemes text ts)
+pub lexemes-rise : (text : List ℕ) (limit at : ℕ) (ts : List Token) → IsOrderedFrom limit at ts → Rise start_of at (lexemes text ts)
 lexemes-rise text limit at [] h = tt
 lexemes-rise text limit at (t ∷ ts) h = by (is_bad t.kind) (lexemes-rise text limit t.«end» ts h.2)
   where

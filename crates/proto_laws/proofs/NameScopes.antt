@@ -11,16 +11,15 @@ use Rattle.proto_tree.specs.declared.node.Node.TheFolds.{fold-roll-Node, fold_ou
 use Rattle.proto_decls.specs.declared.fact.FileFacts.{FileFacts}
 use Rattle.proto_decls.specs.declared.fact.PackageFact.{PackageFact}
 use Rattle.proto_decls.specs.declared.fact.SyntaxFact.{SyntaxFact}
-use Rattle.proto_decls.specs.declared.fact.SyntaxFact.TheVariants.{Opaque, Proto3}
+use Rattle.proto_decls.specs.declared.fact.SyntaxFact.TheVariants.{Opaque, Other, Proto3}
 use Rattle.proto_decls.specs.Text.{joined, text_at}
 use Rattle.proto_laws.proofs.Holders.{cases_in, either, first_in, later_in, none_in}
 use Rattle.proto_laws.proofs.Lists.{just, one_only}
-use Rattle.import_graph.specs.Imports.{is_opaque}
 use Rattle.proto_resolve.specs.declared.site.NameSite.{NameSite}
 use Rattle.proto_resolve.specs.declared.site.Needs.{Needs}
 use Rattle.proto_resolve.specs.declared.site.Needs.TheVariants as needs
 use Rattle.proto_resolve.specs.Names.{joined_all}
-use Rattle.proto_resolve.specs.Sites.{Named, is_scalar, names_in, names_of, names_step, package_scopes, scopes_after, site, type_names}
+use Rattle.proto_resolve.specs.Sites.{Named, is_proto3, is_scalar, names_in, names_of, names_step, package_scopes, scopes_after, site, type_names}
 use Rattle.proto_laws.specs.NameScopes.{IsName, NamesStandInScopes, NamesType, NoPackageIsEmpty, PackagesArePrefixes, StandsInScopes, here, in_extend, in_message, in_oneof, in_service, of_extend, of_field, of_map, of_request, of_response}
 
 -- ---- the names of a tree are said
@@ -182,14 +181,16 @@ module _ (text : List ℕ) (facts : FileFacts) (nodes : List Node) (found : Name
   abbrev scopes : List (List ℕ)
   scopes = package_scopes text facts.«package»
 
-  file-said : (x : SyntaxFact) → facts.syntax ≡ x → Contains (cond {A = List NameSite} (is_opaque x) [] (names_in text nodes scopes)) found → (facts.syntax ≡ Proto3) × IsName text scopes nodes found
+  file-said : (x : SyntaxFact) → facts.syntax ≡ x → Contains (cond {A = List NameSite} (is_proto3 x) (names_in text nodes scopes) []) found → (facts.syntax ≡ Proto3) × IsName text scopes nodes found
   file-said Opaque is c = absurd (none_in found c)
+  file-said Other is c = absurd (none_in found c)
   file-said Proto3 is c =
       let s = some_package_scope text facts.«package» in
       (is, subst (λ l. IsName text l nodes found) (sym s.2) (nodes-said text found s.0 s.1 nodes (subst (λ l. Contains (names_in text nodes l) found) s.2 c)))
 
-  file-has : (x : SyntaxFact) → facts.syntax ≡ x → facts.syntax ≡ Proto3 → IsName text scopes nodes found → Contains (cond {A = List NameSite} (is_opaque x) [] (names_in text nodes scopes)) found
+  file-has : (x : SyntaxFact) → facts.syntax ≡ x → facts.syntax ≡ Proto3 → IsName text scopes nodes found → Contains (cond {A = List NameSite} (is_proto3 x) (names_in text nodes scopes) []) found
   file-has Opaque is proto3 h = absurd (cc (is, proto3))
+  file-has Other is proto3 h = absurd (cc (is, proto3))
   file-has Proto3 is proto3 h = name-in text found scopes nodes h
 
 pub names-stand : NamesStandInScopes

@@ -17,7 +17,6 @@ use Rattle.proto_laws.proofs.Rise.{Rise, rise-behind, rise-from_increasing, incr
 use Rattle.proto_decls.specs.Text.{joined as scoped}
 use Rattle.proto_decls.specs.declared.fact.FileFacts.{FileFacts}
 use Rattle.proto_decls.specs.declared.named_facts.NamedFacts.{NamedFacts}
-use Rattle.import_graph.specs.Imports.{is_opaque}
 use Rattle.proto_resolve.specs.declared.site.Component.{Component}
 use Rattle.proto_resolve.specs.declared.site.NameSite.{NameSite}
 use Rattle.proto_resolve.specs.declared.site.Needs.{Needs}
@@ -25,7 +24,7 @@ use Rattle.proto_resolve.specs.declared.site.Needs.TheVariants as needs
 use Rattle.proto_resolve.specs.declared.target.Target.{Target}
 use Rattle.proto_resolve.specs.declared.uses.NameUse.{NameUse}
 use Rattle.proto_resolve.specs.Names.{found, joined_all, scope_of, texts_of}
-use Rattle.proto_resolve.specs.Sites.{Named, component, in_turn, inner, is_scalar, names_in, names_of, names_of_file, names_step, package_scopes, site, type_names}
+use Rattle.proto_resolve.specs.Sites.{Named, component, in_turn, inner, is_proto3, is_scalar, names_in, names_of, names_of_file, names_step, package_scopes, site, type_names}
 use Rattle.proto_resolve.specs.Uses.{uses, uses_at, uses_in, uses_of}
 use Rattle.proto_laws.specs.OrderLaws.{NamesAscend, ComponentsAscend, UsesAscend}
 
@@ -132,11 +131,11 @@ module _ (text : List ℕ) where
 
   -- the names of a file
   file-comes : (facts : FileFacts) (nodes : List Node) → ComeOf (IsNamed text) (type_names_in nodes) (names_of_file text facts nodes)
-  file-comes facts nodes = by (is_opaque facts.syntax)
+  file-comes facts nodes = by (is_proto3 facts.syntax)
     where
-      by : (b : Bool) → ComeOf (IsNamed text) (type_names_in nodes) (cond {A = List NameSite} b [] (names_in text nodes (package_scopes text facts.«package»)))
-      by true = tt
-      by false = nodes-come nodes (package_scopes text facts.«package»)
+      by : (b : Bool) → ComeOf (IsNamed text) (type_names_in nodes) (cond {A = List NameSite} b (names_in text nodes (package_scopes text facts.«package»)) [])
+      by true = nodes-come nodes (package_scopes text facts.«package»)
+      by false = tt
 
   -- and their components
   spans-come : (spans : List Span) → ComeOf IsAt spans (map (component text) spans)

@@ -37,6 +37,7 @@ block-packages span (header.Enum name) nodes front back h q = at_level (front ++
 block-packages span (header.Service name) nodes front back h q = at_level (front ++ back) _ _ (node.rolls-Service span name nodes) tt
 block-packages span (header.Oneof name) nodes front back h q = at_level (front ++ back) _ _ (node.rolls-Oneof span name nodes) tt
 block-packages span (header.Extend target) nodes front back h q = at_level (front ++ back) _ _ (node.rolls-Extend span target nodes) tt
+block-packages span (header.Group name) nodes front back h q = at_level (front ++ back) _ _ (node.rolls-Message span name nodes) tt
 block-packages span (header.Rpc name request response) nodes front back h q = at_level (front ++ back) _ _ (node.rolls-Rpc span name request response nodes) tt
 
 pub packages-spelled : (limit : ℕ) (body : Body) (ts : List Lexeme) → Spell IsIdent ts (package_components_in (body_tree limit body ts).nodes)

@@ -27,7 +27,7 @@ use Rattle.proto_tree.specs.declared.node.TypeName.{TypeName}
 use Rattle.proto_tree.specs.Lexeme.{is, is_identifier}
 use Rattle.proto_tree.specs.Cut.{ends_in, begins}
 use Rattle.proto_tree.specs.Parts.{Reader, ◌>>=◌, ◌>>◌, pure, nothing, if_all, eat, terminal, identifier, full, type_name, literal, number, but_last, is_content, is_options_end, rest_if, between, last_of, span_of}
-use Rattle.proto_tree.specs.Forms.{option_parts, block_name, extend_header, in_parentheses, rpc_header, header_form, header_and_brace, header_and_rest, numbered, is_label, label, labels_given, labels, plain_field, map_field, field, field_or_map, begins_map, syntax_form, import_form, package_form, value_form, empty_form, rpc_form, option_part, option_value, option_form, named_from, range_end, range, ranges, literals, reserved_list, reserved_form, form, statement}
+use Rattle.proto_tree.specs.Forms.{option_parts, block_name, extend_header, group_header, in_parentheses, rpc_header, header_form, header_and_brace, header_and_rest, numbered, is_label, label, labels_given, labels, plain_field, map_field, field, field_or_map, begins_map, syntax_form, import_form, package_form, value_form, empty_form, rpc_form, option_part, option_value, option_form, named_from, range_end, range, ranges, literals, reserved_list, reserved_form, form, statement}
 use Rattle.proto_tree.specs.Grammar.{◌⊳◌, IsTerminal, IsWordAt, IsIdent, IsFlag, IsSeparated, IsFull, IsType, IsLiteral, IsNumber, IsLabels, begins_with_label, AreAllLabels, IsAt, IsContent, IsFieldEnd, IsOptionPart, IsOptionName, IsRangeEnd, IsRange, IsReservedList, IsInParentheses, IsHeader, IsModifier, Spells, is_syntax, is_import, is_package, is_option, is_field, is_map_field, is_value, is_reserved_in_message, is_reserved_in_enum, is_rpc, is_empty, may_be_field, has_options, is_listed_in_enum}
 use Rattle.proto_tree.proofs.PartLemmas.{pair_is}
 use Rattle.proto_laws.specs.Trees.{first_terminal}
@@ -90,6 +90,13 @@ rpc_read name request response front rest h =
 named_read : (it : Terminal) (name : Span) (made : Span → Header) (front rest : List Lexeme) → (IsTerminal it ⊳ IsIdent name) front → (block_name it >>= (λ name. pure (made name))) (front ++ rest) ≡ Some (made name, rest)
 named_read it name made front rest h = read_then (block_name it) (λ name. pure (made name)) (front ++ rest) rest name (Some (made name, rest)) (block_named it name front rest h) refl
 
+group_read : (name : Span) (front rest : List Lexeme) → IsHeader (header.Group name) front → group_header (front ++ rest) ≡ Some (header.Group name, rest)
+unfolding group_header
+group_read name front rest h =
+    step_terminal w.Group _ (IsIdent name ⊳ (IsTerminal w.Equals ⊳ IsTerminal w.Int)) _ front rest h (λ s t1 h1.
+    step_ident name _ (IsTerminal w.Equals ⊳ IsTerminal w.Int) _ t1 rest h1 (λ t2 h2.
+    step_terminal w.Equals _ (IsTerminal w.Int) _ t2 rest h2 (λ s3 t3 h3. last_terminal w.Int _ _ t3 rest h3 (λ s4. refl))))
+
 -- `{` follows
 abbrev BraceFollows : List Lexeme → Type 0
 BraceFollows rest = begins w.Dot rest ≡ false
@@ -102,6 +109,7 @@ header_read (header.Service name) front rest h none = named_read w.Service name 
 header_read (header.Oneof name) front rest h none = named_read w.Oneof name header.Oneof front rest h
 header_read (header.Extend target) front rest h none =
     step_terminal w.Extend _ (IsType target) _ front rest h (λ s t1 h1. read_then type_name _ (t1 ++ rest) rest target _ (read_type target t1 rest h1 none) refl)
+header_read (header.Group name) front rest h none = group_read name front rest h
 header_read (header.Rpc name request response) front rest h none = rpc_read name request response front rest h
 
 pub starts_header : (head : Header) (front : List Lexeme) → IsHeader head front → Starts (is_terminal (first_terminal head)) front
@@ -110,6 +118,7 @@ starts_header (header.Enum name) front h = starts_turn (IsTerminal w.Enum) _ (st
 starts_header (header.Service name) front h = starts_turn (IsTerminal w.Service) _ (starts_terminal w.Service) h
 starts_header (header.Oneof name) front h = starts_turn (IsTerminal w.Oneof) _ (starts_terminal w.Oneof) h
 starts_header (header.Extend target) front h = starts_turn (IsTerminal w.Extend) _ (starts_terminal w.Extend) h
+starts_header (header.Group name) front h = starts_turn (IsTerminal w.Group) _ (starts_terminal w.Group) h
 starts_header (header.Rpc name request response) front h = starts_turn (IsTerminal w.Rpc) _ (starts_terminal w.Rpc) h
 
 brace_at : (t : Lexeme) (ts front rest : List Lexeme) (head : Header) → front ++ rest ≡ t ∷ ts → t.terminal ≡ first_terminal head → (IsHeader head ⊳ IsTerminal w.OpenBrace) front → header_and_brace (t ∷ ts) ≡ Some (head, rest)

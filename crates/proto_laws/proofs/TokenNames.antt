@@ -20,7 +20,7 @@ use Rattle.proto_tree.specs.declared.node.Span.{Span}
 use Rattle.proto_tree.specs.Grammar.{IsIdent}
 use Rattle.proto_tree.specs.Identifiers.{IsIdentifier, IsIdentifierAt, AllIdentifiers, NamesAreIdentifiers}
 use Rattle.proto_tree.specs.Lexeme.{is_identifier, is_bad, lexeme_of, lexemes, string_terminal, symbol, terminal_of}
-use Rattle.proto_tree.specs.Read.{max_blocks, read, tree_of}
+use Rattle.proto_tree.specs.Read.{body_tree, max_blocks, read, tree_of}
 use Rattle.proto_laws.proofs.NameOrder.{names-spelled, components-spelled}
 use Rattle.proto_laws.proofs.PackageNames.{packages-spelled}
 use Rattle.proto_laws.proofs.Spelled.{Spell}
@@ -91,7 +91,7 @@ module _ (text : List ℕ) where
   tokens_from-known at (t ∷ ts) h = All-cons (IsTokenAt text) t ts h.1 (tokens_from-known t.«end» ts h.2)
 
   -- a lexeme that is an identifier is one of the text
-  abbrev IsOfText : Lexeme → Type 0
+  abbrev pub IsOfText : Lexeme → Type 0
   IsOfText = IfIdentifier (IsIdentifierAt text)
 
   token-of_text : (t : Token) → IsKnown t → IsOfText (lexeme_of text t)
@@ -101,7 +101,7 @@ module _ (text : List ℕ) where
     cut = h.1;
   }
 
-  lexemes-of_text : (ts : List Token) → All (IsTokenAt text) ts → (IsUtf8 text → All (IsCut text) ts) → All IsOfText (lexemes text ts)
+  pub lexemes-of_text : (ts : List Token) → All (IsTokenAt text) ts → (IsUtf8 text → All (IsCut text) ts) → All IsOfText (lexemes text ts)
   lexemes-of_text ts are cut =
       let good : Token → Bool = λ t. not (is_bad t.kind) in
       let known : All IsKnown ts = λ i d lt. (are i d lt, λ utf8. cut utf8 i d lt) in
@@ -124,16 +124,16 @@ spelled-all Q ts (s ∷ more) all h =
 
 -- ---- texts
 
-pub tree-identifiers : (text : List ℕ) (ts : List Token) (at : ℕ) → AreTokensFrom text at ts → (IsUtf8 text → All (IsCut text) ts) → AllIdentifiers (IsIdentifierAt text) (tree_of text ts).nodes
+pub lexemes-identifiers : (text : List ℕ) (its : List Lexeme) → All (IsOfText text) its → AllIdentifiers (IsIdentifierAt text) (body_tree max_blocks b.File its).nodes
+lexemes-identifiers text its all = record {
+  names = spelled-all (IsIdentifierAt text) its _ all (names-spelled max_blocks b.File its);
+  types = spelled-all (IsIdentifierAt text) its _ all (components-spelled max_blocks b.File its);
+  packages = spelled-all (IsIdentifierAt text) its _ all (packages-spelled max_blocks b.File its);
+}
+
+tree-identifiers : (text : List ℕ) (ts : List Token) (at : ℕ) → AreTokensFrom text at ts → (IsUtf8 text → All (IsCut text) ts) → AllIdentifiers (IsIdentifierAt text) (tree_of text ts).nodes
 unfolding tree_of
-tree-identifiers text ts at are cut =
-    let its = lexemes text ts in
-    let all = lexemes-of_text text ts (tokens_from-known text at ts are) cut in
-    record {
-      names = spelled-all (IsIdentifierAt text) its _ all (names-spelled max_blocks b.File its);
-      types = spelled-all (IsIdentifierAt text) its _ all (components-spelled max_blocks b.File its);
-      packages = spelled-all (IsIdentifierAt text) its _ all (packages-spelled max_blocks b.File its);
-    }
+tree-identifiers text ts at are cut = lexemes-identifiers text (lexemes text ts) (lexemes-of_text text ts (tokens_from-known text at ts are) cut)
 
 pub names_are_identifiers : ((text : List ℕ) → AreTokens text (tokens text)) → ((text : List ℕ) → IsUtf8 text → All (IsCut text) (tokens text)) → NamesAreIdentifiers
 unfolding read

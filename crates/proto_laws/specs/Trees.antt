@@ -26,6 +26,7 @@ first_terminal (header.Enum name) = w.Enum
 first_terminal (header.Service name) = w.Service
 first_terminal (header.Oneof name) = w.Oneof
 first_terminal (header.Extend target) = w.Extend
+first_terminal (header.Group name) = w.Group
 first_terminal (header.Rpc name request response) = w.Rpc
 
 -- the tokens begin with this header and its `{`, and these are behind them

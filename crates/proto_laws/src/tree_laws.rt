@@ -1,16 +1,19 @@
 // Laws of the definitions. Each is proved for all texts, and its function does nothing.
 ghost use Rattle.std.specs.List.Sorted.{IsStrictlyIncreasing};
-ghost use Rattle.std.specs.Prelude.{◌≡◌, ◌↔◌, ◌<◌, ◌≤◌, ℕ, IsTrue, List, [], length, map};
+ghost use Rattle.std.specs.Prelude.{◌≡◌, ◌↔◌, ◌<◌, ◌≤◌, ℕ, IsTrue, List, [], false, length, map};
 ghost use Rattle.proto_laws.specs.Apart.{NamesAreApart};
 ghost use Rattle.proto_laws.specs.Reading.{HeadersAreRead, HeadersAreUnique, StatementsAreRead, StatementsAreUnique};
 ghost use Rattle.proto_laws.specs.Trees.{BlocksEnd, IsTreeOf, ReadsBody};
 ghost use Rattle.proto_tree.specs.declared.node.FileTree.{FileTree};
 ghost use Rattle.proto_tree.specs.Cut.{items, AreItems};
 ghost use Rattle.proto_tree.specs.Grammar.{HeadersAreSpelled, StatementsAreSpelled};
-ghost use Rattle.proto_tree.specs.Identifiers.{NamesAreIdentifiers};
+ghost use Rattle.proto_tree.specs.Identifiers.{AllIdentifiers, IsIdentifierAt, NamesAreIdentifiers};
+ghost use Rattle.proto_tree.specs.Lexeme.{terminal_of};
 ghost use Rattle.proto_tree.specs.Names.{names_in, type_components_in, type_names_in};
+ghost use Rattle.proto_tree.specs.Others.{is_other_word, other_tree};
 ghost use Rattle.proto_tree.specs.Parts.{IsBalanced, is_balanced};
 ghost use Rattle.proto_tree.specs.Read.{body_tree, empty_tree, read, value_tree};
+ghost use Rattle.proto_lex.specs.declared.token.Kind.{Kind};
 ghost use Rattle.proto_tree.specs.declared.lexeme.Body.{Body};
 ghost use Rattle.proto_tree.specs.declared.lexeme.Lexeme.{Lexeme};
 
@@ -96,5 +99,18 @@ pub fn identifiers_law()
     ensures { NamesAreIdentifiers }
 {
     one_token_list();
+    cut_tokens();
+}
+
+/// A law: the names of a text that isn't proto3 are in order and apart. As it is read for what it declares, the declared names start at ascending
+/// offsets, no two names touch, and each is an identifier. No token is to proto3 one of the words that this reading has beside its own.
+pub fn other_names_law()
+    ensures order { (text : List ℕ) → IsStrictlyIncreasing (map (λ s. s.start) (names_in (other_tree text).nodes)) }
+    ensures apart { (text : List ℕ) → NamesAreApart (other_tree text).nodes }
+    ensures identifiers { (text : List ℕ) → AllIdentifiers (IsIdentifierAt text) (other_tree text).nodes }
+    ensures words { (kind : Kind) (bytes : List ℕ) → is_other_word (terminal_of kind bytes) ≡ false }
+{
+    one_token_list();
+    ordered_tokens();
     cut_tokens();
 }

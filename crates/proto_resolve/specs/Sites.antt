@@ -1,5 +1,5 @@
 -- The names of a tree, by offset.
-use Rattle.std.specs.Prelude.{ℕ, ◌==◌, ◌&&◌, not, Bool, List, [], ◌∷◌, ◌++◌, length, map, slice_index_or, bytes_eq, codes, if◌then◌else◌, Option, Some, None}
+use Rattle.std.specs.Prelude.{ℕ, ◌==◌, ◌&&◌, not, Bool, true, false, List, [], ◌∷◌, ◌++◌, length, map, slice_index_or, bytes_eq, codes, if◌then◌else◌, Option, Some, None}
 use Rattle.std.specs.List.{list_any}
 use Rattle.proto_tree.specs.declared.node.Span.{Span}
 use Rattle.proto_tree.specs.declared.node.TypeName.{TypeName}
@@ -12,7 +12,8 @@ use Rattle.proto_resolve.specs.declared.site.Needs.{Needs}
 use Rattle.proto_resolve.specs.declared.site.Needs.TheVariants as needs
 use Rattle.proto_decls.specs.declared.fact.FileFacts.{FileFacts}
 use Rattle.proto_decls.specs.declared.fact.PackageFact.{PackageFact}
-use Rattle.import_graph.specs.Imports.{is_opaque}
+use Rattle.proto_decls.specs.declared.fact.SyntaxFact.{SyntaxFact}
+use Rattle.proto_decls.specs.declared.fact.SyntaxFact.TheVariants.{Proto3}
 use Rattle.proto_decls.specs.Text.{joined, text_at}
 
 -- The names that stand somewhere, given their scopes, innermost first.
@@ -76,6 +77,10 @@ abbrev pub package_scopes : List ℕ → Option PackageFact → List (List ℕ)
 package_scopes text None = [] ∷ []
 package_scopes text (Some p) = scopes_after text ([] ∷ []) p.components
 
--- the names of a file, of which an opaque one has none
+abbrev pub is_proto3 : SyntaxFact → Bool
+is_proto3 Proto3 = true
+is_proto3 _ = false
+
+-- the names of a file, if it is a proto3 file
 abbrev pub names_of_file : List ℕ → FileFacts → List Node → List NameSite
-names_of_file text facts nodes = if is_opaque facts.syntax then [] else names_in text nodes (package_scopes text facts.«package»)
+names_of_file text facts nodes = if is_proto3 facts.syntax then names_in text nodes (package_scopes text facts.«package») else []

@@ -211,7 +211,7 @@ pub fn names_of_file(
 {
     let mut found = Items::new(alloc);
     match facts.syntax {
-        SyntaxFact::Opaque => Ok(found),
+        SyntaxFact::Other | SyntaxFact::Opaque => Ok(found),
         SyntaxFact::Proto3 => {
             let scopes = package_scopes(alloc, text, &facts.package)?;
             push_names(alloc, text, nodes, &scopes, &mut found)?;

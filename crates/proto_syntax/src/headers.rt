@@ -24,6 +24,17 @@ fn extend_header(alloc: Global, tokens: &mut TokenReader<'_>) -> Result<Header, 
     Ok(Header::Extend(Boxed::new(alloc, tokens.type_name(alloc)?)?))
 }
 
+#[tactic(auto, unfolding(proto_tree::specs::Forms::group_header))]
+fn group_header(tokens: &mut TokenReader<'_>) -> Result<Header, Unread>
+    ensures { Reads (spec.group_header tokens.old.rest.now) result tokens.new.rest.now }
+{
+    tokens.terminal(Terminal::Group)?;
+    let name = tokens.identifier()?;
+    tokens.terminal(Terminal::Equals)?;
+    tokens.terminal(Terminal::Int)?;
+    Ok(Header::Group(name))
+}
+
 #[tactic(auto, unfolding(proto_tree::specs::Forms::rpc_header))]
 pub fn rpc_header(alloc: Global, tokens: &mut TokenReader<'_>) -> Result<Header, Unread>
     ensures { Reads (spec.rpc_header tokens.old.rest.now) result tokens.new.rest.now }
@@ -53,6 +64,7 @@ fn header_form(
         Terminal::Service => Ok(Header::Service(block_name(tokens, terminal)?)),
         Terminal::Oneof => Ok(Header::Oneof(block_name(tokens, terminal)?)),
         Terminal::Extend => extend_header(alloc, tokens),
+        Terminal::Group => group_header(tokens),
         Terminal::Rpc => rpc_header(alloc, tokens),
         _ => Err(Unread::NoForm),
     }
@@ -96,8 +108,13 @@ pub fn opens(body: Body, terminal: Terminal) -> bool
         ),
         Body::Message => matches!(
             terminal,
-            Terminal::Message | Terminal::Enum | Terminal::Extend | Terminal::Oneof
+            Terminal::Message
+                | Terminal::Enum
+                | Terminal::Extend
+                | Terminal::Oneof
+                | Terminal::Group
         ),
+        Body::Oneof | Body::Extend => matches!(terminal, Terminal::Group),
         Body::Service => matches!(terminal, Terminal::Rpc),
         _ => false,
     }

@@ -2,9 +2,11 @@
 ghost use Rattle.std.specs.Prelude.{◌≡◌, [], All, IfOk, length};
 ghost use Rattle.proto_lex.specs.Tokens as lexer;
 ghost use Rattle.proto_tree.specs.Lexeme.{IsWithin};
+ghost use Rattle.proto_tree.specs.Others.{other_tree};
 ghost use Rattle.proto_tree.specs.Read as spec;
 ghost use Rattle.proto_tree.specs.declared.lexeme.Body.TheVariants as b;
 
+use crate::others::other_lexemes;
 use crate::read::{BodyReader, body_tree};
 use crate::scan::{lexemes, text_lexemes};
 use crate::skips::Matched;
@@ -46,6 +48,21 @@ pub fn parse_text(alloc: Global, text: &str) -> Result<FileTree, AllocError>
 {
     let mut faults = Items::new(alloc);
     let lexemes = text_lexemes(alloc, text.as_bytes(), &mut faults)?;
+    lexeme_tree(alloc, lexemes.as_slice(), faults)
+}
+
+/// The tree of a text that isn't proto3: its statements by the forms of proto3, to which come the label `required` and groups. The label of a group,
+/// and `export` and `local` before a message or an enum, are left out. Other statements of proto2 and of the editions are among the faults.
+///
+/// # Errors
+///
+/// `AllocError` where the tree can't grow. The text stays as it is, so the call may be made again.
+#[tactic(auto, unfolding(proto_tree::specs::Others::other_tree))]
+pub fn parse_other(alloc: Global, text: &str) -> Result<FileTree, AllocError>
+    ensures { IfOk result (λ tree. tree ≡ other_tree text.now) }
+{
+    let mut faults = Items::new(alloc);
+    let lexemes = other_lexemes(alloc, text.as_bytes(), &mut faults)?;
     lexeme_tree(alloc, lexemes.as_slice(), faults)
 }
 

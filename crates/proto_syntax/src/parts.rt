@@ -208,8 +208,7 @@ impl<'a> TokenReader<'a> {
         ensures { forms.label self.old.rest.now ≡ Some (result, self.new.rest.now) }
     {
         match self.rest {
-            [first, rest @ ..]
-                if matches!(first.terminal, Terminal::Repeated | Terminal::Optional) => {
+            [first, rest @ ..] if first.terminal.is_label() => {
                 self.rest = rest;
                 Some(first.span)
             }

@@ -60,6 +60,7 @@ fn block_node(
         Header::Enum(name) => Ok(Node::EnumDef { span, name, items }),
         Header::Service(name) => Ok(Node::Service { span, name, items }),
         Header::Oneof(name) => Ok(Node::Oneof { span, name, items }),
+        Header::Group(name) => Ok(Node::Message { span, name, items }),
         Header::Extend(target) => Ok(Node::Extend {
             span,
             target,
@@ -83,7 +84,7 @@ fn body_of(header: &Header) -> Body
     ensures { result ≡ forms.body_of header.now }
 {
     match header {
-        Header::Message(_) => Body::Message,
+        Header::Message(_) | Header::Group(_) => Body::Message,
         Header::Enum(_) => Body::Enum,
         Header::Service(_) => Body::Service,
         Header::Oneof(_) => Body::Oneof,
@@ -128,7 +129,7 @@ fn is_nesting_word(terminal: Terminal) -> bool
 {
     matches!(
         terminal,
-        Terminal::Message | Terminal::Enum | Terminal::Oneof | Terminal::Extend
+        Terminal::Message | Terminal::Enum | Terminal::Oneof | Terminal::Extend | Terminal::Group
     )
 }
 

@@ -14,7 +14,8 @@ use proto_tree::{Fault, Lexeme, Span, SyntaxProblem, Terminal};
 use sqlite_items::Items;
 use std::alloc::{AllocError, Global};
 
-fn is(name: &[u8], terminal: &str) -> bool
+// Whether a name is this word.
+pub fn is(name: &[u8], terminal: &str) -> bool
     ensures { result ≡ bytes_eq name.now terminal.now }
 {
     name == terminal.as_bytes()

@@ -7,7 +7,7 @@ use Rattle.proto_tree.specs.declared.node.Header.{Header}
 use Rattle.proto_tree.specs.declared.node.Span.{Span}
 use Rattle.proto_tree.specs.Lexeme.{is}
 use Rattle.proto_tree.specs.Parts.{Reader, ◌>>=◌, pure, and_then, one, eat, separated_by, separated, full, type_name}
-use Rattle.proto_tree.specs.Forms.{block_name, extend_header, in_parentheses, rpc_header, header_form, header_and_brace, header_and_rest}
+use Rattle.proto_tree.specs.Forms.{block_name, extend_header, group_header, in_parentheses, rpc_header, header_form, header_and_brace, header_and_rest}
 use Rattle.proto_tree.proofs.PartLemmas.{pair_is}
 
 abbrev pub IsSuffix : List Lexeme → List Lexeme → Type 0
@@ -81,6 +81,10 @@ leaves-extend_header : Leaves extend_header
 unfolding extend_header
 leaves-extend_header = in_turn _ _ (leaves-one _) (λ extend. in_turn _ _ leaves-type_name (λ target. leaves-pure _))
 
+leaves-group_header : Leaves group_header
+unfolding group_header
+leaves-group_header = in_turn _ _ (leaves-one _) (λ group. in_turn _ _ (leaves-one _) (λ name. in_turn _ _ (leaves-one _) (λ equals. in_turn _ _ (leaves-one _) (λ number. leaves-pure _))))
+
 leaves-rpc_header : Leaves rpc_header
 unfolding rpc_header
 leaves-rpc_header =
@@ -95,6 +99,7 @@ leaves-header_form w.Enum = in_turn _ _ (leaves-block_name w.Enum) (λ name. lea
 leaves-header_form w.Service = in_turn _ _ (leaves-block_name w.Service) (λ name. leaves-pure _)
 leaves-header_form w.Oneof = in_turn _ _ (leaves-block_name w.Oneof) (λ name. leaves-pure _)
 leaves-header_form w.Extend = leaves-extend_header
+leaves-header_form w.Group = leaves-group_header
 leaves-header_form w.Rpc = leaves-rpc_header
 leaves-header_form _ = λ ts a rest e. never e
 

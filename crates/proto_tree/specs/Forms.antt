@@ -205,6 +205,15 @@ block_name it = terminal it >> identifier
 unfoldable pub extend_header : Reader Header
 extend_header = terminal w.Extend >> (type_name >>= (λ target. pure (header.Extend target)))
 
+-- `group Ident = Int`: a message that is a field as well, which proto3 doesn't have
+unfoldable pub group_header : Reader Header
+group_header = do
+  terminal w.Group
+  name ← identifier
+  terminal w.Equals
+  terminal w.Int
+  pure (header.Group name)
+
 -- `( [stream] type )`; a `stream` behind the parenthesis is always the flag
 unfoldable pub in_parentheses : Reader TypeName
 in_parentheses = do
@@ -231,6 +240,7 @@ header_form w.Enum = block_name w.Enum >>= (λ name. pure (header.Enum name))
 header_form w.Service = block_name w.Service >>= (λ name. pure (header.Service name))
 header_form w.Oneof = block_name w.Oneof >>= (λ name. pure (header.Oneof name))
 header_form w.Extend = extend_header
+header_form w.Group = group_header
 header_form w.Rpc = rpc_header
 header_form _ = nothing
 
@@ -246,7 +256,7 @@ rpc_form span = rpc_header >>= (λ head. terminal w.Semicolon >> rpc_of span hea
 -- ---- the forms of each body
 
 -- In each body the first terminal decides the form; where one of the body's forms begins with that terminal, no other form is
--- tried. Blocks are read elsewhere, so that the words of blocks have no form here.
+-- tried. Blocks are read elsewhere, so that the words of blocks have no form here; but a `group` that opens none is a name.
 
 -- file: `syntax`, `import`, `package`, `option`, `;`, and the blocks `message`, `enum`, `service`, `extend`
 abbrev pub file_form : Terminal → Span → Reader Node
@@ -257,7 +267,7 @@ file_form w.Option = option_form
 file_form w.Semicolon = empty_form
 file_form _ = λ span. nothing
 
--- message: `option`, `reserved`, `;`, the blocks `message`, `enum`, `extend`, `oneof`, and else map field or field
+-- message: `option`, `reserved`, `;`, the blocks `message`, `enum`, `extend`, `oneof`, `group`, and else map field or field
 abbrev pub message_form : Terminal → Span → Reader Node
 message_form w.Message = λ span. nothing
 message_form w.Enum = λ span. nothing
@@ -268,13 +278,13 @@ message_form w.Reserved = reserved_form false
 message_form w.Semicolon = empty_form
 message_form _ = field_or_map
 
--- oneof: `option`, `;`, and else field
+-- oneof: `option`, `;`, the block `group`, and else field
 abbrev pub oneof_form : Terminal → Span → Reader Node
 oneof_form w.Option = option_form
 oneof_form w.Semicolon = empty_form
 oneof_form _ = field
 
--- extend: `;`, and else field
+-- extend: `;`, the block `group`, and else field
 abbrev pub extend_form : Terminal → Span → Reader Node
 extend_form w.Semicolon = empty_form
 extend_form _ = field
@@ -328,7 +338,13 @@ opens_in_message w.Message = true
 opens_in_message w.Enum = true
 opens_in_message w.Extend = true
 opens_in_message w.Oneof = true
+opens_in_message w.Group = true
 opens_in_message _ = false
+
+-- in a oneof and in an `extend` block a group alone
+abbrev pub opens_among_fields : Terminal → Bool
+opens_among_fields w.Group = true
+opens_among_fields _ = false
 
 abbrev pub opens_in_service : Terminal → Bool
 opens_in_service w.Rpc = true
@@ -338,6 +354,8 @@ opens_in_service _ = false
 abbrev pub opens : Body → Terminal → Bool
 opens b.File = opens_in_file
 opens b.Message = opens_in_message
+opens b.Oneof = opens_among_fields
+opens b.Extend = opens_among_fields
 opens b.Service = opens_in_service
 opens _ = λ it. false
 
@@ -357,6 +375,7 @@ body_of (header.Enum name) = b.Enum
 body_of (header.Service name) = b.Service
 body_of (header.Oneof name) = b.Oneof
 body_of (header.Extend target) = b.Extend
+body_of (header.Group name) = b.Message
 body_of (header.Rpc name request response) = b.Rpc
 
 -- the node of a block with this span and this header, with the nodes of its body
@@ -366,4 +385,5 @@ block_node span (header.Enum name) nodes = node.EnumDef span name nodes
 block_node span (header.Service name) nodes = node.Service span name nodes
 block_node span (header.Oneof name) nodes = node.Oneof span name nodes
 block_node span (header.Extend target) nodes = node.Extend span target nodes
+block_node span (header.Group name) nodes = node.Message span name nodes
 block_node span (header.Rpc name request response) nodes = node.Rpc span name request response nodes

@@ -139,6 +139,7 @@ IsHeader (header.Enum name) = IsTerminal w.Enum ⊳ IsIdent name
 IsHeader (header.Service name) = IsTerminal w.Service ⊳ IsIdent name
 IsHeader (header.Oneof name) = IsTerminal w.Oneof ⊳ IsIdent name
 IsHeader (header.Extend target) = IsTerminal w.Extend ⊳ IsType target
+IsHeader (header.Group name) = IsTerminal w.Group ⊳ (IsIdent name ⊳ (IsTerminal w.Equals ⊳ IsTerminal w.Int))
 IsHeader (header.Rpc name request response) =
     IsTerminal w.Rpc ⊳ (IsIdent name ⊳ (IsInParentheses request ⊳ (IsTerminal w.Returns ⊳ IsInParentheses response)))
 
@@ -175,7 +176,7 @@ is_listed_in_enum w.Semicolon = true
 is_listed_in_enum _ = false
 
 -- In this body a statement that begins with this terminal may be a field: the body's forms end with 'else field', and no
--- other one begins with the terminal.
+-- other one without a block begins with the terminal.
 abbrev pub may_be_field : Body → Terminal → Bool
 may_be_field b.Message first = not (is_listed_in_message first)
 may_be_field b.Oneof first = not (is_listed_in_oneof first)

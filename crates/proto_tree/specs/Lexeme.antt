@@ -50,6 +50,7 @@ is_block_word w.Enum = true
 is_block_word w.Service = true
 is_block_word w.Oneof = true
 is_block_word w.Extend = true
+is_block_word w.Group = true
 is_block_word w.Rpc = true
 is_block_word _ = false
 

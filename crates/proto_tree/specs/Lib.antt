@@ -4,6 +4,7 @@ pub mod Cut
 pub mod Parts
 pub mod Forms
 pub mod Read
+pub mod Others
 pub mod Grammar
 pub mod Names
 pub mod Identifiers

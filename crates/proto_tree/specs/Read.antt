@@ -39,13 +39,14 @@ is_nesting_word w.Message = true
 is_nesting_word w.Enum = true
 is_nesting_word w.Oneof = true
 is_nesting_word w.Extend = true
+is_nesting_word w.Group = true
 is_nesting_word _ = false
 
 abbrev pub is_some_header : Option (Header × List Lexeme) → Bool
 is_some_header None = false
 is_some_header (Some p) = true
 
--- the tokens up to the first `{` read as the header of a message, an enum, a oneof or an extend
+-- the tokens up to the first `{` read as the header of a message, an enum, a oneof, an extend or a group
 abbrev pub nests : List Lexeme → Bool
 nests [] = false
 nests (t ∷ ts) = is_nesting_word t.terminal && is_some_header (header_and_rest (t ∷ ts))
@@ -75,7 +76,7 @@ may_open body (t ∷ ts) = opens body t.terminal
 abbrev pub form_tree : (Body → List Lexeme → FileTree) → Body → List Lexeme → FileTree
 form_tree inner body item = if may_open body item then opened_tree inner body item (header_and_rest item) else statement_tree item (statement body item)
 
--- A finished item inside as many blocks as are allowed: with the header of a message, an enum, a oneof or an extend and
+-- A finished item inside as many blocks as are allowed: with the header of a message, an enum, a oneof, an extend or a group and
 -- its `{` it is bad with 203, whatever its body. The blocks of service and rpc can't nest that deep: a service stands at
 -- the top alone, and an rpc in a service.
 abbrev pub deepest_tree : Body → List Lexeme → FileTree

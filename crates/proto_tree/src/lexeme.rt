@@ -3,7 +3,8 @@ ghost use Rattle.std.specs.Prelude.{◌≡◌};
 
 use crate::node::Span;
 
-/// What a token is to the grammar. A word of the language is an identifier too.
+/// What a token is to the grammar. A word of the language is an identifier too. No token of a proto3 text is `Group` or `Visibility`: to its
+/// grammar these words are names.
 #[derive(Clone, Copy, Debug, PartialEq, Eq)]
 pub enum Terminal {
     Message,
@@ -26,6 +27,10 @@ pub enum Terminal {
     Returns,
     To,
     Max,
+    /// `group`, of proto2.
+    Group,
+    /// `export` or `local`, of edition 2024.
+    Visibility,
     Name,
     Int,
     Float,
@@ -69,6 +74,7 @@ pub enum Body {
 }
 
 impl Terminal {
+    ghost use Rattle.proto_tree.specs.Forms as forms;
     ghost use Rattle.proto_tree.specs.Lexeme as spec;
 
     /// Whether the terminal begins a block.
@@ -82,8 +88,16 @@ impl Terminal {
                 | Terminal::Service
                 | Terminal::Oneof
                 | Terminal::Extend
+                | Terminal::Group
                 | Terminal::Rpc
         )
+    }
+
+    /// Whether it is the label of a field.
+    pub fn is_label(self) -> bool
+        ensures { result ≡ forms.is_label self }
+    {
+        matches!(self, Terminal::Repeated | Terminal::Optional)
     }
 
     /// Whether it is neither a `;` nor a brace.

@@ -106,6 +106,8 @@ pub enum Header {
     Service(Span),
     Oneof(Span),
     Extend(Boxed<TypeName>),
+    /// `group G = 1`, of a message that is a field as well.
+    Group(Span),
     Rpc {
         name: Boxed<Span>,
         request: Boxed<TypeName>,
@@ -215,7 +217,7 @@ pub enum SyntaxProblem {
     /// Diagnostic 202: the statement has none of the forms of its body, or is a `}` at the top that closes nothing.
     NotUnderstood,
     /// Diagnostic 203: the statement stands inside 64 blocks and begins with the header of a message, an enum, a
-    /// oneof or an extend and its `{`, whatever its body is.
+    /// oneof, an extend or a group and its `{`, whatever its body is.
     TooDeep,
     /// Diagnostic 204: the text's end, the `}` of its block, or at the top a `}` that closes nothing ends the
     /// statement before its `;` or `}`.

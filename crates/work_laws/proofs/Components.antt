@@ -12,12 +12,11 @@ use Rattle.proto_tree.specs.Names.{joined as all_types, type_names_step, type_na
 use Rattle.proto_decls.specs.Text.{text_at}
 use Rattle.proto_decls.specs.declared.fact.FileFacts.{FileFacts}
 use Rattle.proto_laws.proofs.Nesting.{all_left, all_right}
-use Rattle.import_graph.specs.Imports.{is_opaque}
 use Rattle.proto_resolve.specs.declared.site.NameSite.{NameSite}
 use Rattle.proto_resolve.specs.declared.site.Needs.{Needs}
 use Rattle.proto_resolve.specs.declared.site.Needs.TheVariants as needs
 use Rattle.proto_resolve.specs.Names.{texts_of}
-use Rattle.proto_resolve.specs.Sites.{Named, component, in_turn, inner, is_scalar, names_in, names_of, names_of_file, names_step, package_scopes, site, type_names}
+use Rattle.proto_resolve.specs.Sites.{Named, component, in_turn, inner, is_proto3, is_scalar, names_in, names_of, names_of_file, names_step, package_scopes, site, type_names}
 
 -- what holds in all parts of joined lists
 each_part : {X Y : Type 0} (P : Y → Type 0) (parts : X → List Y) (xs : List X) → All P (flat_map parts xs) → All (λ x. All P (parts x)) xs
@@ -102,9 +101,9 @@ module _ (text : List ℕ) (P : List ℕ → Type 0) where
       All-append OfName (names_of text n scopes) (names_in text more scopes)
       (names_of-carries n (all_left OfType (type_names_of n) (type_names_in more) all) scopes) (names_in-carries more (all_right OfType (type_names_of n) (type_names_in more) all) scopes)
 
-  -- the names of a file, of which an opaque one has none
+  -- the names of a file, of which one that isn't proto3 has none
   pub of_names : (facts : FileFacts) (nodes : List Node) → All (λ s. P (text_at text s)) (type_components_in nodes) → All OfName (names_of_file text facts nodes)
-  of_names facts nodes all = elim (cases_Bool (is_opaque facts.syntax)) [
-    | inl opaque ↦ rw opaque (All-nil OfName)
-    | inr analysed ↦ rw analysed (names_in-carries nodes (each_part (λ s. P (text_at text s)) (λ t. t.components) (type_names_in nodes) all) (package_scopes text facts.«package»))
+  of_names facts nodes all = elim (cases_Bool (is_proto3 facts.syntax)) [
+    | inl proto3 ↦ rw proto3 (names_in-carries nodes (each_part (λ s. P (text_at text s)) (λ t. t.components) (type_names_in nodes) all) (package_scopes text facts.«package»))
+    | inr other ↦ rw other (All-nil OfName)
   ]

@@ -203,12 +203,12 @@ pub has_all-more : (asked : Asked) (text : List ℕ) (nodes : List Node) (node :
 has_all-more asked text nodes node i j scopes front first rest =
     rw (front, flat_map-append asked_by (names_of text node scopes) (names_in text (drop j nodes) scopes)) (has_all-append asked _ _ first rest)
 
--- the names of a file, which may be left out, and those that it declares
-pub has_all-names_asked : (asked : Asked) (is_left_out : Bool) (sites : List NameSite) (decls : List Decl)
+-- the names of a file, if they are asked for, and those that it declares
+pub has_all-names_asked : (asked : Asked) (are_asked : Bool) (sites : List NameSite) (decls : List Decl)
     → has_all asked (flat_map asked_by sites) ≡ true → has_all asked (map (λ d. d.full_name) decls) ≡ true
-    → has_all asked (names_asked (if is_left_out then [] else sites) decls) ≡ true
-has_all-names_asked asked true sites decls named declares = declares
-has_all-names_asked asked false sites decls named declares = has_all-append asked (flat_map asked_by sites) (map (λ d. d.full_name) decls) named declares
+    → has_all asked (names_asked (if are_asked then sites else []) decls) ≡ true
+has_all-names_asked asked true sites decls named declares = has_all-append asked (flat_map asked_by sites) (map (λ d. d.full_name) decls) named declares
+has_all-names_asked asked false sites decls named declares = declares
 
 -- ---- what isn't touched
 

@@ -1,8 +1,7 @@
 use Rattle.std.proofs.Common.{◌≡◌, ◌∙◌, true}
 use Rattle.std.specs.List.{flat_map}
 use Rattle.std.proofs.lemmas.List.Filters.{dedup_is}
-use Rattle.import_graph.specs.Imports.{is_opaque}
-use Rattle.proto_resolve.specs.Sites.{names_in, names_of_file, package_scopes}
+use Rattle.proto_resolve.specs.Sites.{is_proto3, names_in, names_of_file, package_scopes}
 use Rattle.work_links.specs.declared.asked.Asked.{Asked}
 use Rattle.work_links.specs.Asked.{asked_by, has_all, names_asked}
 use Rattle.work_links.proofs.AskedNames.{grows, has_all-grows, has_all-names_asked, has_keys-all, has_keys-dedup}
@@ -19,4 +18,4 @@ returns c =
     let same = c.in_ok-from_slice.ensures.items ∙ c.as_slice-4.ensures.value in
     let copy : Asked = record { uses = c.in_ok-from_slice.field-0; declares = full.declares; all = full.all } in
     has_all-grows full copy (names_asked (names_of_file text facts (let tree = c.args.tree.now in tree.nodes)) facts.decls) (grows full copy (λ e. e) (rw same (has_keys-dedup full.uses.items c.sort_unstable.new.self.items _ c.sort_unstable.ensures.permutation (dedup_is _ _ _ c.dedup.ensures.filtered))) (has_keys-all full.declares.items))
-    (rw (← c.as_slice-2.ensures, ← c.as_slice-3.ensures) (has_all-names_asked full (is_opaque facts.syntax) sites c.as_slice-3.result.now named c.in_ok-add_decls.ensures.all))
+    (rw (← c.as_slice-2.ensures, ← c.as_slice-3.ensures) (has_all-names_asked full (is_proto3 facts.syntax) sites c.as_slice-3.result.now named c.in_ok-add_decls.ensures.all))
