@@ -1,5 +1,5 @@
 -- What is read of a text that isn't proto3 stands in the order of its tokens.
-use Rattle.std.proofs.Common.{◌≡◌, ℕ, ◌+◌, Bool, true, false, List, [], ◌∷◌, ◌++◌, length, map, Option, Some, refl, ap, arith, cond, IsUtf8}
+use Rattle.std.proofs.Common.{◌≡◌, ℕ, ◌+◌, Bool, true, false, List, [], ◌∷◌, length, map, Option, Some, refl, ap, arith, cond, IsUtf8}
 use Rattle.std.specs.Prelude.{All, ◌&&◌, not, ◌==◌, codes, slice_index, slice_range, unwrap_or}
 use Rattle.std.specs.List.{list_any}
 use Rattle.std.specs.Str.{bytes_eq}
@@ -28,7 +28,7 @@ use Rattle.proto_laws.proofs.Apart.{InLine, IsIdentAt, lexemes-apart, lexemes-in
 use Rattle.proto_laws.proofs.NameOrder.{lexemes-rise, names-spelled}
 use Rattle.proto_laws.proofs.Rise.{Rise, increasing-from_rise, rise-sooner}
 use Rattle.proto_laws.proofs.Spelled.{ident-begins, spelled-rise, start_of}
-use Rattle.proto_laws.proofs.TokenNames.{IfIdentifier, IsOfText, lexemes-identifiers, lexemes-of_text, tokens_from-known}
+use Rattle.proto_laws.proofs.TokenNames.{IfIdentifier, lexemes-identifiers, lexemes-of_text, tokens_from-known}
 
 -- ---- as they are read, without those that are left out
 
