@@ -30,6 +30,8 @@ import kit  # noqa: E402
 NAMES_A_FAILURE = re.compile(r"rt: .*(NOT PROVED|FAILED)|FAILED: |\S+: (NAMES ONLY|NOT REFUSED|BAD EDIT|UNPROVED|MISSING): ")
 COUNTS = re.compile(r"(\d+) (?:passed|refused), (\d+) (?:failed|not)$")
 PROVED = re.compile(r"rt: (\w+) (?:proved$|is kept: )")
+# Where a line of `rt ci` on a crate begins: two of its threads that print at once do so on one line.
+BEGINS = re.compile(r"(?=rt: \w+ (?:proved$|is kept: |NOT PROVED))")
 # The memory that a proof at one job and a check of edits have been seen to take, in bytes.
 OF_A_PROOF, OF_EDITS = 4_500_000_000, 2_000_000_000
 STARTED, TURN = time.time(), threading.Lock()
@@ -53,9 +55,10 @@ class Part:
         with subprocess.Popen(["nice", "-n", str(self.nice), *words], cwd=cwd, env={**os.environ, **env}, **how) as ran:
             lines = []
             for line in ran.stdout:
-                lines.append(line.rstrip("\n"))
-                if told:
-                    told(lines[-1])
+                for said in [it for it in BEGINS.split(line.rstrip("\n")) if it] or [""]:
+                    lines.append(said)
+                    if told:
+                        told(said)
             _, status, used = os.wait4(ran.pid, 0)
             ran.returncode = os.waitstatus_to_exitcode(status)
         with TURN:

@@ -11,8 +11,8 @@ import stream
 from test_folder import FOLDER, SKIPPED, FolderTest, fixed
 
 CHECK_USAGE = b"""\
-Usage: protols check [--root DIR] [--proto-path DIR]... [--workers N]
-                     [--format FORMAT] [--quiet] [FILE]...
+Usage: protols check [--root DIR] [--proto-path DIR]... [--read-others]
+                     [--workers N] [--format FORMAT] [--quiet] [FILE]...
 """
 
 # How often a small tree is checked, side by side.
@@ -125,7 +125,7 @@ class Check(FolderTest):
     def test_help(self):
         out, err, status = stream.check(("--help",))
         self.assertEqual((err, status), (b"", 0))
-        for part in (CHECK_USAGE, b"--root <DIR>", b"--workers <N>", b"[default: 4]", b"--format <FORMAT>", b"--quiet", b"[FILE]..."):
+        for part in (CHECK_USAGE, b"--root <DIR>", b"--read-others", b"--workers <N>", b"[default: 4]", b"--format <FORMAT>", b"--quiet", b"[FILE]..."):
             self.assertIn(part, out)
 
     def test_a_closed_output(self):

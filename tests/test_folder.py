@@ -54,8 +54,8 @@ QUIET_CHECK = ("check", "--quiet")
 
 # How `protols serve` is called.
 SERVE_USAGE = b"""\
-protols serve [--root DIR] [--proto-path DIR]... [--workers N]
-                     [--stdio] [--clientProcessId ID]
+protols serve [--root DIR] [--proto-path DIR]... [--read-others]
+                     [--workers N] [--stdio] [--clientProcessId ID]
 """
 
 
@@ -195,7 +195,7 @@ class CommandLine(FolderTest):
             with self.subTest(words=words):
                 out, err, status = run(FIRST_INPUT, words)
                 self.assertEqual((err, status), (b"", 0))
-                for part in (b"--root <DIR>", b"--proto-path <DIR>", b"--workers <N>", b"--stdio", b"--clientProcessId <ID>", b"default", b"Example"):
+                for part in (b"--root <DIR>", b"--proto-path <DIR>", b"--read-others", b"--workers <N>", b"--stdio", b"--clientProcessId <ID>", b"default", b"Example"):
                     self.assertIn(part, out)
 
     def test_version(self):

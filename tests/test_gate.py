@@ -103,6 +103,17 @@ class Planted(unittest.TestCase):
         self.assertEqual((said.splitlines()[-1], status), ("0 passed, 1 failed", 1), said)
 
 
+class Lines(unittest.TestCase):
+    """What the gate reads of a part's lines."""
+
+    def test_two_at_once(self):
+        told, part = [], gate.Part("rt ci", 1, 0)
+        part.run(["printf", "rt: one NOT PROVED: its library low failedrt: two NOT PROVED: its library low failedrt: three proved\n\n\n1 passed, 2 failed\n"], "/", told.append)
+        self.assertEqual(told[1:3], ["rt: two NOT PROVED: its library low failed", "rt: three proved"])
+        self.assertEqual(part.named, [f"rt ci: rt: {it} NOT PROVED: its library low failed" for it in ("one", "two")])
+        self.assertEqual((part.passed, part.failed), (1, 2))
+
+
 class Programs(unittest.TestCase):
     """What the tests in tests/ run."""
 
