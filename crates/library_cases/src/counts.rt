@@ -47,7 +47,7 @@ pub fn write_diagnostics(alloc: Global, line: &mut Line, given: &str) -> Result<
 // The analysis of the files of the fields behind so many.
 fn analysis_of(alloc: Global, given: &str, behind: usize) -> Result<Analysis, AllocError> {
     let lent = pieces_of(alloc, given, behind)?;
-    analyse_here(alloc, lent.pieces())
+    analyse_here(alloc, lent.pieces(), false)
 }
 
 // Writes what is wrong in the files of some pieces, how many declarations there are, and how many parts of each file's names mean something.
@@ -67,23 +67,30 @@ fn write_by_texts(
     alloc: Global,
     line: &mut Line,
     pieces: &[Piece<FileWork>],
+    reads_others: bool,
 ) -> Result<(), AllocError>
     requires { Ascends pieces.now }
 {
     let files = texts_of(alloc, pieces)?;
-    let found = analyse_texts(alloc, files.as_slice())?;
+    let found = analyse_texts(alloc, files.as_slice(), reads_others)?;
     let mut own = Line::new(alloc);
     write_known(&mut own, &found, pieces);
     line.put_once("texts", own.as_str());
     Ok(())
 }
 
-/// Files: writes what an analysis finds, by their pieces and by their texts alone.
-pub fn write_analysis(alloc: Global, line: &mut Line, given: &str) -> Result<(), AllocError> {
+/// Files: writes what an analysis finds, by their pieces and by their texts alone. Texts that aren't proto3 are read for what they declare, or
+/// aren't.
+pub fn write_analysis(
+    alloc: Global,
+    line: &mut Line,
+    given: &str,
+    reads_others: bool,
+) -> Result<(), AllocError> {
     let lent = pieces_of(alloc, given, 1)?;
-    let found = analyse_here(alloc, lent.pieces())?;
+    let found = analyse_here(alloc, lent.pieces(), reads_others)?;
     write_known(line, &found, lent.pieces());
-    write_by_texts(alloc, line, lent.pieces())
+    write_by_texts(alloc, line, lent.pieces(), reads_others)
 }
 
 /// A query, and files: writes how many declarations match it.

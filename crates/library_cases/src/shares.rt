@@ -8,7 +8,7 @@ use proto_decls::Diag;
 use std::alloc::{AllocError, Global};
 use std::sync::Wait;
 use std::thread::Threads;
-use work_index::{Analysis, FileWork, analyse_in_shares};
+use work_index::{Analysis, AnalysisSettings, FileWork, analyse_in_shares};
 
 // Line and column of an offset, from 0.
 fn place(text: &str, offset: usize) -> (u64, u64) {
@@ -71,18 +71,18 @@ pub fn write_found(line: &mut Line, found: &Analysis, pieces: &[Piece<FileWork>]
     }
 }
 
-// Has so many threads analyse lent pieces, and writes the pieces that come back, how often each file came to the gate, and what is wrong
-// in each. Where the files meet, each waits for all others at the gate.
+// Has threads analyse lent pieces, and writes the pieces that come back, how often each file came to the gate, and what is wrong in each.
+// Where the files meet, each waits for all others at the gate.
 fn write_analysis<R: Threads + Wait>(
     rt: &R,
     alloc: Global,
     line: &mut Line,
     lent: Lent<FileWork>,
-    workers: usize,
+    settings: AnalysisSettings,
     meet: bool,
 ) -> Result<(), AllocError> {
     let gate = Visited::by(alloc, lent.pieces(), meet)?;
-    match analyse_in_shares(rt, alloc, lent, workers, &gate) {
+    match analyse_in_shares(rt, alloc, lent, settings, &gate) {
         Ok((lent, found)) => {
             write_pieces(line, lent.pieces());
             gate.write(line);
@@ -102,23 +102,28 @@ fn write_shares<R: Threads + Wait>(
     alloc: Global,
     line: &mut Line,
     given: &str,
-    workers: &str,
+    settings: AnalysisSettings,
 ) -> Result<(), AllocError> {
     let lent = pieces_of(alloc, given, 2)?;
-    write_analysis(rt, alloc, line, lent, number(workers) as usize, false)
+    write_analysis(rt, alloc, line, lent, settings, false)
 }
 
 /// Numbers of threads, and files: what comes of an analysis by so many threads. One answer stands for all numbers; one that differs
-/// is shown too.
+/// is shown too. Texts that aren't proto3 are read for what they declare, or aren't.
 pub fn answer<R: Threads + Wait>(
     rt: &R,
     alloc: Global,
     line: &mut Line,
     given: &str,
+    reads_others: bool,
 ) -> Result<(), AllocError> {
     for workers in field(given, 1).split(' ') {
         let mut own = Line::new(alloc);
-        write_shares(rt, alloc, &mut own, given, workers)?;
+        let settings = AnalysisSettings {
+            workers: number(workers) as usize,
+            reads_others,
+        };
+        write_shares(rt, alloc, &mut own, given, settings)?;
         line.put_once(workers, own.as_str());
     }
     Ok(())
@@ -132,6 +137,9 @@ pub fn meet<R: Threads + Wait>(
     given: &str,
 ) -> Result<(), AllocError> {
     let lent = pieces_of(alloc, given, 1)?;
-    let workers = lent.pieces().len();
-    write_analysis(rt, alloc, line, lent, workers, true)
+    let settings = AnalysisSettings {
+        workers: lent.pieces().len(),
+        reads_others: false,
+    };
+    write_analysis(rt, alloc, line, lent, settings, true)
 }

@@ -16,9 +16,9 @@ fn stretch(
 ) -> Result<PartTable, AllocError> {
     let third = pieces.len() / 3;
     match number {
-        '0' => PartTable::of(alloc, 0, &pieces[..third]),
-        '1' => PartTable::of(alloc, third, &pieces[third..2 * third]),
-        _ => PartTable::of(alloc, 2 * third, &pieces[2 * third..]),
+        '0' => PartTable::of(alloc, 0, &pieces[..third], false),
+        '1' => PartTable::of(alloc, third, &pieces[third..2 * third], false),
+        _ => PartTable::of(alloc, 2 * third, &pieces[2 * third..], false),
     }
 }
 

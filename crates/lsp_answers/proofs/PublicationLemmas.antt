@@ -11,7 +11,7 @@ use Rattle.lsp_rpc.specs.Notification.{publication_value}
 use Rattle.lsp_rpc.specs.Workspace.{DocumentData}
 use Rattle.work_files.specs.Files.{OpenDocument, File, Files, file_at, text_of, workspace}
 use Rattle.work_space.proofs.WorkspaceOrder.{Ascend, ascend-workspace}
-use Rattle.work_index.specs.Workspace.{analysis, diags_at}
+use Rattle.work_index.specs.Workspace.{SourceAt, analysis, diags_at, sources_of}
 use Rattle.lsp_answers.specs.Context.{Context}
 use Rattle.lsp_answers.specs.Diagnostics.{placed}
 use Rattle.lsp_answers.specs.Reports.{uri_of, version_of, report_of, workspace_reports, open_files, published_report, publications_in, PublicationsAgreeWithReports}
@@ -64,14 +64,15 @@ module _ (c : Context) where
   own_said e = said e (Some e.1)
 
   -- the reports of the files that have a text
-  abbrev report_at : List ℕ × List ℕ → DocumentData
-  report_at file = report_by file.0 (file_at file.0 c.files) file.1
+  abbrev report_at : SourceAt → DocumentData
+  report_at file = report_by file.0 (file_at file.0 c.files) file.1.text
 
-  reports-said : (files : Files) → map report_at (workspace files) ≡ filter_map (λ (s : Said). s.report) (map found_said files)
-  reports-said [] = refl
-  reports-said (e ∷ files) = by (text_of e.1) ∙ ap (cons_option (option_map (report_by e.0 (file_at e.0 c.files)) (text_of e.1))) (reports-said files)
+  reports-said : (reads_others : Bool) (files : Files) → map report_at (sources_of reads_others (workspace files)) ≡ filter_map (λ (s : Said). s.report) (map found_said files)
+  reports-said reads_others [] = refl
+  reports-said reads_others (e ∷ files) = by (text_of e.1) ∙ ap (cons_option (option_map (report_by e.0 (file_at e.0 c.files)) (text_of e.1))) (reports-said reads_others files)
     where
-      by : (text : Option (List ℕ)) → map report_at (cons_option (option_map (λ t. (e.0, t)) text) (workspace files)) ≡ cons_option (option_map (report_by e.0 (file_at e.0 c.files)) text) (map report_at (workspace files))
+      by : (text : Option (List ℕ)) → map report_at (sources_of reads_others (cons_option (option_map (λ t. (e.0, t)) text) (workspace files)))
+          ≡ cons_option (option_map (report_by e.0 (file_at e.0 c.files)) text) (map report_at (sources_of reads_others (workspace files)))
       by None = refl
       by (Some t) = refl
 
@@ -97,11 +98,11 @@ module _ (c : Context) where
       by (Some d) k a_document a_text others = rw a_document (ap (λ l. report_by e.0 (Some (record e.1 { document = Some d })) d.text ∷ l) others)
 
 pub publications_are_reports : PublicationsAgreeWithReports
-publications_are_reports c order is =
+publications_are_reports reads_others c order is =
     let w = c.workspace in
-    let ascend : Ascend w = subst Ascend (sym is) (ascend-workspace c.files order) in
-    let reports : workspace_reports c ≡ map (report_at c) w = by_path (λ diags file. report_of c diags file) (analysis w) w refl ascend in
+    let ascend : Ascend w = subst Ascend (sym is) (ascend-workspace reads_others c.files order) in
+    let reports : workspace_reports c ≡ map (report_at c) w = by_path (λ diags file. report_of c diags (file.0, file.1.text)) (analysis w) w refl ascend in
     let own : map (found_said c) c.files ≡ map (own_said c) c.files = own-values (said c) c.files order in
     published-said c c.files ∙ ap (filter_map published_of) own ∙ own-agree c c.files
     ∙ ap (λ l. filter has_version (filter_map (λ (s : Said). s.report) l)) (sym own)
-    ∙ ap (filter has_version) (sym (reports ∙ ap (map (report_at c)) is ∙ reports-said c c.files))
+    ∙ ap (filter has_version) (sym (reports ∙ ap (map (report_at c)) is ∙ reports-said c reads_others c.files))

@@ -1,5 +1,5 @@
 -- The reports of all files beside what is said of each document.
-use Rattle.std.proofs.Common.{◌≡◌, ℕ, zero, suc, ◌+◌, ◌<◌, List, [], ◌∷◌, ◌++◌, false, cond, Option, Some, length, map, take, nat_cmp, Less, Greater, refl, sym, ap, ap₂, subst, ◌∙◌, arith}
+use Rattle.std.proofs.Common.{◌≡◌, ℕ, zero, suc, ◌+◌, ◌<◌, List, [], ◌∷◌, ◌++◌, Bool, true, false, cond, Option, Some, length, map, option_map, take, nat_cmp, Less, Greater, refl, sym, ap, ap₂, subst, ◌∙◌, arith}
 use Rattle.std.specs.Prelude.{slice_index_or, bytes_eq, unwrap_or}
 use Rattle.std.specs.BTreeMap.{is_at}
 use Rattle.std.specs.List.{enumerate_from, position_from}
@@ -16,12 +16,12 @@ use Rattle.std.proofs.lemmas.Simd.{map-map}
 use Rattle.proto_decls.specs.declared.diagnostic.Diag.{Diag}
 use Rattle.lsp_rpc.specs.Diagnostic.{DiagnosticData}
 use Rattle.lsp_rpc.specs.Workspace.{DocumentData}
-use Rattle.work_files.specs.Files.{text_at}
+use Rattle.work_files.specs.Files.{text_at, workspace}
 use Rattle.work_files.proofs.PathOrder.{order-apart}
 use Rattle.work_space.proofs.WorkspaceOrder.{Ascend, ascend-workspace}
 use Rattle.work_update.proofs.ByPath.{AreBehind, paths}
 use Rattle.work_files.proofs.WorkspaceLemmas.{text_of_workspace}
-use Rattle.work_index.specs.Workspace.{Workspace, AnalysisData, analysis, diags_at}
+use Rattle.work_index.specs.Workspace.{Source, SourceAt, Workspace, AnalysisData, analysis, diags_at, no_file, sources_of}
 use Rattle.lsp_answers.specs.Diagnostics.{placed}
 use Rattle.lsp_answers.specs.Reports.{ReportsAgreeWithDocuments, numbered_report}
 
@@ -30,13 +30,13 @@ another_path p q less = sym (is_eq-slice_cmp p q) ∙ ap is_eq less
 
 -- ---- what is wrong in each file, by its number and by its path
 
-module _ {X : Type 0} (of : List Diag → List ℕ × List ℕ → X) (diags : List (List Diag)) where
+module _ {X : Type 0} (of : List Diag → SourceAt → X) (diags : List (List Diag)) where
   -- what is made of a file with a path among these, of which the first has the number n
-  abbrev found_from : ℕ → List (List ℕ) → List ℕ × List ℕ → X
+  abbrev found_from : ℕ → List (List ℕ) → SourceAt → X
   found_from n ps file = of (option_map_or (λ number. slice_index_or diags number []) (position_from (λ p. bytes_eq p file.0) n ps) []) file
 
   -- the same, given its number
-  abbrev found_at : ℕ × (List ℕ × List ℕ) → X
+  abbrev found_at : ℕ × SourceAt → X
   found_at file = of (slice_index_or diags file.0 []) file.1
 
   -- a path before those of the files is no file's
@@ -51,7 +51,7 @@ module _ {X : Type 0} (of : List Diag → List ℕ × List ℕ → X) (diags : L
       rw ((bytes_decides file.0 file.0).1 refl) (ap (λ l. found_at (n, file) ∷ l) (found-all (n + 1) w order.1 ∙ sym (pass-one n file.0 (paths w) w order.0)))
 
 -- what is made of each file by what an analysis says of its path
-pub by_path : {X : Type 0} (of : List Diag → List ℕ × List ℕ → X) (a : AnalysisData) (w : Workspace) → a.paths ≡ paths w → Ascend w
+pub by_path : {X : Type 0} (of : List Diag → SourceAt → X) (a : AnalysisData) (w : Workspace) → a.paths ≡ paths w → Ascend w
     → map (found_at of a.diagnostics) (enumerate_from 0 w) ≡ map (λ file. of (diags_at a file.0) file) w
 by_path of a w same ascend =
     found-all of a.diagnostics 0 w ascend
@@ -78,31 +78,45 @@ module _ {V X : Type 0} (of : List ℕ × V → Option V → X) where
       let own = is_eq-slice_cmp e.0 e.0 ∙ (bytes_decides e.0 e.0).1 refl in
       ap₂ ◌∷◌ (ap (λ b. of e (cond b (Some e.1) (value_in w e.0))) own) (pass-value e w w order.0 ∙ own-values w order.1)
 
+-- the text of a source is what stands at its path
+abbrev text_in : Option Source → Option (List ℕ)
+text_in source = option_map (λ (s : Source). s.text) source
+
+texts-in-sources : (reads_others : Bool) (path : List ℕ) (files : List (List ℕ × List ℕ)) → text_in (value_in (sources_of reads_others files) path) ≡ value_in files path
+texts-in-sources reads_others path [] = refl
+texts-in-sources reads_others path (file ∷ files) = by (is_at (slice_cmp nat_cmp path) file.0) (texts-in-sources reads_others path files)
+  where
+    by : (here : Bool) → text_in (value_in (sources_of reads_others files) path) ≡ value_in files path
+        → text_in (cond here (Some (record { text = file.1; reads_others = reads_others })) (value_in (sources_of reads_others files) path)) ≡ cond here (Some file.1) (value_in files path)
+    by true rest = refl
+    by false rest = rest
+
 pub reports_of_documents : ReportsAgreeWithDocuments
-reports_of_documents c order is =
+reports_of_documents reads_others c order is =
     let e = c.encoding in
     let w = c.workspace in
     let a = analysis w in
-    let ascend : Ascend w = subst Ascend (sym is) (ascend-workspace c.files order) in
-    let said : List Diag → List ℕ × List ℕ → List DiagnosticData = λ diags file. placed e file.1 diags in
-    let of : List ℕ × List ℕ → Option (List ℕ) → List DiagnosticData = λ file text. placed e (unwrap_or text []) (diags_at a file.0) in
-    let text : (path : List ℕ) → value_in w path ≡ text_at path c.files = λ path. ap (λ v. value_in v path) is ∙ text_of_workspace path c.files (order-apart c.files order) in
+    let ascend : Ascend w = subst Ascend (sym is) (ascend-workspace reads_others c.files order) in
+    let said : List Diag → SourceAt → List DiagnosticData = λ diags file. placed e file.1.text diags in
+    let of : SourceAt → Option (List ℕ) → List DiagnosticData = λ file text. placed e (unwrap_or text []) (diags_at a file.0) in
+    let text : (path : List ℕ) → text_in (value_in w path) ≡ text_at path c.files =
+    λ path. ap (λ v. text_in (value_in v path)) is ∙ texts-in-sources reads_others path (workspace c.files) ∙ text_of_workspace path c.files (order-apart c.files order) in
     map-map (λ (report : DocumentData). report.diagnostics) (numbered_report c) (enumerate_from 0 w) ∙ by_path said a w refl ascend
-    ∙ sym (own-values of w ascend) ∙ ap (λ f. map f w) (λ i file. of file (text file.0 i))
+    ∙ sym (own-values (λ file source. of file (text_in source)) w ascend) ∙ ap (λ f. map f w) (λ i file. of file (text file.0 i))
 
 -- ---- one report more
 
-enumerate-more : (n : ℕ) (w : Workspace) (i : ℕ) → i < length w → enumerate_from n (take (suc i) w) ≡ enumerate_from n (take i w) ++ (n + i, slice_index_or w i ([], [])) ∷ []
+enumerate-more : (n : ℕ) (w : Workspace) (i : ℕ) → i < length w → enumerate_from n (take (suc i) w) ≡ enumerate_from n (take i w) ++ (n + i, slice_index_or w i no_file) ∷ []
 enumerate-more n [] i there = absurd (omega (arith, there))
 enumerate-more n (file ∷ w) zero there = let same : n ≡ n + 0 = omega arith in ap (λ m. (m, file) ∷ []) same
 enumerate-more n (file ∷ w) (suc i) there =
     let same : n + 1 + i ≡ n + suc i = omega arith in
-    ap (λ l. (n, file) ∷ l) (enumerate-more (n + 1) w i (omega (arith, there)) ∙ ap (λ m. enumerate_from (n + 1) (take i w) ++ (m, slice_index_or w i ([], [])) ∷ []) same)
+    ap (λ l. (n, file) ∷ l) (enumerate-more (n + 1) w i (omega (arith, there)) ∙ ap (λ m. enumerate_from (n + 1) (take i w) ++ (m, slice_index_or w i no_file) ∷ []) same)
 
-pub reports-more : {X : Type 0} (f : ℕ × (List ℕ × List ℕ) → X) (w : Workspace) (i : ℕ) → i < length w → map f (enumerate_from 0 (take (i + 1) w)) ≡ map f (enumerate_from 0 (take i w)) ++ f (i, slice_index_or w i ([], [])) ∷ []
+pub reports-more : {X : Type 0} (f : ℕ × SourceAt → X) (w : Workspace) (i : ℕ) → i < length w → map f (enumerate_from 0 (take (i + 1) w)) ≡ map f (enumerate_from 0 (take i w)) ++ f (i, slice_index_or w i no_file) ∷ []
 reports-more f w i there =
     let count : i + 1 ≡ suc i = omega arith in
     let number : 0 + i ≡ i = omega arith in
     let first = enumerate_from 0 (take i w) in
-    let file = slice_index_or w i ([], []) in
+    let file = slice_index_or w i no_file in
     ap (λ k. map f (enumerate_from 0 (take k w))) count ∙ ap (map f) (enumerate-more 0 w i there ∙ ap (λ k. first ++ (k, file) ∷ []) number) ∙ map-append f first ((i, file) ∷ [])

@@ -28,7 +28,7 @@ use Rattle.lsp_rpc.specs.declared.symbol.SymbolKind.{SymbolKind}
 use Rattle.lsp_rpc.specs.declared.symbol.SymbolKind.TheVariants as kind
 use Rattle.work_files.specs.Files.{file_at}
 use Rattle.proto_names.specs.declared.decl_ref.DeclRef.{DeclRef}
-use Rattle.work_index.specs.Workspace.{Workspace, AnalysisData, analysis}
+use Rattle.work_index.specs.Workspace.{SourceAt, Workspace, AnalysisData, analysis, no_file}
 use Rattle.lsp_answers.specs.Context.{Context}
 use Rattle.lsp_answers.specs.Ranges.{range_of}
 use Rattle.lsp_answers.specs.Reports.{uri_of}
@@ -58,8 +58,8 @@ declarations a rs = filter_map (λ r. option_map (λ d. (place r.file d.name_spa
 -- ---- places
 
 -- a file of the workspace, with its text
-abbrev pub file_of : Workspace → ℕ → List ℕ × List ℕ
-file_of w file = slice_index_or w file ([], [])
+abbrev pub file_of : Workspace → ℕ → SourceAt
+file_of w file = slice_index_or w file no_file
 
 -- the number of the file with a path
 abbrev pub number_of : Workspace → List ℕ → Option ℕ
@@ -84,7 +84,7 @@ module _ (c : Context) where
 
   -- places in a file, as ranges of its document
   abbrev pub ranges_in : ℕ → List Place → List Range
-  ranges_in file places = map (place_range c.encoding (file_of c.workspace file).1) places
+  ranges_in file places = map (place_range c.encoding (file_of c.workspace file).1.text) places
 
   abbrev pub document_of : ℕ × List Place → List ℕ × List Range
   document_of g = (uri_at g.0, ranges_in g.0 g.1)
@@ -94,7 +94,7 @@ module _ (c : Context) where
 
   -- a place, in its document
   abbrev pub location_of : Place → LocationData
-  location_of p = record { range = place_range c.encoding (file_of c.workspace p.file).1 p; uri = uri_at p.file }
+  location_of p = record { range = place_range c.encoding (file_of c.workspace p.file).1.text p; uri = uri_at p.file }
 
   -- the declaration that the name at a place stands for: `None` if there is none
   abbrev pub definition_at : DocumentPlaceData → Option (List LocationData)

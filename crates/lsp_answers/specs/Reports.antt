@@ -1,12 +1,12 @@
 -- What is wrong in the files of a workspace, as the editor gets it.
-use Rattle.std.specs.Prelude.{◌≡◌, ℕ, ℤ, List, [], ◌∷◌, Option, Some, is_some, option_map, option_and_then, unwrap_or, map, filter, slice_index_or}
+use Rattle.std.specs.Prelude.{◌≡◌, ℕ, ℤ, List, [], ◌∷◌, Bool, Option, Some, is_some, option_map, option_and_then, unwrap_or, map, filter, slice_index_or}
 use Rattle.std.specs.List.{enumerate_from}
 use Rattle.serde_json.specs.Data.{Data}
 use Rattle.lsp_rpc.specs.Diagnostic.{DiagnosticData}
 use Rattle.lsp_rpc.specs.Notification.{publication_value}
 use Rattle.lsp_rpc.specs.Workspace.{DocumentData}
 use Rattle.proto_decls.specs.declared.diagnostic.Diag.{Diag}
-use Rattle.work_index.specs.Workspace.{analysis, diags_at}
+use Rattle.work_index.specs.Workspace.{SourceAt, analysis, diags_at, sources_of}
 use Rattle.workspace_uri.specs.Uri.{file_uri, root_text_at}
 use Rattle.work_files.specs.Files.{File, Files, file_at, text_at, workspace, AreInPathOrder}
 use Rattle.lsp_answers.specs.Context.{Context}
@@ -37,8 +37,8 @@ report_of c diags file = record {
 }
 
 -- the same, given its number in the workspace
-abbrev pub numbered_report : Context → ℕ × (List ℕ × List ℕ) → DocumentData
-numbered_report c file = report_of c (let a = analysis c.workspace in slice_index_or a.diagnostics file.0 []) file.1
+abbrev pub numbered_report : Context → ℕ × SourceAt → DocumentData
+numbered_report c file = report_of c (let a = analysis c.workspace in slice_index_or a.diagnostics file.0 []) (file.1.0, file.1.1.text)
 
 -- the reports of all files of the workspace, by path
 abbrev pub workspace_reports : Context → List DocumentData
@@ -76,9 +76,9 @@ ReportsAreOfDocuments c = map (λ report. report.diagnostics) (workspace_reports
 abbrev pub PublicationsAreReports : Context → Type 0
 PublicationsAreReports c = map (published_report c) (open_files c.files) ≡ filter (λ report. is_some report.version) (workspace_reports c)
 
--- so it is where the paths of the files ascend, and the workspace is those that have a text
+-- so it is where the paths of the files ascend, and the workspace is those that have a text, which are all read alike
 abbrev pub ReportsAgreeWithDocuments : Type 0
-ReportsAgreeWithDocuments = (c : Context) → AreInPathOrder c.files → c.workspace ≡ workspace c.files → ReportsAreOfDocuments c
+ReportsAgreeWithDocuments = (reads_others : Bool) (c : Context) → AreInPathOrder c.files → c.workspace ≡ sources_of reads_others (workspace c.files) → ReportsAreOfDocuments c
 
 abbrev pub PublicationsAgreeWithReports : Type 0
-PublicationsAgreeWithReports = (c : Context) → AreInPathOrder c.files → c.workspace ≡ workspace c.files → PublicationsAreReports c
+PublicationsAgreeWithReports = (reads_others : Bool) (c : Context) → AreInPathOrder c.files → c.workspace ≡ sources_of reads_others (workspace c.files) → PublicationsAreReports c

@@ -1,9 +1,9 @@
 // The diagnostics of documents, as the editor gets them.
-ghost use Rattle.std.specs.Prelude.{◌≡◌, ◌<◌, [], length, map, option_map, slice_index_or, string_bytes, IfOk};
+ghost use Rattle.std.specs.Prelude.{◌≡◌, ◌<◌, length, map, option_map, slice_index_or, string_bytes, IfOk};
 ghost use Rattle.std.specs.List.{enumerate_from};
 ghost use Rattle.lsp_rpc.specs.Diagnostic.{diagnostic_view};
 ghost use Rattle.lsp_rpc.specs.Workspace.{document_view};
-ghost use Rattle.work_index.specs.Workspace.{analysis, diags_at};
+ghost use Rattle.work_index.specs.Workspace.{analysis, diags_at, no_file};
 ghost use Rattle.work_files.specs.Files.{file_at};
 ghost use Rattle.work_files.specs.View.{file_view};
 ghost use Rattle.lsp_answers.specs.Reports as spec;
@@ -114,7 +114,7 @@ impl<'s> Answers<'s> {
     // The report of a file of the workspace, given its number.
     fn numbered_report(&self, number: usize) -> Result<DocumentReport<'static>, AllocError>
         requires { number < length self.now.workspace }
-        ensures { IfOk result (λ found. document_view found ≡ spec.numbered_report self.now (number, slice_index_or self.now.workspace number ([], []))) }
+        ensures { IfOk result (λ found. document_view found ≡ spec.numbered_report self.now (number, slice_index_or self.now.workspace number no_file)) }
     {
         let snapshot = self.snapshot;
         let file = (snapshot.path(number), snapshot.text(number));

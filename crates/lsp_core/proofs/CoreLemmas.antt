@@ -21,7 +21,6 @@ use Rattle.lsp_rpc.specs.declared.method.Method.TheVariants.{DidOpen, DidChange,
 use Rattle.work_index.specs.declared.done.Done.{Done}
 use Rattle.work_index.specs.declared.done.Done.TheVariants as job
 use Rattle.work_files.specs.Files.{Files, text_at, workspace}
-use Rattle.work_index.specs.Workspace.{Workspace}
 use Rattle.work_space.specs.View.{WorkspaceData}
 use Rattle.work_files.specs.Texts.{is_open}
 use Rattle.work_space.specs.BoardTexts.{text_event, event_at, events_at}
@@ -293,9 +292,9 @@ done-all h all = take_all (processed h) (messages h) (omega (arith, all))
 
 -- ---- no path is out before the first message
 
-none-out-set : (o : ℕ) → OnlyJobsMakePathsOut → (w : Workspace) (events : List work.Event) → NoneIsOut o events → NoneIsOut o (fold (λ es file. work.SetText file.0 file.1 ∷ es) events w)
+none-out-set : (o : ℕ) → OnlyJobsMakePathsOut → (files : List (List ℕ × List ℕ)) (events : List work.Event) → NoneIsOut o events → NoneIsOut o (fold (λ es file. work.SetText file.0 file.1 ∷ es) events files)
 none-out-set o only [] events none = none
-none-out-set o only (file ∷ w) events none = none-out-set o only w (work.SetText file.0 file.1 ∷ events) (λ p out. none p (only o (work.SetText file.0 file.1) events (λ e. cc) p out))
+none-out-set o only (file ∷ files) events none = none-out-set o only files (work.SetText file.0 file.1 ∷ events) (λ p out. none p (only o (work.SetText file.0 file.1) events (λ e. cc) p out))
 
 pub none-out-first : (o : ℕ) (config : Configuration) → OnlyJobsMakePathsOut → NoneIsOut o (board_events config [])
 none-out-first o config only = none-out-set o only (workspace (files_of config)) [] (λ p out. out)
@@ -463,11 +462,11 @@ same-gives : {X : Type 0} (f : List Event → X) → ((h : List Event) → f (Gi
 same-gives f same zero h = refl
 same-gives f same (suc n) h = same (replicate n Give ++ h) ∙ same-gives f same n h
 
--- a state of a session is that of its files
-pub same-state : (s : Session) (old new : WorkspaceData) → new.files ≡ old.files → state_of s new ≡ state_of s old
-same-state s old new same =
-    let fresh : Files → State = λ files. record { roots = roots_of s; client = client_view s.client; phase = s.phase; files = files } in
-    ap fresh same
+-- a state of a session is that of its files, and of how they are read
+pub same-state : (s : Session) (old new : WorkspaceData) → new.files ≡ old.files → new.reads_others ≡ old.reads_others → state_of s new ≡ state_of s old
+same-state s old new same others =
+    let fresh : Files → Bool → State = λ files reads_others. record { roots = roots_of s; client = client_view s.client; phase = s.phase; files = files; reads_others = reads_others } in
+    ap₂ fresh same others
 
 -- only the board has changed
 module _ (o : ℕ) (config : Configuration) (old new : CoreState) (h : List Event) (state : new.state ≡ old.state) (queue : new.queue ≡ old.queue) (pending : new.pending ≡ old.pending) (after : IsAfter o config old h) where

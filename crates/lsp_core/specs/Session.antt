@@ -18,6 +18,7 @@ use Rattle.workspace_uri.specs.Uri as uri
 use Rattle.work_config.specs.Configuration.{Configuration, files_of}
 use Rattle.work_files.specs.Files.{Files, workspace, opened_files, changed_files, saved_files, closed_files, root_at, file_at, text_at, AreInPathOrder, HasTextsOfWorkspace}
 use Rattle.work_files.specs.Texts.{is_open}
+use Rattle.work_index.specs.Workspace.{sources_of}
 use Rattle.lsp_answers.specs.Context.{Context}
 use Rattle.lsp_answers.specs.Questions as questions
 use Rattle.lsp_answers.specs.Questions.{DocumentPlaceData, QuestionData}
@@ -25,12 +26,14 @@ use Rattle.lsp_answers.specs.Reports.{publications, ReportsAreOfDocuments, Publi
 use Rattle.lsp_core.specs.declared.phase.Phase.{Phase}
 use Rattle.lsp_core.specs.declared.phase.Phase.TheVariants.{Uninitialized, Running, Shut, Exited}
 
--- the texts of the roots, what the client can do, how far the session has come, and the files that it knows
+-- the texts of the roots, what the client can do, how far the session has come, the files that it knows, and whether texts that aren't proto3 are
+-- read for what they declare
 pub record State : Type 0 where
   pub roots : List (List ℕ)
   pub client : ClientData
   pub phase : Phase
   pub files : Files
+  pub reads_others : Bool
 
 -- what is still to be answered to a message that has begun: replies that are known at once; a question about the files that the
 -- message leaves; what is wrong in each open document; or, under the URI of its last open, that nothing is wrong in one that was closed
@@ -235,13 +238,13 @@ turn s m = turn_in s.phase s m
 
 -- the state before the first message: nothing is known of the client, no document is open, and the texts of the files on disk are kept
 abbrev pub start : Configuration → State
-start config = record { roots = config.roots; client = default_client; phase = Uninitialized; files = files_of config }
+start config = record { roots = config.roots; client = default_client; phase = Uninitialized; files = files_of config; reads_others = config.reads_others }
 
 -- ---- replies
 
 -- what answers are made from: the files as they are, and the encoding of the client
 abbrev pub context_of : State → Context
-context_of s = record { roots = s.roots; encoding = s.client.encoding; files = s.files; workspace = workspace s.files }
+context_of s = record { roots = s.roots; encoding = s.client.encoding; files = s.files; workspace = sources_of s.reads_others (workspace s.files) }
 
 -- a publication that nothing is wrong in the document with a URI, which has no version any more
 abbrev pub clearing : List ℕ → Data

@@ -26,9 +26,9 @@ roots_of s = roots_texts s.roots
 abbrev pub phase_of : Session → Phase
 phase_of s = s.phase
 
--- the state of a session whose files are those of a workspace
+-- the state of a session whose files, and how they are read, are those of a workspace
 abbrev pub state_of : Session → WorkspaceData → State
-state_of s w = record { roots = roots_of s; client = client_view s.client; phase = s.phase; files = w.files }
+state_of s w = record { roots = roots_of s; client = client_view s.client; phase = s.phase; files = w.files; reads_others = w.reads_others }
 
 abbrev pub pending_view : kept.Pending → Pending
 pending_view left.Nothing = Now []

@@ -54,7 +54,7 @@ impl Session {
 
     /// The session before its first message.
     pub fn new(alloc: Global, roots: Roots) -> Session
-        ensures { (w : WorkspaceData) → state_of result w ≡ record { roots = roots_texts roots; client = default_client; phase = Phase.Uninitialized; files = w.files } }
+        ensures { (w : WorkspaceData) → state_of result w ≡ record { roots = roots_texts roots; client = default_client; phase = Phase.Uninitialized; files = w.files; reads_others = w.reads_others } }
     {
         Session {
             alloc,

@@ -68,8 +68,9 @@ impl Core {
         ensures threads { IfErr result ComesWithoutThreads }
         ensures exhausted { result ≡ Err CoreFault.Exhausted → StampsRunOut stamp (length (workspace (files_of config))) }
     {
+        let reads_others = config.reads_others();
         let (roots, disk_files) = config.into_parts()?;
-        let workspace = Workspace::from_disk(alloc, disk_files, stamp)?;
+        let workspace = Workspace::from_disk(alloc, disk_files, stamp, reads_others)?;
         Ok(Core {
             alloc,
             session: Session::new(alloc, roots),

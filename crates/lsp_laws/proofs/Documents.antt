@@ -28,7 +28,7 @@ changes-are : (e : Encoding) (name text : List ℕ) (places : List Place) → ch
 changes-are e name text [] = refl
 changes-are e name text (p ∷ more) = ap (λ l. change_of e name text p ∷ l) (changes-are e name text more)
 
-module _ (group : GroupsAreTheFiles) (ascend : PlacesAscend) (change : RenamesChangeTheNames) (c : Context) (at : DocumentPlaceData) (new_name : List ℕ) (documents : List (List ℕ × List Range)) (utf8 : All (λ file. IsUtf8 file.1) c.workspace) where
+module _ (group : GroupsAreTheFiles) (ascend : PlacesAscend) (change : RenamesChangeTheNames) (c : Context) (at : DocumentPlaceData) (new_name : List ℕ) (documents : List (List ℕ × List Range)) (utf8 : All (λ file. IsUtf8 file.1.text) c.workspace) where
   of_places : (asked : ℕ) (places : List Place) → number_of c.workspace at.path ≡ Some asked → renamed (analysis c.workspace) asked at.offset new_name ≡ Ok places → documents_of c places ≡ documents → AreRespelled c at new_name documents
   of_places asked places named is are =
       let w = c.workspace in

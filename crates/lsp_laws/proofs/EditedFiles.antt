@@ -8,9 +8,10 @@ use Rattle.std.proofs.lemmas.List.{get_or_default}
 use Rattle.std.proofs.lemmas.List.Elements.{All-contains, All-head, All-map, All-tail}
 use Rattle.doc_text.specs.declared.position.Range.{Range}
 use Rattle.proto_laws.proofs.Holders.{cases_in}
-use Rattle.work_index.specs.Workspace.{analysis}
+use Rattle.work_index.specs.Workspace.{SourceAt, analysis, no_file}
 use Rattle.work_index.proofs.Known.{known_workspace}
 use Rattle.work_update.specs.Bindings.{SameMeaning}
+use Rattle.work_update.specs.Edited.{with_text}
 use Rattle.lsp_renames.specs.Edited.{edited, places_in, respelled}
 use Rattle.lsp_queries.specs.Offsets.{symbol_at}
 use Rattle.lsp_queries.specs.PlaceLaws.{PlacesLieInTheTexts, text_in}
@@ -78,28 +79,28 @@ module _ (c : Context) (new_name : List ℕ) (places : List Place) (n : ℕ) whe
 -- ---- all files
 
 module _ (c : Context) (at : DocumentPlaceData) (new_name : List ℕ) (documents : List (List ℕ × List Range)) (h : AreRespelled c at new_name documents) where
-  abbrev made_of : ℕ × (List ℕ × List ℕ) → List ℕ × List ℕ
-  made_of e = (e.1.0, changed_from_the_last c.encoding (changes_with new_name (ranges_of c h.groups e.0)) e.1.1)
+  abbrev made_of : ℕ × SourceAt → SourceAt
+  made_of e = (e.1.0, with_text e.1.1 (changed_from_the_last c.encoding (changes_with new_name (ranges_of c h.groups e.0)) e.1.1.text))
 
-  abbrev spelled_of : ℕ × (List ℕ × List ℕ) → List ℕ × List ℕ
-  spelled_of e = (e.1.0, respelled new_name e.1.1 (places_in e.0 h.places))
+  abbrev spelled_of : ℕ × SourceAt → SourceAt
+  spelled_of e = (e.1.0, with_text e.1.1 (respelled new_name e.1.1.text (places_in e.0 h.places)))
 
   files-spelled : with_new_name c new_name (ranges_of c h.groups) ≡ edited new_name h.places c.workspace
   files-spelled = numbered made_of spelled_of 0 c.workspace (λ i d lt. at_file i d lt)
     where
-      at_file : (i : ℕ) (d : List ℕ × List ℕ) → i < length c.workspace → made_of (0 + i, get_or c.workspace i d) ≡ spelled_of (0 + i, get_or c.workspace i d)
+      at_file : (i : ℕ) (d : SourceAt) → i < length c.workspace → made_of (0 + i, get_or c.workspace i d) ≡ spelled_of (0 + i, get_or c.workspace i d)
       at_file i d lt =
-          let file : get_or c.workspace i d ≡ get_or c.workspace i ([], []) = get_or_default c.workspace i d ([], []) lt in
+          let here : SourceAt = get_or c.workspace i no_file in
+          let file : get_or c.workspace i d ≡ here = get_or_default c.workspace i d no_file lt in
           let own = file-made c new_name h.places i h.groups h.edited (all-of_groups h.places i h.groups h.by_files) in
           subst (λ f. made_of (0 + i, f) ≡ spelled_of (0 + i, f)) (sym file)
-          (subst (λ n. made_of (n, get_or c.workspace i ([], [])) ≡ spelled_of (n, get_or c.workspace i ([], []))) (sym (zero-add i))
-          (ap (λ text. ((get_or c.workspace i ([], [])).0, text)) own))
+          (subst (λ n. made_of (n, here) ≡ spelled_of (n, here)) (sym (zero-add i)) (ap (λ text. (here.0, with_text here.1 text)) own))
 
   kept : KeepsMeaning (analysis c.workspace) h.places new_name → SameMeaning (analysis c.workspace) (analysis (edited new_name h.places c.workspace))
   unfolding analysis_after
   kept keeps = subst (λ w. SameMeaning (analysis c.workspace) (analysis (edited new_name h.places w))) (known_workspace c.workspace) keeps
 
-  documents-edit : All (λ file. IsUtf8 file.1) c.workspace → RenamesKeepMeaning → PlacesLieInTheTexts → EditTheWorkspace c at new_name documents
+  documents-edit : All (λ file. IsUtf8 file.1.text) c.workspace → RenamesKeepMeaning → PlacesLieInTheTexts → EditTheWorkspace c at new_name documents
   documents-edit utf8 keep within =
       let rename = renamed-places c.workspace (symbol_at (analysis c.workspace) h.asked at.offset) new_name h.places h.answered in
       let inside : All (λ p. p.file < length c.workspace) h.places =

@@ -13,6 +13,8 @@ use Rattle.lsp_queries.specs.declared.place.Place.{Place}
 use Rattle.lsp_queries.proofs.Pairs.{pairs-head, pairs-tail}
 use Rattle.lsp_answers.specs.Answers.{DocumentPlaceData, document_of, edits_at, ranges_in, rename_reply, uri_at}
 use Rattle.lsp_answers.specs.Context.{Context}
+use Rattle.work_index.specs.Workspace.{SourceAt}
+use Rattle.work_update.specs.Edited.{with_text}
 use Rattle.work_laws.specs.EditLaws.{changed_from_the_last}
 use Rattle.lsp_laws.specs.DocumentLaws.{EditTheWorkspace, EditUnderUris, IsRenamed, RenamesEditTheWorkspace, RenamesEditUnderUris, UrisDiffer, changes_with, ranges_of, ranges_under, with_new_name}
 use Rattle.lsp_laws.proofs.EditedFiles.{numbered}
@@ -77,13 +79,13 @@ module _ (c : Context) (at : DocumentPlaceData) (new_name : List ℕ) (documents
   ranges-same : UrisDiffer c → (n : ℕ) → n < length c.workspace → ranges_under c documents n ≡ ranges_of c h.respelled.groups n
   ranges-same differ n lt = under-uri (uri_at c n) ∙ ranges-own c differ n lt h.respelled.groups h.respelled.by_files.once h.there
 
-  abbrev made_by : (ℕ → List Range) → ℕ × (List ℕ × List ℕ) → List ℕ × List ℕ
-  made_by ranges e = (e.1.0, changed_from_the_last c.encoding (changes_with new_name (ranges e.0)) e.1.1)
+  abbrev made_by : (ℕ → List Range) → ℕ × SourceAt → SourceAt
+  made_by ranges e = (e.1.0, with_text e.1.1 (changed_from_the_last c.encoding (changes_with new_name (ranges e.0)) e.1.1.text))
 
   same-made : UrisDiffer c → with_new_name c new_name (ranges_under c documents) ≡ with_new_name c new_name (ranges_of c h.respelled.groups)
   same-made differ =
       numbered (made_by (ranges_under c documents)) (made_by (ranges_of c h.respelled.groups)) 0 c.workspace
-      (λ i d lt. ap (λ ranges. ((get_or c.workspace i d).0, changed_from_the_last c.encoding (changes_with new_name ranges) (get_or c.workspace i d).1)) (ranges-same differ (0 + i) (omega (arith, lt))))
+      (λ i d lt. let file : SourceAt = get_or c.workspace i d in ap (λ ranges. (file.0, with_text file.1 (changed_from_the_last c.encoding (changes_with new_name ranges) file.1.text))) (ranges-same differ (0 + i) (omega (arith, lt))))
 
   uris-edit : UrisDiffer c → edits_at c at new_name ≡ Ok documents → EditUnderUris c at new_name documents
   uris-edit differ given =

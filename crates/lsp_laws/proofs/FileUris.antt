@@ -1,6 +1,6 @@
 -- Whatever messages came, the URI of each file leads back to its path.
 use Rattle.std.proofs.Common.{◌≡◌, ◌∙◌, ℕ, suc, ℤ, ◌<◌, Bool, true, false, cond, List, [], ◌∷◌, ◌++◌, Option, Some, None, length, get_or, take, drop, filter, fold, refl, sym, ap, subst, arith, drop-cons, length-take-le, take-append-drop}
-use Rattle.std.specs.Prelude.{All, ◌==◌, bytes_eq, option_and_then}
+use Rattle.std.specs.Prelude.{All, ◌==◌, bytes_eq, option_and_then, option_map}
 use Rattle.std.specs.Cmp.Lexicographic.{bytes_decides}
 use Rattle.std.specs.List.{flat_map, range_with_len}
 use Rattle.std.specs.Map.{lookup, remove_entry}
@@ -15,13 +15,14 @@ use Rattle.lsp_rpc.specs.Message.{IdData, MessageData, parse_error, invalid_requ
 use Rattle.lsp_rpc.specs.Params.{OpenedDocument, ChangedDocument, opened_of, changed_of}
 use Rattle.lsp_rpc.specs.declared.method.Method.{Method}
 use Rattle.lsp_rpc.specs.declared.method.Method.TheVariants.{Initialize, Shutdown, Exit, DidOpen, DidChange, DidSave, DidClose, DocumentDiagnostic, WorkspaceDiagnostic, WorkspaceSymbol, Definition, References, Rename}
-use Rattle.work_index.specs.Workspace.{Workspace}
+use Rattle.work_index.specs.Workspace.{Workspace, no_file, sources_of}
 use Rattle.work_update.proofs.ByPath.{one_place, text-at}
+use Rattle.work_update.proofs.Updates.{read_as}
 use Rattle.work_config.specs.Configuration.{Configuration, in_root_order}
 use Rattle.work_files.specs.Disk.{FileData}
 use Rattle.work_files.specs.Files.{OpenDocument, File, Files, empty_file, file_at, root_at, text_of, text_at, workspace, with_file, set_file, without_file, AreInPathOrder, disk_file, from_disk, opened_file, opened_at, opened_files, with_document, with_open_file, changed_file, changed_files, saved_file, saved_files, closed_at, closed_files}
 use Rattle.work_files.specs.Roots.{FoundFilesAreKept, FoundFilesStayKept, RootsAreAsBefore, RootsStay}
-use Rattle.work_space.proofs.Held.{text_in_workspace}
+use Rattle.work_space.proofs.Held.{source_in_workspace}
 use Rattle.work_files.proofs.PathOrder.{changed_files-order, closed_files-order, from_disk-order, opened_files-order, saved_files-order}
 use Rattle.work_space.proofs.WorkspaceOrder.{ascend-workspace}
 use Rattle.work_files.proofs.TextChanges.{file-set, file-with, file-without, file_by_bytes, same_test}
@@ -228,25 +229,25 @@ module _ (stay : RootsStay) (keep : FoundFilesStayKept) where
 
 module _ (s : State) (good : IsGood s) where
   abbrev known : Workspace
-  known = workspace s.files
+  known = sources_of s.reads_others (workspace s.files)
 
   abbrev path_at : ℕ → List ℕ
-  path_at n = (get_or (workspace s.files) n ([], [])).0
+  path_at n = (get_or (sources_of s.reads_others (workspace s.files)) n no_file).0
 
-  has-text : (n : ℕ) → n < length known → text_at (path_at n) s.files ≡ Some (get_or known n ([], [])).1
-  has-text n lt = sym (text_in_workspace s.files good.order (path_at n)) ∙ text-at known n ([], []) (ascend-workspace s.files good.order) lt
+  has-text : (n : ℕ) → n < length known → option_map (read_as s.reads_others) (text_at (path_at n) s.files) ≡ Some (get_or known n no_file).1
+  has-text n lt = sym (source_in_workspace s.reads_others s.files good.order (path_at n)) ∙ text-at known n no_file (ascend-workspace s.reads_others s.files good.order) lt
 
   leads-back : (n : ℕ) → n < length known → path_of s (uri_at (context_of s) n) ≡ Some (path_at n)
   leads-back n lt = by (file_at (path_at n) s.files) refl (has-text n lt)
     where
-      by : (o : Option File) → file_at (path_at n) s.files ≡ o → option_and_then text_of o ≡ Some (get_or known n ([], [])).1 → path_of s (uri_of s.roots (path_at n) o) ≡ Some (path_at n)
+      by : (o : Option File) → file_at (path_at n) s.files ≡ o → option_map (read_as s.reads_others) (option_and_then text_of o) ≡ Some (get_or known n no_file).1 → path_of s (uri_of s.roots (path_at n) o) ≡ Some (path_at n)
       by None found text = absurd (cc (text))
       by (Some f) found text = good.lead (path_at n) f found
 
   uris-differ : UrisDiffer (context_of s)
   uris-differ m n first second same =
       let paths : Some (path_at m) ≡ Some (path_at n) = sym (leads-back m first) ∙ ap (path_of s) same ∙ leads-back n second in
-      one_place known m n ([], []) (ascend-workspace s.files good.order) first second (cc (paths))
+      one_place known m n no_file (ascend-workspace s.reads_others s.files good.order) first second (cc (paths))
 
 pub uris-stay : RootsStay → FoundFilesStayKept → UrisStayApart
 uris-stay stay keep config bodies lead =

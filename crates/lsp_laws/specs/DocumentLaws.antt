@@ -6,6 +6,7 @@ use Rattle.doc_text.specs.declared.position.Range.{Range}
 use Rattle.doc_text.specs.Edits.{ChangeData}
 use Rattle.work_index.specs.Workspace.{Workspace, analysis}
 use Rattle.work_update.specs.Bindings.{SameMeaning}
+use Rattle.work_update.specs.Edited.{with_text}
 use Rattle.lsp_renames.specs.ByFile.{by_file}
 use Rattle.lsp_renames.specs.Edited.{edited, places_in, respelled}
 use Rattle.lsp_queries.specs.PlaceLaws.{text_in}
@@ -52,14 +53,14 @@ pub record AreRespelled (c : Context) (at : DocumentPlaceData) (new_name : List 
 
 abbrev pub RenamesRespellDocuments : Type 0
 RenamesRespellDocuments =
-    (c : Context) (at : DocumentPlaceData) (new_name : List ℕ) (documents : List (List ℕ × List Range)) → All (λ file. IsUtf8 file.1) c.workspace
+    (c : Context) (at : DocumentPlaceData) (new_name : List ℕ) (documents : List (List ℕ × List Range)) → All (λ file. IsUtf8 file.1.text) c.workspace
     → edits_at c at new_name ≡ Ok documents → AreRespelled c at new_name documents
 
 -- ---- the workspace
 
 -- the files, each with the new name at the ranges that are given for its number, put there from the last to the first
 abbrev pub with_new_name : Context → List ℕ → (ℕ → List Range) → Workspace
-with_new_name c new_name ranges = map (λ e. (e.1.0, changed_from_the_last c.encoding (changes_with new_name (ranges e.0)) e.1.1)) (enumerate_from 0 c.workspace)
+with_new_name c new_name ranges = map (λ e. (e.1.0, with_text e.1.1 (changed_from_the_last c.encoding (changes_with new_name (ranges e.0)) e.1.1.text))) (enumerate_from 0 c.workspace)
 
 -- The second workspace is the first with the new name at the places. In both each name stands for the same, and what is wrong in each
 -- file has the same numbers.
@@ -80,7 +81,7 @@ pub record EditTheWorkspace (c : Context) (at : DocumentPlaceData) (new_name : L
 
 abbrev pub RenamesEditTheWorkspace : Type 0
 RenamesEditTheWorkspace =
-    (c : Context) (at : DocumentPlaceData) (new_name : List ℕ) (documents : List (List ℕ × List Range)) → All (λ file. IsUtf8 file.1) c.workspace
+    (c : Context) (at : DocumentPlaceData) (new_name : List ℕ) (documents : List (List ℕ × List Range)) → All (λ file. IsUtf8 file.1.text) c.workspace
     → edits_at c at new_name ≡ Ok documents → EditTheWorkspace c at new_name documents
 
 -- ---- the workspace of an editor
@@ -104,5 +105,5 @@ pub record EditUnderUris (c : Context) (at : DocumentPlaceData) (new_name : List
 -- so it is where no two files have one URI
 abbrev pub RenamesEditUnderUris : Type 0
 RenamesEditUnderUris =
-    (c : Context) (at : DocumentPlaceData) (new_name : List ℕ) (documents : List (List ℕ × List Range)) → All (λ file. IsUtf8 file.1) c.workspace → UrisDiffer c
+    (c : Context) (at : DocumentPlaceData) (new_name : List ℕ) (documents : List (List ℕ × List Range)) → All (λ file. IsUtf8 file.1.text) c.workspace → UrisDiffer c
     → edits_at c at new_name ≡ Ok documents → EditUnderUris c at new_name documents

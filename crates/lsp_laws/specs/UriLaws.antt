@@ -42,4 +42,4 @@ UrisOfWrittenRoots = (config : Configuration) → All (HasOwnUri config.roots) c
 abbrev pub RenamesOfASession : Type 0
 RenamesOfASession =
     (config : Configuration) (bodies : List (List ℕ)) (at : DocumentPlaceData) (new_name : List ℕ) (documents : List (List ℕ × List Range)) → UrisLeadBack (start config)
-    → (let c = context_of (session config bodies).state in All (λ file. IsUtf8 file.1) c.workspace → edits_at c at new_name ≡ Ok documents → EditUnderUris c at new_name documents)
+    → (let c = context_of (session config bodies).state in All (λ file. IsUtf8 file.1.text) c.workspace → edits_at c at new_name ≡ Ok documents → EditUnderUris c at new_name documents)

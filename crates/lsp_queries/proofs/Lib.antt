@@ -1,6 +1,7 @@
 pub mod AllPlaces
 pub mod FirstByteLemmas
 pub mod MatchingLemmas
+pub mod NamedTree
 pub mod Names
 pub mod NeighbourLemmas
 pub mod NextFile

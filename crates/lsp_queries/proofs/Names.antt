@@ -7,9 +7,12 @@ use Rattle.proto_tree.specs.declared.node.FileTree.{FileTree}
 use Rattle.proto_tree.specs.declared.node.Node.{Node}
 use Rattle.proto_tree.specs.declared.node.Span.{Span}
 use Rattle.proto_tree.specs.Names.{names_in, type_components_in, package_components_in}
+use Rattle.proto_tree.specs.Others.{other_tree}
 use Rattle.proto_tree.specs.Read.{read, value_tree}
 use Rattle.proto_laws.specs.Apart.{NamesAreApart}
 use Rattle.proto_laws.proofs.Nesting.{all_left, all_right}
+use Rattle.work_index.specs.Workspace.{Source}
+use Rattle.lsp_queries.proofs.NamedTree.{by_tree, named_tree}
 use Rattle.lsp_queries.proofs.Pairs.{both_in, pairs-across, pairs-left, pairs-permuted, pairs-right, pairs-with}
 
 -- it has a byte or more
@@ -55,13 +58,17 @@ stand-apart nodes h =
     }
 
 -- the tree that counts is that of the text, or that of the empty one
-pub value-stands_apart : ((text : List ℕ) → NamesAreApart (read text).nodes) → (text : List ℕ) → StandApart (value_tree text).nodes
+value-stands_apart : ((text : List ℕ) → NamesAreApart (read text).nodes) → (text : List ℕ) → StandApart (value_tree text).nodes
 unfolding value_tree
 value-stands_apart each text = by (nat_lt 16777216 (length text))
   where
     by : (b : Bool) → StandApart (cond {A = FileTree} b (read []) (read text)).nodes
     by true = stand-apart (read []).nodes (each [])
     by false = stand-apart (read text).nodes (each text)
+
+-- so it is with the tree of a source
+pub named-stands_apart : ((text : List ℕ) → NamesAreApart (read text).nodes) → ((text : List ℕ) → NamesAreApart (other_tree text).nodes) → (s : Source) → StandApart (named_tree s).nodes
+named-stands_apart each others s = by_tree s (λ tree facts. StandApart tree.nodes) (let tree = other_tree s.text in stand-apart tree.nodes (others s.text)) (value-stands_apart each s.text)
 
 -- of two components that start one behind the other the first ends before the second starts
 pub components-apart : (nodes : List Node) → StandApart nodes → (s u : Span) → Contains (type_components_in nodes) s → Contains (type_components_in nodes) u

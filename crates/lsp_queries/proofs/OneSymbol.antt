@@ -9,31 +9,29 @@ use Rattle.std.proofs.lemmas.Option.{get_or_from_slice_get, slice_get-get_or, sl
 use Rattle.proto_tree.specs.declared.node.Node.{Node}
 use Rattle.proto_tree.specs.declared.node.Span.{Span}
 use Rattle.proto_tree.specs.Names.{package_components_in, type_components_in}
-use Rattle.proto_tree.specs.Read.{value_tree}
 use Rattle.proto_decls.specs.declared.fact.Decl.{Decl}
 use Rattle.proto_decls.specs.declared.fact.PackageFact.{PackageFact}
-use Rattle.proto_decls.specs.Facts.{facts_of}
 use Rattle.proto_laws.proofs.Holders.{inside}
 use Rattle.proto_laws.proofs.Lists.{list_any-has, list_any-is}
 use Rattle.import_graph.specs.Closures.{view_of}
 use Rattle.import_graph.specs.Imports.{graph_of}
-use Rattle.proto_names.specs.Files.{facts_at}
 use Rattle.proto_resolve.specs.declared.target.Target.{Target}
 use Rattle.proto_resolve.specs.declared.target.Target.TheVariants as target
 use Rattle.proto_resolve.specs.declared.uses.NameUse.{NameUse}
-use Rattle.work_index.specs.Workspace.{Workspace, all_facts, analysis}
+use Rattle.work_index.specs.Workspace.{Source, Workspace, all_facts, analysis, source_facts}
 use Rattle.proto_laws.specs.OrderLaws.{UsesAscend}
 use Rattle.lsp_queries.specs.Files.{components_in, decls_in, uses_in}
 use Rattle.lsp_queries.specs.Offsets.{holds, symbol_at, symbol_of}
 use Rattle.lsp_queries.specs.declared.offsets.Symbol.{Symbol}
 use Rattle.lsp_queries.specs.declared.offsets.Symbol.TheVariants.{Declared, Package}
-use Rattle.lsp_queries.specs.PlaceLaws.{text_in}
+use Rattle.lsp_queries.specs.PlaceLaws.{source_in}
 use Rattle.lsp_queries.specs.Standing.{HasComponent, HasDecl, HasUse, Holds, IsNameSpan, OneNameHolds, StandsAt, SymbolsStandThere, declared, of_decl, of_package, of_use, own_package, used, used_package}
+use Rattle.lsp_queries.proofs.NamedTree.{named_tree}
 use Rattle.lsp_queries.proofs.Names.{AreDisjoint, StandApart}
 use Rattle.lsp_queries.proofs.Pairs.{any_two, pairs-with}
 use Rattle.lsp_queries.proofs.Places.{uses-end, uses_of_file}
 use Rattle.lsp_queries.proofs.Read.{component-there, decl-there, facts-are, find-first, find-tells, has-component, has-decl, has-use, links-are, position-first, position-tells, use-there}
-use Rattle.lsp_queries.proofs.Spans.{of_decls, of_package as package_has, of_uses, pairs_of_decls}
+use Rattle.lsp_queries.proofs.Spans.{of_decls, of_package as package_has, pairs_of_decls, source_uses}
 
 -- ---- an offset in a span
 
@@ -70,23 +68,23 @@ module _ {X : Type 0} (span : X → Span) (xs : List X) (apart : AllPairs (λ x 
 
 -- ---- the names of a file
 
-module _ (ascend : UsesAscend) (apart : (text : List ℕ) → StandApart (value_tree text).nodes) (w : Workspace) where
+module _ (ascend : UsesAscend) (apart : (s : Source) → StandApart (named_tree s).nodes) (w : Workspace) where
   abbrev nodes_at : ℕ → List Node
-  nodes_at i = (value_tree (text_in w i)).nodes
+  nodes_at i = (named_tree (source_in w i)).nodes
 
   module _ (i : ℕ) where
     abbrev decls : List Decl
-    decls = (facts_of (text_in w i)).decls
+    decls = (source_facts (source_in w i)).decls
 
     decls-apart : AllPairs (λ (d e : Decl). AreDisjoint d.name_span e.name_span) decls
-    decls-apart = pairs_of_decls AreDisjoint (text_in w i) (apart (text_in w i)).names_among
+    decls-apart = pairs_of_decls AreDisjoint (source_in w i) (apart (source_in w i)).names_among
 
     uses-apart : i < length w → AllPairs (λ (u v : NameUse). AreDisjoint u.span v.span) (uses_of_file w i)
     uses-apart lt = pairs-with (λ (u v : NameUse). u.span.«end» < v.span.start) (λ (u v : NameUse). AreDisjoint u.span v.span) (λ u. ⊤) (λ u v p q lt. inl lt) (uses_of_file w i) (λ k d lt. tt) (uses-end w ascend apart i lt)
 
     -- what holds of the components of types holds of uses
     all_uses : (P : Span → Type 0) → All P (type_components_in (nodes_at i)) → All (λ u. P u.span) (uses_of_file w i)
-    all_uses P all = of_uses (text_in w i) P (all_facts w) i (view_of (graph_of (all_facts w)) i) (facts_at (all_facts w) i) (nodes_at i) all
+    all_uses P all = source_uses P (source_in w i) (all_facts w) i (view_of (graph_of (all_facts w)) i) all
 
     decl_number : (n : ℕ) (d : Decl) → HasDecl (analysis w) i n d → slice_get decls n ≡ Some d
     decl_number n d h = let is = facts-are w i h.0 h.1 in subst (λ facts. slice_get facts.decls n ≡ Some d) is.1 h.2
@@ -100,7 +98,7 @@ module _ (ascend : UsesAscend) (apart : (text : List ℕ) → StandApart (value_
     component_in : (s : Span) → HasComponent (analysis w) i s → Contains (package_components_in (nodes_at i)) s
     component_in s h =
         let is = facts-are w i h.0 h.2 in
-        by (facts_of (text_in w i)).«package» (ap (λ facts. facts.«package») (sym is.1) ∙ h.3) (package_has (Contains (package_components_in (nodes_at i))) (text_in w i) (All-contains_itself (package_components_in (nodes_at i))))
+        by (source_facts (source_in w i)).«package» (ap (λ facts. facts.«package») (sym is.1) ∙ h.3) (package_has (Contains (package_components_in (nodes_at i))) (source_in w i) (All-contains_itself (package_components_in (nodes_at i))))
       where
         by : (o : Option PackageFact) → o ≡ Some h.1 → MatchOption o ⊤ (λ p. All (Contains (package_components_in (nodes_at i))) p.components) → Contains (package_components_in (nodes_at i)) s
         by None e all = absurd (cc (e))
@@ -110,17 +108,17 @@ module _ (ascend : UsesAscend) (apart : (text : List ℕ) → StandApart (value_
 
     decl_use : (n : ℕ) (d : Decl) (u : NameUse) → HasDecl (analysis w) i n d → HasUse (analysis w) i u → AreDisjoint d.name_span u.span
     decl_use n d u h g =
-        let types = All-contains (λ d. All (AreDisjoint d.name_span) (type_components_in (nodes_at i))) decls d (of_decls (λ s. All (AreDisjoint s) (type_components_in (nodes_at i))) (text_in w i) (apart (text_in w i)).across) (decl_in n d h) in
+        let types = All-contains (λ d. All (AreDisjoint d.name_span) (type_components_in (nodes_at i))) decls d (of_decls (λ s. All (AreDisjoint s) (type_components_in (nodes_at i))) (source_in w i) (apart (source_in w i)).across) (decl_in n d h) in
         All-contains (λ u. AreDisjoint d.name_span u.span) (uses_of_file w i) u (all_uses (AreDisjoint d.name_span) types) (use_in u g).1
 
     decl_component : (n : ℕ) (d : Decl) (s : Span) → HasDecl (analysis w) i n d → HasComponent (analysis w) i s → AreDisjoint d.name_span s
     decl_component n d s h g =
-        let packages = All-contains (λ d. All (AreDisjoint d.name_span) (package_components_in (nodes_at i))) decls d (of_decls (λ s. All (AreDisjoint s) (package_components_in (nodes_at i))) (text_in w i) (apart (text_in w i)).names_beside) (decl_in n d h) in
+        let packages = All-contains (λ d. All (AreDisjoint d.name_span) (package_components_in (nodes_at i))) decls d (of_decls (λ s. All (AreDisjoint s) (package_components_in (nodes_at i))) (source_in w i) (apart (source_in w i)).names_beside) (decl_in n d h) in
         All-contains (AreDisjoint d.name_span) (package_components_in (nodes_at i)) s packages (component_in s g)
 
     use_component : (u : NameUse) (s : Span) → HasUse (analysis w) i u → HasComponent (analysis w) i s → AreDisjoint u.span s
     use_component u s h g =
-        let packages = All-contains (λ u. All (AreDisjoint u.span) (package_components_in (nodes_at i))) (uses_of_file w i) u (all_uses (λ s. All (AreDisjoint s) (package_components_in (nodes_at i))) (apart (text_in w i)).types_beside) (use_in u h).1 in
+        let packages = All-contains (λ u. All (AreDisjoint u.span) (package_components_in (nodes_at i))) (uses_of_file w i) u (all_uses (λ s. All (AreDisjoint s) (package_components_in (nodes_at i))) (apart (source_in w i)).types_beside) (use_in u h).1 in
         All-contains (AreDisjoint u.span) (package_components_in (nodes_at i)) s packages (component_in s g)
 
     -- ---- at most one
@@ -133,7 +131,7 @@ module _ (ascend : UsesAscend) (apart : (text : List ℕ) → StandApart (value_
       one_use u v h g p q = let a = use_in u h in let b = use_in v g in one_element (λ (u : NameUse). u.span) (uses_of_file w i) (uses-apart a.0) offset u v a.1 b.1 p q
 
       one_component : (s t : Span) → HasComponent (analysis w) i s → HasComponent (analysis w) i t → Holds offset s → Holds offset t → s ≡ t
-      one_component s t h g p q = one_element (λ (s : Span). s) (package_components_in (nodes_at i)) (apart (text_in w i)).packages_among offset s t (component_in s h) (component_in t g) p q
+      one_component s t h g p q = one_element (λ (s : Span). s) (package_components_in (nodes_at i)) (apart (source_in w i)).packages_among offset s t (component_in s h) (component_in t g) p q
 
       one-name : (s t : Span) → IsNameSpan (analysis w) i s → IsNameSpan (analysis w) i t → Holds offset s → Holds offset t → s ≡ t
       one-name s t (of_decl {number = n} {d} h) (of_decl {number = k} {d = e} g) p q =
@@ -249,10 +247,10 @@ module _ (ascend : UsesAscend) (apart : (text : List ℕ) → StandApart (value_
 
 -- ---- the laws
 
-pub one-name_holds : UsesAscend → ((text : List ℕ) → StandApart (value_tree text).nodes) → OneNameHolds
+pub one-name_holds : UsesAscend → ((s : Source) → StandApart (named_tree s).nodes) → OneNameHolds
 one-name_holds ascend apart w file offset = one-name ascend apart w file offset
 
-pub symbols-stand : UsesAscend → ((text : List ℕ) → StandApart (value_tree text).nodes) → SymbolsStandThere
+pub symbols-stand : UsesAscend → ((s : Source) → StandApart (named_tree s).nodes) → SymbolsStandThere
 symbols-stand ascend apart w file offset s = (
   symbol-stands ascend apart w file offset s (number_there ascend apart w file offset) (use_there ascend apart w file offset) (own_there ascend apart w file offset) refl refl refl,
   stands-symbol ascend apart w file offset s,

@@ -4,7 +4,7 @@ use Rattle.std.specs.Prelude.{All, Contains, ◌==◌, filter, nat_lt, not, opti
 use Rattle.std.specs.List.{AllPairs, enumerate_from, flat_map}
 use Rattle.std.specs.Option.{option_map_or}
 use Rattle.std.proofs.lemmas.Bool.{cases_lt, eqb-true, ltb-false, ltb-true, not-true}
-use Rattle.std.proofs.lemmas.List.{length-map}
+use Rattle.std.proofs.lemmas.List.{get_or-map, length-map}
 use Rattle.std.proofs.lemmas.List.Elements.{All-nil, All-cons, All-append, All-contains_itself, All-filter, All-map, filter_passes}
 use Rattle.std.proofs.lemmas.List.FromFn.{get_or-enumerate_from, length-enumerate_from}
 use Rattle.std.proofs.lemmas.List.Kept.{AllPairs-cons, AllPairs-filter, AllPairs-from_increasing}
@@ -15,24 +15,25 @@ use Rattle.proto_tree.specs.Names.{names_in, type_components_in}
 use Rattle.proto_tree.specs.Identifiers.{IsIdentifierAt, NamesAreIdentifiers}
 use Rattle.proto_tree.specs.Read.{empty_tree, read, value_tree}
 use Rattle.proto_decls.specs.declared.fact.Decl.{Decl}
-use Rattle.proto_decls.specs.Facts.{facts_of}
-use Rattle.proto_laws.proofs.IdentifierLaws.{of_value}
+use Rattle.proto_decls.specs.declared.fact.FileFacts.{FileFacts}
+use Rattle.proto_laws.proofs.IdentifierLaws.{OthersAreIdentifiers}
 use Rattle.import_graph.specs.Closures.{view_of}
 use Rattle.import_graph.specs.Imports.{graph_of}
 use Rattle.proto_names.specs.declared.decl_ref.DeclRef.{DeclRef}
 use Rattle.proto_resolve.specs.declared.uses.NameUse.{NameUse}
-use Rattle.proto_names.specs.Files.{facts_at}
+use Rattle.proto_names.specs.Files.{facts_at, no_facts}
 use Rattle.proto_resolve.specs.Sites.{names_of_file}
 use Rattle.proto_resolve.specs.Uses.{uses}
-use Rattle.work_index.specs.Workspace.{Workspace, all_facts, analysis, resolution_of}
+use Rattle.work_index.specs.Workspace.{Source, Workspace, all_facts, analysis, named_facts, no_file, resolution_of, source_facts}
 use Rattle.proto_laws.specs.OrderLaws.{UsesAscend}
 use Rattle.lsp_queries.specs.Answers.{is_of, own_place, sites_in, sites_of, uses_of, with_own, with_own_in}
 use Rattle.lsp_queries.specs.Files.{decl_of, decls_in, place, place_of, uses_in}
 use Rattle.lsp_queries.specs.declared.place.Place.{Place}
-use Rattle.lsp_queries.specs.PlaceLaws.{IsBefore, PlacesAreApart, PlacesAscend, PlacesLieInTheTexts, places_of, text_in}
+use Rattle.lsp_queries.specs.PlaceLaws.{IsBefore, PlacesAreApart, PlacesAscend, PlacesLieInTheTexts, places_of, source_in, text_in}
+use Rattle.lsp_queries.proofs.NamedTree.{named-identifiers, named_tree}
 use Rattle.lsp_queries.proofs.Names.{AreDisjoint, IsSome, StandApart, components-apart}
 use Rattle.lsp_queries.proofs.Pairs.{pairs-append, pairs-from_map, pairs-map, pairs-nil, pairs-with}
-use Rattle.lsp_queries.proofs.Spans.{of_decls, of_uses}
+use Rattle.lsp_queries.proofs.Spans.{of_decls, source_uses}
 
 abbrev pub span_of : Place → Span
 span_of p = record { start = p.start; «end» = p.«end» }
@@ -112,29 +113,40 @@ module _ (each : ℕ → List Place) where
 -- ---- what the analysis of a workspace has of a file
 
 module _ (w : Workspace) where
+  abbrev names_with : ℕ → FileFacts → List NameUse
+  names_with i facts = uses (all_facts w) i (view_of (graph_of (all_facts w)) i) (names_of_file (text_in w i) facts (value_tree (text_in w i)).nodes)
+
   abbrev pub uses_of_file : ℕ → List NameUse
-  uses_of_file i = uses (all_facts w) i (view_of (graph_of (all_facts w)) i) (names_of_file (text_in w i) (facts_at (all_facts w) i) (value_tree (text_in w i)).nodes)
+  uses_of_file i = names_with i (source_facts (source_in w i))
+
+  pub own-uses : (i : ℕ) → i < length w → names_with i (facts_at (all_facts w) i) ≡ uses_of_file i
+  own-uses i lt =
+      let files = all_facts w in
+      ap (names_with i)
+      (get_or-map (λ file. file.facts) files i (named_facts no_file) no_facts (omega (arith, lt, length-map w named_facts))
+      ∙ ap (λ file. file.facts) (get_or-map named_facts w i no_file (named_facts no_file) lt))
 
   uses-are : (i : ℕ) → i < length w → uses_in (analysis w) i ≡ uses_of_file i
   uses-are i lt =
       let numbered : i < length (enumerate_from 0 w) = omega (arith, length-enumerate_from 0 w) in
       ap (λ o. option_map_or (λ links. links.uses) o [])
       (slice_get-map (resolution_of w) (enumerate_from 0 w) i
-      ∙ ap (option_map (resolution_of w)) (slice_get-get_or (enumerate_from 0 w) i (0, ([], [])) numbered
-      ∙ ap (λ e. Some e) (get_or-enumerate_from 0 w i (0, ([], [])) lt ∙ ap (λ n. (n, get_or w i ([], []))) (zero-add i))))
+      ∙ ap (option_map (resolution_of w)) (slice_get-get_or (enumerate_from 0 w) i (0, no_file) numbered
+      ∙ ap (λ e. Some e) (get_or-enumerate_from 0 w i (0, no_file) lt ∙ ap (λ n. (n, get_or w i no_file)) (zero-add i))))
+      ∙ own-uses i lt
 
-  decls-are : (i : ℕ) → i < length w → decls_in (analysis w) i ≡ (facts_of (text_in w i)).decls
+  decls-are : (i : ℕ) → i < length w → decls_in (analysis w) i ≡ (source_facts (source_in w i)).decls
   decls-are i lt =
       ap (λ o. option_map_or (λ facts. facts.decls) o [])
-      (slice_get-map (λ file. facts_of file.1) w i ∙ ap (option_map (λ file. facts_of file.1)) (slice_get-get_or w i ([], []) lt))
+      (slice_get-map (λ file. source_facts file.1) w i ∙ ap (option_map (λ file. source_facts file.1)) (slice_get-get_or w i no_file lt))
 
   no-decls : (i : ℕ) → length w ≤ i → decls_in (analysis w) i ≡ []
   no-decls i le =
-      ap (λ o. option_map_or (λ facts. facts.decls) o []) (slice_get_past (map (λ file. facts_of file.1) w) i (omega (arith, le, length-map w (λ file. facts_of file.1))))
+      ap (λ o. option_map_or (λ facts. facts.decls) o []) (slice_get_past (map (λ file. source_facts file.1) w) i (omega (arith, le, length-map w (λ file. source_facts file.1))))
 
   -- ---- the own place
 
-  module _ (P : ℕ → Span → Type 0) (decls-have : (i : ℕ) → i < length w → All (λ d. P i d.name_span) (facts_of (text_in w i)).decls) where
+  module _ (P : ℕ → Span → Type 0) (decls-have : (i : ℕ) → i < length w → All (λ d. P i d.name_span) (source_facts (source_in w i)).decls) where
     -- what holds of the names of declarations holds of it
     abbrev HoldsOfOwn : Option Place → Type 0
     HoldsOfOwn None = Unit {0}
@@ -145,7 +157,7 @@ module _ (w : Workspace) where
       where
         by : (r.file < length w) ⊎ (length w ≤ r.file) → (r.file < length w) × P r.file d.name_span
         by (inl lt) =
-            let decls = (facts_of (text_in w r.file)).decls in
+            let decls = (source_facts (source_in w r.file)).decls in
             let found : slice_get decls r.number ≡ Some d = ap (λ ds. slice_get ds r.number) (sym (decls-are r.file lt)) ∙ is in
             (lt, subst (λ d. P r.file d.name_span) (get_or_from_slice_get decls r.number d d found) (decls-have r.file lt r.number d (slice_get_within decls r.number d found)))
         by (inr past) = let none : None ≡ Some d = ap (λ ds. slice_get ds r.number) (sym (no-decls r.file past)) ∙ is in absurd (cc (none))
@@ -173,16 +185,15 @@ module _ (w : Workspace) where
 
   -- ---- both
 
-  module _ (P : ℕ → Span → Type 0) (names-have : (i : ℕ) → i < length w → All (P i) (names_in (value_tree (text_in w i)).nodes)) (types-have : (i : ℕ) → i < length w → All (P i) (type_components_in (value_tree (text_in w i)).nodes)) where
+  module _ (P : ℕ → Span → Type 0) (names-have : (i : ℕ) → i < length w → All (P i) (names_in (named_tree (source_in w i)).nodes)) (types-have : (i : ℕ) → i < length w → All (P i) (type_components_in (named_tree (source_in w i)).nodes)) where
     abbrev Placed : Place → Type 0
     Placed p = (p.file < length w) × P p.file (span_of p)
 
-    decls-have : (i : ℕ) → i < length w → All (λ d. P i d.name_span) (facts_of (text_in w i)).decls
-    decls-have i lt = of_decls (P i) (text_in w i) (names-have i lt)
+    decls-have : (i : ℕ) → i < length w → All (λ d. P i d.name_span) (source_facts (source_in w i)).decls
+    decls-have i lt = of_decls (P i) (source_in w i) (names-have i lt)
 
     uses-have : (i : ℕ) → i < length w → All (λ u. P i u.span) (uses_of_file i)
-    uses-have i lt =
-        of_uses (text_in w i) (P i) (all_facts w) i (view_of (graph_of (all_facts w)) i) (facts_at (all_facts w) i) (value_tree (text_in w i)).nodes (types-have i lt)
+    uses-have i lt = source_uses (P i) (source_in w i) (all_facts w) i (view_of (graph_of (all_facts w)) i) (types-have i lt)
 
     sites_in-hold : (r : DeclRef) (o : Option Place) → HoldsOfOwn P decls-have o → (i : ℕ) → i < length w → All Placed (sites_in (analysis w) r o i)
     sites_in-hold r o own i lt = by o own
@@ -209,19 +220,19 @@ module _ (w : Workspace) where
 
   -- ---- in order
 
-  module _ (ascend : UsesAscend) (apart : (text : List ℕ) → StandApart (value_tree text).nodes) where
+  module _ (ascend : UsesAscend) (apart : (s : Source) → StandApart (named_tree s).nodes) where
     abbrev nodes_at : ℕ → List Node
-    nodes_at i = (value_tree (text_in w i)).nodes
+    nodes_at i = (named_tree (source_in w i)).nodes
 
     -- of two uses the first ends before the second starts
     pub uses-end : (i : ℕ) → i < length w → AllPairs (λ u v. u.span.«end» < v.span.start) (uses_of_file i)
     uses-end i lt =
         let us = uses_of_file i in
         let types = type_components_in (nodes_at i) in
-        let h = apart (text_in w i) in
+        let h = apart (source_in w i) in
         let view = view_of (graph_of (all_facts w)) i in
-        let starts = pairs-from_map (λ m n. m < n) (λ u. u.span.start) us (AllPairs-from_increasing (map (λ u. u.span.start) us) (ascend (all_facts w) i view (text_in w i) (facts_at (all_facts w) i))) in
-        let known = of_uses (text_in w i) (λ s. Contains types s × IsSome s) (all_facts w) i view (facts_at (all_facts w) i) (nodes_at i) (λ k d there. (All-contains_itself types k d there, h.types k d there)) in
+        let starts = pairs-from_map (λ m n. m < n) (λ u. u.span.start) us (AllPairs-from_increasing (map (λ u. u.span.start) us) (ascend (all_facts w) i view (text_in w i) (source_facts (source_in w i)))) in
+        let known = source_uses (λ s. Contains types s × IsSome s) (source_in w i) (all_facts w) i view (λ k d there. (All-contains_itself types k d there, h.types k d there)) in
         pairs-with (λ u v. u.span.start < v.span.start) (λ u v. u.span.«end» < v.span.start) (λ u. Contains types u.span × IsSome u.span) (λ u v p q lt. components-apart (nodes_at i) h u.span v.span p.0 q.0 q.1 lt) us known starts
 
     uses-ahead : (r : DeclRef) (i : ℕ) → i < length w → AllPairs IsAhead (uses_of (analysis w) r i)
@@ -234,16 +245,16 @@ module _ (w : Workspace) where
     abbrev IsName : ℕ → Span → Type 0
     IsName i s = IsSome s × All (AreDisjoint s) (type_components_in (nodes_at i))
 
-    are-names : (i : ℕ) → i < length w → All (λ d. IsName i d.name_span) (facts_of (text_in w i)).decls
-    are-names i lt = let h = apart (text_in w i) in of_decls (IsName i) (text_in w i) (λ k d there. (h.names k d there, h.across k d there))
+    are-names : (i : ℕ) → i < length w → All (λ d. IsName i d.name_span) (source_facts (source_in w i)).decls
+    are-names i lt = let h = apart (source_in w i) in of_decls (IsName i) (source_in w i) (λ k d there. (h.names k d there, h.across k d there))
 
     uses-beside : (r : DeclRef) (own : Place) → own.file < length w → IsName own.file (span_of own) → (i : ℕ) → i < length w → i ≡ own.file
         → All (λ p. (p.file ≡ own.file) × (p.start < p.«end») × AreDisjoint (span_of own) (span_of p)) (uses_of (analysis w) r i)
     uses-beside r own within name i lt same =
         let P : ℕ → Span → Type 0 = λ j s. IsSome s × (j ≡ own.file → AreDisjoint (span_of own) s) in
         let known : (j : ℕ) → j < length w → All (λ u. P j u.span) (uses_of_file j) =
-        λ j there. let h = apart (text_in w j) in
-        of_uses (text_in w j) (P j) (all_facts w) j (view_of (graph_of (all_facts w)) j) (facts_at (all_facts w) j) (nodes_at j)
+        λ j there. let h = apart (source_in w j) in
+        source_uses (P j) (source_in w j) (all_facts w) j (view_of (graph_of (all_facts w)) j)
         (λ k d inside. (h.types k d inside, λ is. let all : All (AreDisjoint (span_of own)) (type_components_in (nodes_at j)) = subst (λ n. All (AreDisjoint (span_of own)) (type_components_in (nodes_at n))) (sym is) name.1 in all k d inside)) in
         λ k d there. let h = uses-hold P known r i lt k d there in (h.0 ∙ same, h.1.0, h.1.1 (h.0 ∙ same))
 
@@ -280,11 +291,11 @@ module _ (w : Workspace) where
 
     -- each place has a byte or more
     pub sites-some : (r : DeclRef) (include_declaration : Bool) → All (λ p. (p.file < length w) × IsSome (span_of p)) (sites_of (analysis w) r (own_place (analysis w) r include_declaration))
-    sites-some r include_declaration = sites-hold (λ i s. IsSome s) (λ i lt. (apart (text_in w i)).names) (λ i lt. (apart (text_in w i)).types) r include_declaration
+    sites-some r include_declaration = sites-hold (λ i s. IsSome s) (λ i lt. (apart (source_in w i)).names) (λ i lt. (apart (source_in w i)).types) r include_declaration
 
 -- ---- the laws
 
-pub places-ascend : UsesAscend → ((text : List ℕ) → StandApart (value_tree text).nodes) → PlacesAscend
+pub places-ascend : UsesAscend → ((s : Source) → StandApart (named_tree s).nodes) → PlacesAscend
 places-ascend ascend apart w r include_declaration =
     pairs-with IsAhead IsBefore (λ p. (p.file < length w) × IsSome (span_of p)) (λ p q here there ahead. before p q here.1 ahead) (places_of w r include_declaration) (sites-some w ascend apart r include_declaration)
     (sites-ahead w ascend apart r include_declaration)
@@ -293,7 +304,7 @@ places-ascend ascend apart w r include_declaration =
     before p q some (inl lt) = inl lt
     before p q some (inr h) = inr (h.0, omega (arith, h))
 
-pub places-apart : UsesAscend → ((text : List ℕ) → StandApart (value_tree text).nodes) → PlacesAreApart
+pub places-apart : UsesAscend → ((s : Source) → StandApart (named_tree s).nodes) → PlacesAreApart
 places-apart ascend apart w r include_declaration k m d lt there =
     let all = places_of w r include_declaration in
     by (get_or all k d) (get_or all m d) (sites-ahead w ascend apart r include_declaration k m d lt there)
@@ -305,16 +316,14 @@ places-apart ascend apart w r include_declaration k m d lt there =
 -- ---- in the texts
 
 -- an identifier stands at each place
-pub places-identifiers : read [] ≡ empty_tree → NamesAreIdentifiers → (w : Workspace) (r : DeclRef) (include_declaration : Bool)
+pub places-identifiers : read [] ≡ empty_tree → NamesAreIdentifiers → OthersAreIdentifiers → (w : Workspace) (r : DeclRef) (include_declaration : Bool)
     → All (λ p. (p.file < length w) × IsIdentifierAt (text_in w p.file) (span_of p)) (places_of w r include_declaration)
-places-identifiers empty identifiers w r include_declaration =
-    sites-hold w (λ i s. IsIdentifierAt (text_in w i) s)
-    (λ i lt. let text = text_in w i in (of_value (IsIdentifierAt text) text empty (identifiers text)).names)
-    (λ i lt. let text = text_in w i in (of_value (IsIdentifierAt text) text empty (identifiers text)).types) r include_declaration
+places-identifiers empty identifiers others w r include_declaration =
+    sites-hold w (λ i s. IsIdentifierAt (text_in w i) s) (λ i lt. (named-identifiers empty identifiers others (source_in w i)).names) (λ i lt. (named-identifiers empty identifiers others (source_in w i)).types) r include_declaration
 
-pub places-within : read [] ≡ empty_tree → NamesAreIdentifiers → UsesAscend → ((text : List ℕ) → StandApart (value_tree text).nodes) → PlacesLieInTheTexts
-places-within empty identifiers ascend apart w r include_declaration utf8 k d lt =
+pub places-within : read [] ≡ empty_tree → NamesAreIdentifiers → OthersAreIdentifiers → UsesAscend → ((s : Source) → StandApart (named_tree s).nodes) → PlacesLieInTheTexts
+places-within empty identifiers others ascend apart w r include_declaration utf8 k d lt =
     let some = sites-some w ascend apart r include_declaration k d lt in
-    let is = places-identifiers empty identifiers w r include_declaration k d lt in
-    let text_is = utf8 (get_or (places_of w r include_declaration) k d).file ([], []) some.0 in
+    let is = places-identifiers empty identifiers others w r include_declaration k d lt in
+    let text_is = utf8 (get_or (places_of w r include_declaration) k d).file no_file some.0 in
     record { there = some.0; some = some.1; within = (is.1.cut text_is).1.0 }

@@ -11,16 +11,15 @@ use Rattle.proto_tree.specs.declared.node.Span.{Span}
 use Rattle.proto_decls.specs.declared.fact.Decl.{Decl}
 use Rattle.proto_decls.specs.declared.fact.FileFacts.{FileFacts}
 use Rattle.proto_decls.specs.declared.fact.PackageFact.{PackageFact}
-use Rattle.proto_decls.specs.Facts.{facts_of}
 use Rattle.proto_laws.proofs.Holders.{inside}
 use Rattle.proto_laws.proofs.Holders.{first_in, later_in, none_in, cases_in}
 use Rattle.proto_resolve.specs.declared.resolve.Links.{Links}
 use Rattle.proto_resolve.specs.declared.uses.NameUse.{NameUse}
-use Rattle.work_index.specs.Workspace.{Workspace, analysis, resolution_of}
+use Rattle.work_index.specs.Workspace.{Workspace, analysis, no_file, resolution_of, source_facts}
 use Rattle.lsp_queries.specs.Files.{components_in, components_of, decls_in, uses_in}
-use Rattle.lsp_queries.specs.PlaceLaws.{text_in}
+use Rattle.lsp_queries.specs.PlaceLaws.{source_in}
 use Rattle.lsp_queries.specs.Standing.{HasComponent, HasDecl, HasUse}
-use Rattle.lsp_queries.proofs.Places.{uses_of_file}
+use Rattle.lsp_queries.proofs.Places.{own-uses, uses_of_file}
 
 -- ---- the first that passes a test
 
@@ -79,19 +78,19 @@ module _ {X : Type 0} (p : X → Bool) where
 -- ---- an analysis
 
 module _ (w : Workspace) where
-  -- the facts of a file are those of its text
-  pub facts-are : (i : ℕ) (facts : FileFacts) → slice_get (analysis w).facts i ≡ Some facts → (i < length w) × (facts ≡ facts_of (text_in w i))
+  -- the facts of a file are those of its source
+  pub facts-are : (i : ℕ) (facts : FileFacts) → slice_get (analysis w).facts i ≡ Some facts → (i < length w) × (facts ≡ source_facts (source_in w i))
   facts-are i facts e =
-      let lt : i < length w = let within = slice_get_within (analysis w).facts i facts e in omega (arith, within, length-map w (λ file. facts_of file.1)) in
-      (lt, inside facts (facts_of (text_in w i)) (sym e ∙ slice_get-map (λ file. facts_of file.1) w i ∙ ap (option_map (λ file. facts_of file.1)) (slice_get-get_or w i ([], []) lt)))
+      let lt : i < length w = let within = slice_get_within (analysis w).facts i facts e in omega (arith, within, length-map w (λ file. source_facts file.1)) in
+      (lt, inside facts (source_facts (source_in w i)) (sym e ∙ slice_get-map (λ file. source_facts file.1) w i ∙ ap (option_map (λ file. source_facts file.1)) (slice_get-get_or w i no_file lt)))
 
   pub links-are : (i : ℕ) (links : Links) → slice_get (analysis w).links i ≡ Some links → (i < length w) × (links.uses ≡ uses_of_file w i)
   links-are i links e =
       let numbered = enumerate_from 0 w in
       let within : i < length numbered = let lt = slice_get_within (analysis w).links i links e in omega (arith, lt, length-map numbered (resolution_of w)) in
       let lt : i < length w = omega (arith, within, length-enumerate_from 0 w) in
-      let file : slice_get numbered i ≡ Some (i, get_or w i ([], [])) = slice_get-get_or numbered i (0, ([], [])) within ∙ ap (λ e. Some e) (get_or-enumerate_from 0 w i (0, ([], [])) lt ∙ ap (λ n. (n, get_or w i ([], []))) (zero-add i)) in
-      (lt, ap (λ (l : Links). l.uses) (inside links (resolution_of w (i, get_or w i ([], []))) (sym e ∙ slice_get-map (resolution_of w) numbered i ∙ ap (option_map (resolution_of w)) file)))
+      let file : slice_get numbered i ≡ Some (i, get_or w i no_file) = slice_get-get_or numbered i (0, no_file) within ∙ ap (λ e. Some e) (get_or-enumerate_from 0 w i (0, no_file) lt ∙ ap (λ n. (n, get_or w i no_file)) (zero-add i)) in
+      (lt, ap (λ (l : Links). l.uses) (inside links (resolution_of w (i, get_or w i no_file)) (sym e ∙ slice_get-map (resolution_of w) numbered i ∙ ap (option_map (resolution_of w)) file)) ∙ own-uses w i lt)
 
   -- its declarations, its uses and the components of its package
   module _ (i : ℕ) where

@@ -1,4 +1,4 @@
--- What holds of the names of a tree holds of the declarations of its text, and of the uses of its names.
+-- What holds of the names of a source's tree holds of its declarations, and of the uses of its names.
 use Rattle.std.proofs.Common.{◌≡◌, ◌∙◌, ℕ, ◌+◌, Bool, true, false, cond, List, [], ◌∷◌, ◌++◌, length, map, Option, Some, None, refl, sym, ap, subst}
 use Rattle.std.specs.Prelude.{All, MatchOption, is_some, option_map, ⊤}
 use Rattle.std.specs.List.{AllPairs, cons_option, enumerate_from, flat_map}
@@ -12,6 +12,7 @@ use Rattle.proto_tree.specs.declared.node.Node.TheFolds.{fold-roll-Node, ind-Nod
 use Rattle.proto_tree.specs.declared.node.Span.{Span}
 use Rattle.proto_tree.specs.declared.node.TypeName.{TypeName}
 use Rattle.proto_tree.specs.Names.{joined as all_of, names_step as spans_step, names_of as spans_of, names_in as spans_in, package_components_in, type_names_step, type_names_of, type_names_in, type_components_in}
+use Rattle.proto_tree.specs.Others.{other_tree}
 use Rattle.proto_tree.specs.Read.{value_tree}
 use Rattle.proto_decls.specs.Decls.{Placed, in_turn as placed_in_turn, decls_step, decls_of, decls_in}
 use Rattle.proto_decls.specs.declared.diagnostic.Diag.{Diag}
@@ -34,6 +35,8 @@ use Rattle.proto_resolve.specs.Names.{found, joined_all, scope_of, texts_of}
 use Rattle.proto_resolve.specs.Sites.{Named, component, in_turn, inner, is_proto3, is_scalar, names_in, names_of, names_of_file, names_step, package_scopes, site, type_names}
 use Rattle.proto_resolve.specs.Uses.{uses, uses_at, uses_in, uses_of}
 use Rattle.proto_laws.proofs.IdentifierLaws.{facts-have}
+use Rattle.work_index.specs.Workspace.{Source, source_facts}
+use Rattle.lsp_queries.proofs.NamedTree.{by_tree, named_tree}
 use Rattle.lsp_queries.proofs.Pairs.{from_map, pairs-from_map, pairs-nil}
 
 -- ---- declarations
@@ -104,23 +107,29 @@ facts-pairs R None syntaxes text tree pairs =
     (subst (AllPairs R) (sym (nodes-declare text tree.nodes kind.Field place None 0)) pairs)
 facts-pairs R (Some d) syntaxes text tree pairs = pairs-nil (λ (d e : Decl). R d.name_span e.name_span)
 
--- of each two declarations of a text
-pub pairs_of_decls : (R : Span → Span → Type 0) (text : List ℕ) → AllPairs R (spans_in (value_tree text).nodes) → AllPairs (λ d e. R d.name_span e.name_span) (facts_of text).decls
-pairs_of_decls R text pairs =
+-- of each two declarations of a source
+pub pairs_of_decls : (R : Span → Span → Type 0) (s : Source) → AllPairs R (spans_in (named_tree s).nodes) → AllPairs (λ d e. R d.name_span e.name_span) (source_facts s).decls
+pairs_of_decls R s =
+    let text = s.text in
     let tree = value_tree text in
-    facts-pairs R (opaque text (stated text tree.nodes)) (stated text tree.nodes) text tree pairs
+    by_tree s (λ tree facts. AllPairs R (spans_in tree.nodes) → AllPairs (λ (d e : Decl). R d.name_span e.name_span) facts.decls) (facts-pairs R None [] text (other_tree text))
+    (facts-pairs R (opaque text (stated text tree.nodes)) (stated text tree.nodes) text tree)
 
 -- the components of the package that counts
-pub of_package : (P : Span → Type 0) (text : List ℕ) → All P (package_components_in (value_tree text).nodes) → MatchOption (facts_of text).«package» ⊤ (λ p. All P p.components)
-of_package P text all =
+pub of_package : (P : Span → Type 0) (s : Source) → All P (package_components_in (named_tree s).nodes) → MatchOption (source_facts s).«package» ⊤ (λ p. All P p.components)
+of_package P s =
+    let text = s.text in
     let tree = value_tree text in
-    facts-have P text (opaque text (stated text tree.nodes)) (stated text tree.nodes) tree all
+    by_tree s (λ tree facts. All P (package_components_in tree.nodes) → MatchOption facts.«package» ⊤ (λ p. All P p.components)) (facts-have P text None [] (other_tree text))
+    (facts-have P text (opaque text (stated text tree.nodes)) (stated text tree.nodes) tree)
 
--- the declarations of a text
-pub of_decls : (P : Span → Type 0) (text : List ℕ) → All P (spans_in (value_tree text).nodes) → All (λ d. P d.name_span) (facts_of text).decls
-of_decls P text all =
+-- the declarations of a source
+pub of_decls : (P : Span → Type 0) (s : Source) → All P (spans_in (named_tree s).nodes) → All (λ d. P d.name_span) (source_facts s).decls
+of_decls P s =
+    let text = s.text in
     let tree = value_tree text in
-    facts-decls P (opaque text (stated text tree.nodes)) (stated text tree.nodes) text tree all
+    by_tree s (λ tree facts. All P (spans_in tree.nodes) → All (λ (d : Decl). P d.name_span) facts.decls) (facts-decls P None [] text (other_tree text))
+    (facts-decls P (opaque text (stated text tree.nodes)) (stated text tree.nodes) text tree)
 
 -- ---- uses
 
@@ -247,5 +256,14 @@ module _ (text : List ℕ) (P : Span → Type 0) where
         (name-uses i n (All-head OfName n more all)) (names-uses (i + 1) more (All-tail OfName n more all))
 
     -- the uses of the names of a file
-    pub of_uses : (facts : FileFacts) (nodes : List Node) → All P (type_components_in nodes) → All OfUse (uses files f view (names_of_file text facts nodes))
+    of_uses : (facts : FileFacts) (nodes : List Node) → All P (type_components_in nodes) → All OfUse (uses files f view (names_of_file text facts nodes))
     of_uses facts nodes all = names-uses 0 (names_of_file text facts nodes) (of_names facts nodes all)
+
+-- the uses of the names of a source, of which one that isn't proto3 has none
+pub source_uses : (P : Span → Type 0) (s : Source) (files : List NamedFacts) (f : ℕ) (view : List ℕ) → All P (type_components_in (named_tree s).nodes)
+    → All (λ u. P u.span) (uses files f view (names_of_file s.text (source_facts s) (value_tree s.text).nodes))
+source_uses P s files f view =
+    let text = s.text in
+    let tree = value_tree text in
+    by_tree s (λ named facts. All P (type_components_in named.nodes) → All (λ (u : NameUse). P u.span) (uses files f view (names_of_file text facts tree.nodes))) (λ all. All-nil (λ (u : NameUse). P u.span))
+    (of_uses text P files f view (facts_of text) tree.nodes)

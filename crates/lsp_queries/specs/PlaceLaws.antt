@@ -1,8 +1,8 @@
 -- The laws of the places of a declaration: where its name stands, and where it is used.
-use Rattle.std.specs.Prelude.{◌≡◌, ◌⊎◌, ℕ, ◌<◌, ◌≤◌, List, [], Bool, All, IsUtf8, length, slice_index_or}
+use Rattle.std.specs.Prelude.{◌≡◌, ◌⊎◌, ℕ, ◌<◌, ◌≤◌, List, Bool, All, IsUtf8, length, slice_index_or}
 use Rattle.std.specs.List.{AllPairs}
 use Rattle.proto_names.specs.declared.decl_ref.DeclRef.{DeclRef}
-use Rattle.work_index.specs.Workspace.{Workspace, analysis}
+use Rattle.work_index.specs.Workspace.{Source, SourceAt, Workspace, analysis, no_file}
 use Rattle.lsp_queries.specs.Answers.{own_place, sites_of}
 use Rattle.lsp_queries.specs.declared.place.Place.{Place}
 
@@ -25,9 +25,12 @@ IsApart p q = p.file ≡ q.file → p.«end» < q.start
 abbrev pub PlacesAreApart : Type 0
 PlacesAreApart = (w : Workspace) (r : DeclRef) (include_declaration : Bool) → AllPairs IsApart (places_of w r include_declaration)
 
--- the text of a file
+-- the text of a file, with whether it is read if it isn't proto3, and the text alone
+abbrev pub source_in : Workspace → ℕ → Source
+source_in w file = let found : SourceAt = slice_index_or w file no_file in found.1
+
 abbrev pub text_in : Workspace → ℕ → List ℕ
-text_in w file = let found : List ℕ × List ℕ = slice_index_or w file ([], []) in found.1
+text_in w file = let s = source_in w file in s.text
 
 -- the place has a byte or more, all of them in the text of its file
 pub record LiesInItsText (w : Workspace) (p : Place) : Type 0 where
@@ -38,4 +41,4 @@ pub record LiesInItsText (w : Workspace) (p : Place) : Type 0 where
 -- so it is where the texts are UTF-8
 abbrev pub PlacesLieInTheTexts : Type 0
 PlacesLieInTheTexts =
-    (w : Workspace) (r : DeclRef) (include_declaration : Bool) → All (λ file. IsUtf8 file.1) w → All (LiesInItsText w) (places_of w r include_declaration)
+    (w : Workspace) (r : DeclRef) (include_declaration : Bool) → All (λ file. IsUtf8 file.1.text) w → All (LiesInItsText w) (places_of w r include_declaration)

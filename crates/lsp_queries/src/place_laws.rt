@@ -2,7 +2,7 @@
 ghost use Rattle.lsp_queries.specs.PlaceLaws.{PlacesAreApart, PlacesAscend, PlacesLieInTheTexts};
 ghost use Rattle.lsp_queries.specs.Standing.{OneListOfPlaces, OneNameHolds, PlacesAreAll, SymbolsStandThere};
 
-use proto_laws::{identifiers_law, names_apart, size_law, uses_in_order};
+use proto_laws::{identifiers_law, names_apart, other_names_law, size_law, uses_in_order};
 
 /// A law: the places of a declaration, those of its uses and its own if that is asked for, come by file, then offset, and none of
 /// them is there twice.
@@ -10,6 +10,7 @@ pub fn places_in_order()
     ensures { PlacesAscend }
 {
     names_apart();
+    other_names_law();
     uses_in_order();
 }
 
@@ -21,6 +22,7 @@ pub fn places_apart()
 {
     identifiers_law();
     names_apart();
+    other_names_law();
     size_law();
     uses_in_order();
 }
@@ -32,6 +34,7 @@ pub fn one_symbol()
     ensures exact { SymbolsStandThere }
 {
     names_apart();
+    other_names_law();
     uses_in_order();
 }
 

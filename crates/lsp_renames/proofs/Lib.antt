@@ -6,4 +6,5 @@ pub mod Groups
 pub mod RenamedLemmas
 pub mod RenamingLemmas
 pub mod TakenLemmas
+pub mod UnknownUses
 pub mod WithTexts

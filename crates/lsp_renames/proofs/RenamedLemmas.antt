@@ -8,10 +8,11 @@ use Rattle.lsp_queries.specs.Answers.{sites_of}
 use Rattle.work_update.specs.Bindings.{same_meaning}
 use Rattle.lsp_queries.specs.Files.{place_of}
 use Rattle.lsp_queries.specs.Offsets.{symbol_at}
-use Rattle.lsp_renames.specs.Renaming.{ChangesMeaning, ChangesMeaningAt, KeepsMeaning, analysis_after, checked, is_identifier, is_taken, new_full_name, renamed_decl, renamed_symbol}
+use Rattle.lsp_renames.specs.Renaming.{ChangesMeaning, ChangesMeaningAt, KeepsMeaning, analysis_after, checked, is_identifier, is_taken, new_full_name, renamed_decl, renamed_known, renamed_symbol}
 use Rattle.lsp_renames.specs.RenamingLaws.{RefusedForMeaning, RenamesKeepMeaning}
+use Rattle.lsp_renames.specs.UnknownUses.{has_unknown_uses}
 use Rattle.lsp_renames.specs.declared.fault.RenameFault.{RenameFault}
-use Rattle.lsp_renames.specs.declared.fault.RenameFault.TheVariants.{BadName, MeaningChanges, NameTaken}
+use Rattle.lsp_renames.specs.declared.fault.RenameFault.TheVariants.{BadName, MeaningChanges, NameTaken, NotRenamable}
 use Rattle.lsp_queries.specs.declared.offsets.Symbol.{Symbol}
 use Rattle.lsp_queries.specs.declared.offsets.Symbol.TheVariants.{Declared, Package}
 use Rattle.lsp_queries.specs.declared.place.Place.{Place}
@@ -95,6 +96,25 @@ module _ (a : AnalysisData) (r : DeclRef) (new_name : List ℕ) where
   decl-changes : ChangesMeaning a r new_name → renamed_decl a r new_name ≡ Err MeaningChanges
   decl-changes h = renamed-checked h.named h.free ∙ changes-checked a all new_name h.changes
 
+  -- ---- unless it may have uses that aren't known
+
+  abbrev known_answer : Bool → Answer
+  known_answer unknown = cond {A = Answer} unknown (Err NotRenamable) (renamed_decl a r new_name)
+
+  pub known-decl : has_unknown_uses a r.file ≡ false → renamed_known a r new_name ≡ renamed_decl a r new_name
+  known-decl known = ap known_answer known
+
+  pub unknown-refused : has_unknown_uses a r.file ≡ true → renamed_known a r new_name ≡ Err NotRenamable
+  unknown-refused unknown = ap known_answer unknown
+
+  known-keeps : (places : List Place) (unknown : Bool) → known_answer unknown ≡ Ok places → KeepsMeaning a places new_name
+  known-keeps places true is = absurd (cc (is))
+  known-keeps places false is = decl-keeps places is
+
+  known-refused : (unknown : Bool) → has_unknown_uses a r.file ≡ unknown → known_answer unknown ≡ Err MeaningChanges → (has_unknown_uses a r.file ≡ false) × ChangesMeaning a r new_name
+  known-refused true so is = absurd (cc (is))
+  known-refused false so is = (so, decl-refused is)
+
 -- ---- the symbol at an offset
 
 pub renames-keep_meaning : RenamesKeepMeaning
@@ -103,12 +123,15 @@ renames-keep_meaning a file offset new_name places is = by (symbol_at a file off
     by : (o : Option Symbol) → renamed_symbol a o new_name ≡ Ok places → KeepsMeaning a places new_name
     by None is = absurd (cc (is))
     by (Some Package) is = absurd (cc (is))
-    by (Some (Declared r)) is = decl-keeps a r new_name places is
+    by (Some (Declared r)) is = known-keeps a r new_name places (has_unknown_uses a r.file) is
 
 pub refused-for_meaning : RefusedForMeaning
-refused-for_meaning a file offset new_name = (λ is. by (symbol_at a file offset) refl is, λ h. ap (λ o. renamed_symbol a o new_name) h.there ∙ decl-changes a h.decl new_name h.changes)
+refused-for_meaning a file offset new_name = (
+  λ is. by (symbol_at a file offset) refl is,
+  λ h. ap (λ o. renamed_symbol a o new_name) h.there ∙ known-decl a h.decl new_name h.known ∙ decl-changes a h.decl new_name h.changes,
+)
   where
     by : (o : Option Symbol) → symbol_at a file offset ≡ o → renamed_symbol a o new_name ≡ Err MeaningChanges → ChangesMeaningAt a file offset new_name
     by None there is = absurd (cc (is))
     by (Some Package) there is = absurd (cc (is))
-    by (Some (Declared r)) there is = record { decl = r; there = there; changes = decl-refused a r new_name is }
+    by (Some (Declared r)) there is = let h = known-refused a r new_name (has_unknown_uses a r.file) refl is in record { decl = r; there = there; known = h.0; changes = h.1 }

@@ -40,7 +40,7 @@ any-number test n (x ∷ xs) found = elim (or_cases (test n) (list_any (λ e. te
       (suc rest.0, omega (arith, rest.1), ap test same ∙ rest.2)
 ]
 
-number-any : {X : Type 0} (test : ℕ → Bool) (n : ℕ) (xs : List X) (k : ℕ) → k < length xs → test (n + k) ≡ true → list_any (λ e. test e.0) (enumerate_from n xs) ≡ true
+pub number-any : {X : Type 0} (test : ℕ → Bool) (n : ℕ) (xs : List X) (k : ℕ) → k < length xs → test (n + k) ≡ true → list_any (λ e. test e.0) (enumerate_from n xs) ≡ true
 number-any test n [] k within passes = absurd (omega (arith, within))
 number-any test n (x ∷ xs) zero within passes =
     let same : n ≡ n + 0 = omega arith in

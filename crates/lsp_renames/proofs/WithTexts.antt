@@ -4,16 +4,16 @@ use Rattle.std.specs.Prelude.{All, ◌==◌, find, slice_index_or}
 use Rattle.std.specs.List.{enumerate_from}
 use Rattle.std.specs.Option.{option_map_or}
 use Rattle.std.proofs.lemmas.Bool.{eqb-true}
-use Rattle.std.proofs.lemmas.List.{get_or_default}
+use Rattle.std.proofs.lemmas.List.{get_or-map, get_or_default}
 use Rattle.std.proofs.lemmas.List.Elements.{All-cons, All-head, All-map, All-nil, All-tail}
 use Rattle.std.proofs.lemmas.Slice.Zip.{get_or-zip, length-zip}
-use Rattle.work_update.specs.Edited.{edit_view, text_after, with_texts}
+use Rattle.work_update.specs.Edited.{edit_view, text_after, with_text, with_texts}
 use Rattle.work_update.specs.declared.edited.EditedText.{EditedText}
 use Rattle.lsp_queries.specs.declared.place.Place.{Place}
 use Rattle.lsp_renames.specs.Edited.{edited, places_in, respelled}
 use Rattle.lsp_renames.specs.ByFile.{behind, by_file, later}
 use Rattle.lsp_renames.specs.Cutting.{AreCutOut, edits_of}
-use Rattle.work_index.specs.Workspace.{AnalysisData, workspace_in}
+use Rattle.work_index.specs.Workspace.{AnalysisData, Source, SourceAt, no_file, texts_of, workspace_in}
 use Rattle.lsp_renames.proofs.Groups.{group_at, groups-are}
 use Rattle.lsp_queries.proofs.Pairs.{from_map}
 
@@ -41,27 +41,30 @@ map-enumerated f g k (x ∷ xs) agree =
     ap₂ (λ y ys. y ∷ ys) (sym (ap (λ n. f (n, x)) here) ∙ agree 0 x (omega arith) ∙ ap (λ n. g (n, x)) here)
     (map-enumerated f g (k + 1) xs (λ i d lt. let next : k + suc i ≡ k + 1 + i = omega arith in sym (ap (λ n. f (n, get_or xs i d)) next) ∙ agree (suc i) d (omega (arith, lt)) ∙ ap (λ n. g (n, get_or xs i d)) next))
 
-abbrev IsText : AnalysisData → List ℕ → List Place → ℕ → List ℕ × List ℕ → Type 0
-IsText a name places i file = text_after (edits_of name a.texts places) i file.1 ≡ respelled name file.1 (places_in i places)
+abbrev IsText : AnalysisData → List ℕ → List Place → ℕ → Source → Type 0
+IsText a name places i s = text_after (edits_of name (texts_of a.sources) places) i s.text ≡ respelled name s.text (places_in i places)
 
 -- texts for the files in which there are places make the workspace with the name at all places
-pub edits-law : (a : AnalysisData) (name : List ℕ) (places : List Place) → AreCutOut a places → with_texts (edits_of name a.texts places) (workspace_in a) ≡ edited name places (workspace_in a)
+pub edits-law : (a : AnalysisData) (name : List ℕ) (places : List Place) → AreCutOut a places → with_texts (edits_of name (texts_of a.sources) places) (workspace_in a) ≡ edited name places (workspace_in a)
 edits-law a name places are =
-    map-enumerated (λ e. (e.1.0, text_after (edits_of name a.texts places) e.0 e.1.1)) (λ e. (e.1.0, respelled name e.1.1 (places_in e.0 places))) 0 (workspace_in a)
-    (λ i d lt. ap (λ t. ((get_or (workspace_in a) i d).0, t)) (at i d lt))
+    map-enumerated (λ e. (e.1.0, with_text e.1.1 (text_after (edits_of name (texts_of a.sources) places) e.0 e.1.1.text))) (λ e. (e.1.0, with_text e.1.1 (respelled name e.1.1.text (places_in e.0 places)))) 0 (workspace_in a)
+    (λ i d lt. let file = get_or (workspace_in a) i d in ap (λ t. (file.0, with_text file.1 t)) (at i d lt))
   where
-    is-text : (i : ℕ) → IsText a name places i (get_or a.paths i [], get_or a.texts i [])
-    is-text i =
-        text-of_group name a.texts i (by_file places)
-        ∙ ap (respelled name (get_or a.texts i [])) (groups-are i places (λ j k d lt within. (are.ordered j k d lt within).files))
+    none : Source
+    none = record { text = []; reads_others = false }
 
-    at : (i : ℕ) (d : List ℕ × List ℕ) → i < length (workspace_in a) → IsText a name places (0 + i) (get_or (workspace_in a) i d)
+    is-text : (i : ℕ) → i < length a.sources → IsText a name places i (get_or a.sources i none)
+    is-text i there =
+        let texts = texts_of a.sources in
+        subst (λ t. text_after (edits_of name texts places) i t ≡ respelled name t (places_in i places)) (get_or-map (λ s. s.text) a.sources i none [] there)
+        (text-of_group name texts i (by_file places) ∙ ap (respelled name (get_or texts i [])) (groups-are i places (λ j k d lt within. (are.ordered j k d lt within).files)))
+
+    at : (i : ℕ) (d : SourceAt) → i < length (workspace_in a) → IsText a name places (0 + i) (get_or (workspace_in a) i d).1
     at i d lt =
-        let there : i < length a.paths = omega (arith, length-zip a.paths a.texts, lt) in
-        let there' : i < length a.texts = omega (arith, length-zip a.paths a.texts, lt) in
-        let file = get_or-zip a.paths a.texts i ([], []) there there' in
-        let first : get_or (workspace_in a) i d ≡ (get_or a.paths i [], get_or a.texts i []) = get_or_default (workspace_in a) i d ([], []) lt ∙ file in
-        subst (λ (f : List ℕ × List ℕ). IsText a name places (0 + i) f) (sym first) (subst (λ n. IsText a name places n (get_or a.paths i [], get_or a.texts i [])) (sym (zero-add i)) (is-text i))
+        let there : i < length a.paths = omega (arith, length-zip a.paths a.sources, lt) in
+        let there' : i < length a.sources = omega (arith, length-zip a.paths a.sources, lt) in
+        let first : get_or (workspace_in a) i d ≡ (get_or a.paths i [], get_or a.sources i none) = get_or_default (workspace_in a) i d no_file lt ∙ get_or-zip a.paths a.sources i no_file there there' in
+        subst (λ (f : SourceAt). IsText a name places (0 + i) f.1) (sym first) (subst (λ n. IsText a name places n (get_or a.sources i none)) (sym (zero-add i)) (is-text i there'))
 
 -- ---- the files of the texts
 
@@ -80,7 +83,7 @@ by_file-all P (p ∷ ps) all =
     (later-all P p.file (by_file ps) (by_file-all P ps (All-tail (λ p. P p.file) p ps all)))
 
 -- the files of the texts are files of the places
-pub edits-there : (a : AnalysisData) (name : List ℕ) (places : List Place) (edits : List EditedText) → AreCutOut a places → map edit_view edits ≡ edits_of name a.texts places → All (λ e. e.file < length a.paths) edits
+pub edits-there : (a : AnalysisData) (name : List ℕ) (places : List Place) (edits : List EditedText) → AreCutOut a places → map edit_view edits ≡ edits_of name (texts_of a.sources) places → All (λ e. e.file < length a.paths) edits
 edits-there a name places edits are is =
     from_map (λ e. e.0 < length a.paths) edit_view edits
-    (subst (All (λ e. e.0 < length a.paths)) (sym is) (All-map (λ e. e.0 < length a.paths) (λ g. (g.0, respelled name (slice_index_or a.texts g.0 []) g.1)) (by_file places) (by_file-all (λ n. n < length a.paths) places are.there)))
+    (subst (All (λ e. e.0 < length a.paths)) (sym is) (All-map (λ e. e.0 < length a.paths) (λ g. (g.0, respelled name (slice_index_or (texts_of a.sources) g.0 []) g.1)) (by_file places) (by_file-all (λ n. n < length a.paths) places are.there)))

@@ -2,7 +2,7 @@
 use Rattle.std.specs.Prelude.{◌≡◌, ℕ, ◌≤◌, ◌<◌, List, [], ◌∷◌, Bool, All, IsCharBoundary, IsUtf8, length, map, slice_index_or}
 use Rattle.std.specs.List.{AllPairs}
 use Rattle.proto_names.specs.declared.decl_ref.DeclRef.{DeclRef}
-use Rattle.work_index.specs.Workspace.{AnalysisData, Workspace, analysis}
+use Rattle.work_index.specs.Workspace.{AnalysisData, Workspace, analysis, texts_of}
 use Rattle.lsp_renames.specs.ByFile.{by_file}
 use Rattle.lsp_renames.specs.Edited.{respelled}
 use Rattle.lsp_queries.specs.PlaceLaws.{places_of}
@@ -22,7 +22,7 @@ pub record EndsBefore (p q : Place) : Type 0 where
 -- the places are in order, none overlaps another, and each can be cut out of the text of its file, if that is UTF-8
 pub record AreCutOut (a : AnalysisData) (places : List Place) : Type 0 where
   pub there : All (λ p. p.file < length a.paths) places
-  pub cut : All (λ p. IsUtf8 (slice_index_or a.texts p.file []) → IsCut (slice_index_or a.texts p.file []) p) places
+  pub cut : All (λ p. IsUtf8 (slice_index_or (texts_of a.sources) p.file []) → IsCut (slice_index_or (texts_of a.sources) p.file []) p) places
   pub ordered : AllPairs EndsBefore places
 
 -- of a text from an offset on, each of the places can be cut out in turn

@@ -2,6 +2,7 @@
 use Rattle.std.specs.Prelude.{ℕ, ◌==◌, List, [], ◌∷◌, ◌++◌, drop, filter, map, slice_range}
 use Rattle.std.specs.List.{enumerate_from}
 use Rattle.work_index.specs.Workspace.{Workspace}
+use Rattle.work_update.specs.Edited.{with_text}
 use Rattle.lsp_queries.specs.declared.place.Place.{Place}
 
 -- The text from an offset on, with a name for what stands at each of the places, which are in order: up to a place the text
@@ -18,6 +19,6 @@ respelled name text places = respelled_from name text 0 places
 abbrev pub places_in : ℕ → List Place → List Place
 places_in file places = filter (λ p. p.file == file) places
 
--- the workspace with a name for what stands at each of the places
+-- the workspace with a name for what stands at each of the places; that a text is read if it isn't proto3, or isn't, stays
 abbrev pub edited : List ℕ → List Place → Workspace → Workspace
-edited name places w = map (λ e. (e.1.0, respelled name e.1.1 (places_in e.0 places))) (enumerate_from 0 w)
+edited name places w = map (λ e. (e.1.0, with_text e.1.1 (respelled name e.1.1.text (places_in e.0 places)))) (enumerate_from 0 w)

@@ -1,5 +1,5 @@
 -- Another name for a declaration.
-use Rattle.std.specs.Prelude.{◌≡◌, ℕ, ◌==◌, ◌&&◌, ◌||◌, not, List, [], ◌∷◌, Bool, true, false, Option, Some, None, IsSome, IsTrue, Result, Ok, Err, if◌then◌else◌}
+use Rattle.std.specs.Prelude.{◌≡◌, ◌⊎◌, ℕ, ◌==◌, ◌&&◌, ◌||◌, not, List, [], ◌∷◌, Bool, true, false, Option, Some, None, IsSome, IsTrue, Result, Ok, Err, if◌then◌else◌}
 use Rattle.std.specs.List.{enumerate_from, list_all, list_any}
 use Rattle.std.specs.Option.{option_map_or}
 use Rattle.proto_lex.specs.Bytes.{is_letter, is_name_byte}
@@ -11,6 +11,7 @@ use Rattle.work_index.specs.Workspace.{AnalysisData, analysis, decls_named, work
 use Rattle.lsp_queries.specs.Answers.{sites_of}
 use Rattle.work_update.specs.Bindings.{SameMeaning, same_meaning}
 use Rattle.lsp_renames.specs.Edited.{edited}
+use Rattle.lsp_renames.specs.UnknownUses.{has_others, has_unknown_uses}
 use Rattle.lsp_queries.specs.Files.{decl_of, package_in, place_of}
 use Rattle.lsp_queries.specs.Offsets.{declaration_at, symbol_at}
 use Rattle.lsp_renames.specs.declared.fault.RenameFault.{RenameFault}
@@ -66,18 +67,22 @@ module _ (a : AnalysisData) where
       else (if is_taken r (new_full_name r new_name) then Err NameTaken
       else checked (sites_of a r (place_of a r)) new_name)
 
+  -- the same, unless a text that isn't proto3 may have uses of the declaration
+  abbrev pub renamed_known : DeclRef → List ℕ → Result (List Place) RenameFault
+  renamed_known r new_name = if has_unknown_uses a r.file then Err NotRenamable else renamed_decl r new_name
+
   abbrev pub renamed_symbol : Option Symbol → List ℕ → Result (List Place) RenameFault
   renamed_symbol None new_name = Err NoSymbol
   renamed_symbol (Some Package) new_name = Err NotRenamable
-  renamed_symbol (Some (Declared r)) new_name = renamed_decl r new_name
+  renamed_symbol (Some (Declared r)) new_name = renamed_known r new_name
 
   -- what another name for the symbol at an offset changes: the first refusal that fits, else the places
   abbrev pub renamed : ℕ → ℕ → List ℕ → Result (List Place) RenameFault
   renamed file offset new_name = renamed_symbol (symbol_at a file offset) new_name
 
-  -- memory is taken only for a declaration whose new name is an identifier
+  -- memory is taken only for a declaration, where the new name is an identifier or a text isn't proto3 and is read for what it declares
   abbrev pub TakesMemory : ℕ → ℕ → List ℕ → Type 0
-  TakesMemory file offset new_name = IsSome (declaration_at a file offset) × IsTrue (is_identifier new_name)
+  TakesMemory file offset new_name = IsSome (declaration_at a file offset) × (IsTrue (is_identifier new_name) ⊎ IsTrue (has_others a))
 
 -- a meaning changes, and that is all that speaks against the new name of a declaration
 pub record ChangesMeaning (a : AnalysisData) (r : DeclRef) (new_name : List ℕ) : Type 0 where
@@ -89,4 +94,5 @@ pub record ChangesMeaning (a : AnalysisData) (r : DeclRef) (new_name : List ℕ)
 pub record ChangesMeaningAt (a : AnalysisData) (file offset : ℕ) (new_name : List ℕ) : Type 0 where
   pub decl : DeclRef
   pub there : symbol_at a file offset ≡ Some (Declared decl)
+  pub known : has_unknown_uses a decl.file ≡ false
   pub changes : ChangesMeaning a decl new_name

@@ -1,5 +1,6 @@
 // The texts that a rename makes.
 ghost use Rattle.std.specs.Prelude.{◌≡◌, ◌≤◌, ◌<◌, ◌++◌, drop, length, map, string_bytes, IfOk};
+ghost use Rattle.work_index.specs.Workspace.{texts_of};
 ghost use Rattle.work_update.specs.Edited.{edit_view};
 ghost use Rattle.lsp_renames.specs.Cutting.{AreCutOut, CanBeCut, edits_of};
 ghost use Rattle.lsp_renames.specs.Edited as spec;
@@ -38,7 +39,7 @@ fn push_edit(
     requires cut { AreCutOut analysis.now places.now }
     ensures some { IfOk result (λ n. 0 < n) }
     ensures within { IfOk result (λ n. n ≤ length places.now) }
-    ensures added { IfOk result (λ n. map edit_view edits.new.items ++ edits_of name.now analysis.now.texts (drop n places.now) ≡ map edit_view edits.old.items ++ edits_of name.now analysis.now.texts places.now) }
+    ensures added { IfOk result (λ n. map edit_view edits.new.items ++ edits_of name.now (texts_of analysis.now.sources) (drop n places.now) ≡ map edit_view edits.old.items ++ edits_of name.now (texts_of analysis.now.sources) places.now) }
 {
     let file = places[0].file;
     let count = 1 + count_in(&places[1..], file);
@@ -56,7 +57,7 @@ pub fn edited_texts(
     name: &str,
 ) -> Result<Vec<EditedText>, AllocError>
     requires { AreCutOut analysis.now places.now }
-    ensures { IfOk result (λ edits. map edit_view edits.items ≡ edits_of name.now analysis.now.texts places.now) }
+    ensures { IfOk result (λ edits. map edit_view edits.items ≡ edits_of name.now (texts_of analysis.now.sources) places.now) }
 {
     let mut edits = Vec::new(alloc);
     let mut done = 0;

@@ -11,8 +11,8 @@ pub enum RenameFault {
     /// 701: no symbol is at the offset.
     #[error("no symbol is there")]
     NoSymbol,
-    /// 702: the symbol at the offset is a package.
-    #[error("a package can't be renamed")]
+    /// 702: the symbol at the offset is a package, or a declaration of which a text that isn't proto3 may have uses that aren't known.
+    #[error("the symbol can't be renamed")]
     NotRenamable,
     /// 703: the new name isn't an identifier. A keyword is an identifier.
     #[error("the new name isn't an identifier")]

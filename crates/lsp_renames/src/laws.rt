@@ -1,8 +1,8 @@
 // What the definitions of renaming say, beside what the code meets.
 ghost use Rattle.lsp_renames.specs.Cutting.{PlacesAreCutOut};
-ghost use Rattle.lsp_renames.specs.RenamingLaws.{FullNameScopeLaw, IdentifierFormLaw, RefusedForMeaning, RenamesKeepMeaning, TakenLaw};
+ghost use Rattle.lsp_renames.specs.RenamingLaws.{FullNameScopeLaw, IdentifierFormLaw, RefusedForMeaning, RenamesKeepMeaning, TakenLaw, UnknownUsesLaw};
 
-use proto_laws::{identifiers_law, names_apart, size_law, uses_in_order};
+use proto_laws::{identifiers_law, names_apart, other_names_law, size_law, uses_in_order};
 
 /// A law. What renaming takes for an identifier is what the lexer reads as one name, from its first byte to its last.
 pub fn identifier_form_law()
@@ -20,6 +20,11 @@ pub fn taken_law()
     ensures { TakenLaw }
 {}
 
+/// A law. A file's declarations may have unknown uses exactly if it, or a file that sees it, isn't proto3 and is read for what it declares.
+pub fn unknown_uses_law()
+    ensures { UnknownUsesLaw }
+{}
+
 /// A law. Where a rename isn't refused all meanings stay. It is refused because a meaning changes exactly if one does, and no other
 /// refusal fits.
 pub fn meaning_law()
@@ -34,6 +39,7 @@ pub fn places_cut_out()
 {
     identifiers_law();
     names_apart();
+    other_names_law();
     size_law();
     uses_in_order();
 }

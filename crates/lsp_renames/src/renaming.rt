@@ -1,14 +1,16 @@
 // Another name for a declaration.
-ghost use Rattle.std.specs.Prelude.{◌≡◌, ◌≢◌, ◌↔◌, Ok, Err, IsTrue, IfOk, IfErr, string_bytes};
+ghost use Rattle.std.specs.Prelude.{◌≡◌, ◌≢◌, ◌↔◌, ◌⊎◌, Ok, Err, IsTrue, IfOk, IfErr, false, string_bytes};
 ghost use Rattle.proto_names.specs.Files as files;
 ghost use Rattle.lsp_queries.specs.Answers.{sites_of};
 ghost use Rattle.lsp_renames.specs.Cutting.{AreCutOut};
+ghost use Rattle.lsp_renames.specs.UnknownUses as unknown;
 ghost use Rattle.lsp_queries.specs.Files.{package_in, place_of};
-ghost use Rattle.lsp_renames.specs.Renaming.{is_identifier, is_other, new_full_name, is_declared, is_package, is_taken, renamed_decl, renamed, ChangesMeaning, ChangesMeaningAt, KeepsMeaning, TakesMemory};
+ghost use Rattle.lsp_renames.specs.Renaming.{is_identifier, is_other, new_full_name, is_declared, is_package, is_taken, renamed_decl, renamed_known, renamed, ChangesMeaning, ChangesMeaningAt, KeepsMeaning, TakesMemory};
 
 use crate::edited::edited_texts;
 use crate::fault::RenameFault;
 use crate::laws::places_cut_out;
+use crate::unknown_uses::has_unknown_uses;
 use import_graph::FileNo;
 use lsp_queries::{Place, Symbol, decl_of, facts_in, place_of, sites_of, symbol_at};
 use proto_decls::{Name, joined};
@@ -193,14 +195,39 @@ fn rename_decl(
     checked(alloc, analysis, places, new_name, decl.file)
 }
 
+// The same, if a text that isn't proto3 has no uses of the declaration that aren't known.
+fn rename_known(
+    alloc: Global,
+    analysis: &Analysis,
+    decl: DeclRef,
+    new_name: &str,
+) -> Result<Edits, RenameFault>
+    ensures places { IfOk result (λ edits. renamed_known analysis.now decl new_name.now ≡ Ok edits.places.items) }
+    ensures name { IfOk result (λ edits. string_bytes edits.new_name ≡ new_name.now) }
+    ensures refused { IfErr result (λ fault. fault ≢ RenameFault.Memory → renamed_known analysis.now decl new_name.now ≡ Err fault) }
+    ensures memory { IfErr result (λ fault. fault ≡ RenameFault.Memory → IsTrue (is_identifier new_name.now) ⊎ IsTrue (unknown.has_others analysis.now)) }
+    ensures keeps { IfOk result (λ edits. KeepsMeaning analysis.now edits.places.items new_name.now) }
+    ensures known { IfErr result (λ fault. fault ≡ RenameFault.MeaningChanges → unknown.has_unknown_uses analysis.now decl.file ≡ false) }
+    ensures changes { IfErr result (λ fault. fault ≡ RenameFault.MeaningChanges → ChangesMeaning analysis.now decl new_name.now) }
+{
+    if has_unknown_uses(analysis, decl.file)? {
+        return Err(RenameFault::NotRenamable);
+    }
+    rename_decl(alloc, analysis, decl, new_name)
+}
+
 /// The edits that give a new name to the declaration that the name at a byte offset of a file stands for: they change the
 /// declaration's name and every use of it, in all files, by path, then offset. After them each name, by its number in its file, stands
 /// for what it stood for, and what is wrong in each file has the same numbers.
 ///
+/// A text that isn't proto3, where it is read for what it declares, may use what is declared in itself and in the files that it sees, and its uses
+/// aren't known. What is declared there isn't renamable.
+///
 /// # Errors
 ///
 /// The first that fits of `NoSymbol`, `NotRenamable`, `BadName`, `NameTaken` and `MeaningChanges`, which is found in the edited
-/// texts. `Memory` comes only where memory was refused, and none is asked for where one of the first three fits.
+/// texts. `Memory` comes only where memory was refused. Where one of the first three fits none is asked for, unless there is a text that isn't
+/// proto3 and is read for what it declares.
 pub fn rename(
     alloc: Global,
     analysis: &Analysis,
@@ -220,6 +247,6 @@ pub fn rename(
     match symbol_at(analysis, file, offset) {
         None => Err(RenameFault::NoSymbol),
         Some(Symbol::Package) => Err(RenameFault::NotRenamable),
-        Some(Symbol::Declared(decl)) => rename_decl(alloc, analysis, decl, new_name),
+        Some(Symbol::Declared(decl)) => rename_known(alloc, analysis, decl, new_name),
     }
 }

@@ -145,6 +145,7 @@ fn options_of<'a>(
     Ok(Options {
         check,
         dirs,
+        reads_others: given.get_flag("read-others"),
         workers,
         format: given_format(check, given),
         quiet: check && given.get_flag("quiet"),

@@ -10,18 +10,18 @@ const VERSION: &str = "1 (logic dac8208d650f15bf)";
 
 // How the program is called. Each message on a wrong command line shows it.
 const USAGE: &str = "\
-protols serve [--root DIR] [--proto-path DIR]... [--workers N]
-                     [--stdio] [--clientProcessId ID]
-       protols check [--root DIR] [--proto-path DIR]... [--workers N]
-                     [--format FORMAT] [--quiet] [FILE]...";
+protols serve [--root DIR] [--proto-path DIR]... [--read-others]
+                     [--workers N] [--stdio] [--clientProcessId ID]
+       protols check [--root DIR] [--proto-path DIR]... [--read-others]
+                     [--workers N] [--format FORMAT] [--quiet] [FILE]...";
 
 const SERVE_USAGE: &str = "\
-protols serve [--root DIR] [--proto-path DIR]... [--workers N]
-                     [--stdio] [--clientProcessId ID]";
+protols serve [--root DIR] [--proto-path DIR]... [--read-others]
+                     [--workers N] [--stdio] [--clientProcessId ID]";
 
 const CHECK_USAGE: &str = "\
-protols check [--root DIR] [--proto-path DIR]... [--workers N]
-                     [--format FORMAT] [--quiet] [FILE]...";
+protols check [--root DIR] [--proto-path DIR]... [--read-others]
+                     [--workers N] [--format FORMAT] [--quiet] [FILE]...";
 
 // The names of the formats in which a check writes its lines.
 const FORMATS: &[&str] = &["plain", "gnu", "github", "json", "sarif"];
@@ -118,6 +118,11 @@ of them. The other files of the folders are read all the same, since{n}\
 imports may name them. Each FILE has to be below one of the folders{n}\
 [default: all files]";
 
+const READ_OTHERS_HELP: &str = "\
+Read files that aren't proto3 too, for what they declare: the files{n}\
+that import them know their names then. Such a file still has 317,{n}\
+and none of 201 to 318 beside it";
+
 const WORKERS_HELP: &str = "\
 How many threads work on the files, from 1 to 64. The output is the{n}\
 same with any number [default: 4]";
@@ -146,6 +151,14 @@ fn proto_path_option<'a>(alloc: Global, help: &'a str) -> Arg<'a> {
         .value_name("DIR")
         .action(ArgAction::Append)
         .help(help)
+}
+
+// The option that has files read that aren't proto3.
+fn read_others_option<'a>(alloc: Global) -> Arg<'a> {
+    Arg::new(alloc, "read-others")
+        .long("read-others")
+        .action(ArgAction::SetTrue)
+        .help(READ_OTHERS_HELP)
 }
 
 // The option that says how many workers there are.
@@ -216,6 +229,7 @@ fn plain_serve<'a>(alloc: Global) -> Command<'a> {
 fn serve_command<'a>(alloc: Global) -> Result<Command<'a>, AllocError> {
     let serve = plain_serve(alloc).arg(root_option(alloc, ROOT_HELP))?;
     let serve = serve.arg(proto_path_option(alloc, PROTO_PATH_HELP))?;
+    let serve = serve.arg(read_others_option(alloc))?;
     let serve = serve.arg(workers_option(alloc))?;
     let serve = serve.arg(stdio_option(alloc))?;
     serve.arg(client_option(alloc))
@@ -233,6 +247,7 @@ fn plain_check<'a>(alloc: Global) -> Command<'a> {
 fn check_command<'a>(alloc: Global) -> Result<Command<'a>, AllocError> {
     let check = plain_check(alloc).arg(root_option(alloc, CHECK_ROOT_HELP))?;
     let check = check.arg(proto_path_option(alloc, CHECK_PROTO_PATH_HELP))?;
+    let check = check.arg(read_others_option(alloc))?;
     let check = check.arg(workers_option(alloc))?;
     let check = check.arg(format_option(alloc))?;
     let check = check.arg(quiet_option(alloc))?;

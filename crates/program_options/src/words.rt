@@ -8,6 +8,8 @@ pub struct Options<'a> {
     /// The folders that are given: that of `--root` if there is one, then those of `--proto-path` in their order. Some may
     /// be the same, or lie in one another.
     pub dirs: Vec<&'a str>,
+    /// Whether texts that aren't proto3 are read for what they declare.
+    pub reads_others: bool,
     /// How many workers there are, from 1 to 64.
     pub workers: u8,
     /// How the lines of a check are written: one of the names that `check --help` lists.

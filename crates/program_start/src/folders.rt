@@ -49,30 +49,34 @@ fn roots_of_all(alloc: Global, count: usize) -> Result<Vec<String>, AllocError>
     Ok(roots)
 }
 
-// What is started with these roots, and the files that were found below them.
+// What is started with these roots, the files that were found below them, and the choice whether texts that aren't proto3 are read.
 fn with_files<'d>(
     alloc: Global,
     roots: Vec<String>,
     found: Vec<FoundFile>,
+    reads_others: bool,
 ) -> Result<Config, Failure<'d>>
     ensures roots { IfOk result (λ config. config.roots ≡ map string_bytes roots.items) }
     ensures files { IfOk result (λ config. config.files ≡ map (λ f. record { root = f.root; path = string_bytes f.path; text = string_bytes f.text }) found.items) }
+    ensures others { IfOk result (λ config. config.reads_others ≡ reads_others) }
 {
     let files = disk_files(alloc, found)?;
-    Ok(Config::make(alloc, roots, files)?)
+    Ok(Config::make(alloc, roots, files, reads_others)?)
 }
 
 /// What a session is started with: the folders as its roots, and the files below them, which so many threads read. With no folder
-/// the root is that of all paths, and no file is read.
+/// the root is that of all paths, and no file is read. `reads_others` says whether texts that aren't proto3 are read for what they declare.
 ///
 /// `Failure::Folder` if a folder can't be read, and 803 if memory was refused.
 pub fn configuration<'d, R: FolderReader + Eprint + AllocGlobal + Threads + Wait>(
     rt: &R,
     dirs: &[&'d str],
     threads: u8,
+    reads_others: bool,
 ) -> Result<Config, Failure<'d>>
     ensures folders { dirs.now ≢ [] → IfOk result (λ config. config.roots ≡ map (λ dir. url.root_url dir.now) dirs.now) }
     ensures all_paths { dirs.now ≡ [] → IfOk result (λ config. config.roots ≡ url.root_url (codes "/") ∷ []) }
+    ensures others { IfOk result (λ config. config.reads_others ≡ reads_others) }
 {
     let roots = if dirs.is_empty() {
         roots_of_all(rt.alloc(), 1)?
@@ -80,7 +84,7 @@ pub fn configuration<'d, R: FolderReader + Eprint + AllocGlobal + Threads + Wait
         roots_of(rt.alloc(), dirs)?
     };
     let found = read_folders(rt, dirs, usize::from(threads))?;
-    with_files(rt.alloc(), roots, found)
+    with_files(rt.alloc(), roots, found, reads_others)
 }
 
 // The folders that are checked: these, or the current one if there are none.
@@ -129,7 +133,8 @@ pub fn check_of<'d, R: FolderReader + Files + Eprint + AllocGlobal + Threads + W
     rt: &R,
     options: &Options<'d>,
 ) -> Result<Asked, Failure<'d>>
-    ensures { IfOk result (λ asked. (let config = asked.config in config.roots) ≡ replicate (max 1 (length options.now.dirs.items)) (url.root_url (codes "/"))) }
+    ensures roots { IfOk result (λ asked. (let config = asked.config in config.roots) ≡ replicate (max 1 (length options.now.dirs.items)) (url.root_url (codes "/"))) }
+    ensures others { IfOk result (λ asked. (let config = asked.config in config.reads_others) ≡ options.now.reads_others) }
 {
     let alloc = rt.alloc();
     let dirs = checked_dirs(alloc, options.dirs.as_slice())?;
@@ -140,7 +145,7 @@ pub fn check_of<'d, R: FolderReader + Files + Eprint + AllocGlobal + Threads + W
     }
     let roots = roots_of_all(alloc, dirs.len())?;
     Ok(Asked {
-        config: with_files(alloc, roots, found)?,
+        config: with_files(alloc, roots, found, options.reads_others)?,
         how,
         workers: usize::from(options.workers),
     })

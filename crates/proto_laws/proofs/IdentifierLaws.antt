@@ -13,6 +13,7 @@ use Rattle.proto_tree.specs.declared.node.Span.{Span}
 use Rattle.proto_tree.specs.Identifiers.{AllIdentifiers, IsIdentifier, IsIdentifierAt}
 use Rattle.proto_tree.specs.Identifiers.{NamesAreIdentifiers as SpansAreIdentifiers}
 use Rattle.proto_tree.specs.Names.{names_in, type_components_in, package_components_step, package_components_of, package_components_in}
+use Rattle.proto_tree.specs.Others.{other_tree}
 use Rattle.proto_tree.specs.Read.{empty_tree, read, value_tree}
 use Rattle.proto_decls.specs.declared.diagnostic.Diag.{Diag}
 use Rattle.proto_decls.specs.declared.stated.StatedPackage.{StatedPackage}
@@ -57,6 +58,10 @@ of_value P text empty h = by (nat_lt 16777216 (length text))
     by : (b : Bool) → AllIdentifiers P (cond {A = FileTree} b (read []) (read text)).nodes
     by true = subst (λ tree. AllIdentifiers P tree.nodes) (sym empty) (none P)
     by false = h
+
+-- the names of a text that isn't proto3, as it is read for what it declares, are identifiers of the text
+abbrev pub OthersAreIdentifiers : Type 0
+OthersAreIdentifiers = (text : List ℕ) → AllIdentifiers (IsIdentifierAt text) (other_tree text).nodes
 
 pub names-are_identifiers : read [] ≡ empty_tree → SpansAreIdentifiers → NamesAreIdentifiers
 names-are_identifiers empty spans text utf8 =

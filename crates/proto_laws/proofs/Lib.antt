@@ -35,3 +35,4 @@ pub mod FileSaid
 pub mod NameScopes
 pub mod NamesOrder
 pub mod OtherNames
+pub mod OtherTrees

@@ -11,17 +11,19 @@ use Rattle.proto_tree.specs.declared.node.Node.TheFolds.{fold-roll-Node, ind-Nod
 use Rattle.proto_tree.specs.declared.node.Span.{Span}
 use Rattle.proto_tree.specs.Names.{joined as all_names, names_step, names_of, names_in}
 use Rattle.proto_tree.specs.Identifiers.{IsIdentifierAt, NamesAreIdentifiers}
+use Rattle.proto_tree.specs.Others.{other_tree}
 use Rattle.proto_tree.specs.Read.{empty_tree, read, value_tree}
 use Rattle.proto_laws.proofs.TokenNames.{no_dot}
 use Rattle.proto_decls.specs.declared.diagnostic.Diag.{Diag}
 use Rattle.proto_decls.specs.declared.fact.Decl.{Decl}
 use Rattle.proto_decls.specs.declared.fact.DeclKind.{DeclKind}
 use Rattle.proto_decls.specs.declared.fact.DeclKind.TheVariants as kind
+use Rattle.proto_decls.specs.declared.fact.FileFacts.{FileFacts}
 use Rattle.proto_decls.specs.declared.fact.PackageFact.{PackageFact}
 use Rattle.proto_decls.specs.declared.stated.StatedSyntax.{StatedSyntax}
 use Rattle.proto_decls.specs.Decls.{declared, Placed, in_turn, decls_step, decls_of, decls_in}
-use Rattle.proto_decls.specs.Facts.{decls, facts_at, facts_of, first_package, opaque, package_name, packages, stated}
-use Rattle.proto_laws.proofs.IdentifierLaws.{of_value, weaker}
+use Rattle.proto_decls.specs.Facts.{decls, facts_at, facts_by, facts_of, first_package, is_other, opaque, other_facts, package_name, packages, stated}
+use Rattle.proto_laws.proofs.IdentifierLaws.{OthersAreIdentifiers, of_value, weaker}
 use Rattle.proto_decls.specs.Nesting.{HasName, IsWithin, HasOuterNames, NamesNest}
 use Rattle.proto_decls.specs.Text.{is_boundary, joined, text_at}
 
@@ -211,7 +213,21 @@ no_dot_at text s is = by (nat_le s.start s.«end» && (is_boundary text s.start 
     by true = no_dot (slice_range text s.start s.«end») is.bytes
     by false = All-nil (λ c. c ≢ 46)
 
-pub names-nest : read [] ≡ empty_tree → NamesAreIdentifiers → (text : List ℕ) → NamesNest (facts_of text)
-names-nest empty identifiers text =
+own-nest : read [] ≡ empty_tree → NamesAreIdentifiers → (text : List ℕ) → NamesNest (facts_of text)
+own-nest empty identifiers text =
     let all = of_value (HasNoDotAt text) text empty (weaker (IsIdentifierAt text) (HasNoDotAt text) (read text).nodes (no_dot_at text) (identifiers text)) in
     decls-nest text all.names
+
+-- of a text that isn't proto3, as it is read for what it declares
+others-nest : OthersAreIdentifiers → (text : List ℕ) → NamesNest (other_facts text)
+others-nest others text =
+    let tree = other_tree text in
+    let all = weaker (IsIdentifierAt text) (HasNoDotAt text) tree.nodes (no_dot_at text) (others text) in
+    facts-nest None [] text tree all.names
+
+pub names-nest : read [] ≡ empty_tree → NamesAreIdentifiers → OthersAreIdentifiers → (reads_others : Bool) (text : List ℕ) → NamesNest (facts_by reads_others text)
+names-nest empty identifiers others reads_others text = by (reads_others && is_other text)
+  where
+    by : (b : Bool) → NamesNest (cond {A = FileFacts} b (other_facts text) (facts_of text))
+    by true = others-nest others text
+    by false = own-nest empty identifiers text

@@ -1,6 +1,7 @@
 pub mod Reading
 pub mod Apart
 pub mod Trees
+pub mod OtherTrees
 pub mod Parents
 pub mod Scopes
 pub mod Bodies

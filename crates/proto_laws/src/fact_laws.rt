@@ -1,11 +1,11 @@
 // Laws of diagnostics and of facts. Each is proved for all lists, texts and trees, and its function does nothing.
 ghost use Rattle.std.specs.List.Sorted.{IsStrictlyIncreasing};
-ghost use Rattle.std.specs.Prelude.{◌≡◌, ℕ, List, map};
+ghost use Rattle.std.specs.Prelude.{◌≡◌, ℕ, Bool, List, map};
 ghost use Rattle.proto_tree.specs.declared.node.FileTree.{FileTree};
 ghost use Rattle.proto_decls.specs.declared.diagnostic.Diag.{Diag};
 ghost use Rattle.proto_decls.specs.declared.fact.FileFacts.{FileFacts};
 ghost use Rattle.proto_decls.specs.declared.problem.Problem.{Problem};
-ghost use Rattle.proto_decls.specs.Facts.{AreFacts, facts_in, facts_of};
+ghost use Rattle.proto_decls.specs.Facts.{AreFacts, facts_by, facts_in, facts_of};
 ghost use Rattle.proto_decls.specs.Problems.{problem_order, variant_order};
 ghost use Rattle.proto_laws.specs.FileDiagnostics.{DiagnosticsAreSaid};
 ghost use Rattle.proto_laws.specs.Parents.{ParentsHold};
@@ -14,7 +14,7 @@ ghost use Rattle.proto_tree.specs.Read.{value_tree};
 ghost use Rattle.proto_decls.specs.Nesting.{NamesNest};
 ghost use Rattle.proto_decls.specs.Order.{IsListOf, in_order as ordered};
 
-use crate::tree_laws::{identifiers_law, names_law, size_law};
+use crate::tree_laws::{identifiers_law, names_law, other_names_law, size_law};
 
 /// A law: the variants of `Problem` stand in the order of their numbers, and those of one number in that of their words.
 pub fn problems_in_order()
@@ -48,12 +48,13 @@ pub fn parents_hold()
     decls_in_order();
 }
 
-/// A law: the declarations of a text nest. Each full name that a declaration lies in is declared too, or is the package or one
-/// that the package lies in.
+/// A law: the declarations of a text nest. Each full name that a declaration lies in is declared too, or is the package or one that the
+/// package lies in. So it is in a text that isn't proto3, and is read for what it declares.
 pub fn names_nest()
-    ensures { (text : List ℕ) → NamesNest (facts_of text) }
+    ensures { (reads_others : Bool) (text : List ℕ) → NamesNest (facts_by reads_others text) }
 {
     identifiers_law();
+    other_names_law();
     size_law();
 }
 

@@ -8,7 +8,8 @@
 //! its body ends in `}`. `size_law`: a text of over 16,777,216 bytes has the tree of the empty text. `names_law`: the names that
 //! statements declare, those inside a block behind the block's own, start at ascending offsets. `type_names_law`: so do the names
 //! of types, and their components. `names_apart`: no two names touch. `identifiers_law`: declared names, and the components of
-//! types and packages, are identifiers of the text. `other_names_law`: of a text that isn't proto3, declared names stand in order, no
+//! types and packages, are identifiers of the text. `other_trees_law`: a text that isn't proto3 is read for what it declares as the one tree
+//! that rules in the words of proto2 and of the editions say. `other_names_law`: of such a text, declared names stand in order, no
 //! two names touch, and each is an identifier.
 //!
 //! Facts. `one_value_of_facts`: what the facts of a text are, as a relation, has one value. `one_list_in_order`: so has the order of
@@ -37,5 +38,5 @@ pub use name_laws::names_stand_in_scopes;
 pub use order_laws::{names_in_order, uses_in_order};
 pub use tree_laws::{
     blocks_law, brackets_law, headers_law, identifiers_law, items_law, names_apart, names_law,
-    other_names_law, size_law, statements_law, trees_law, type_names_law,
+    other_names_law, other_trees_law, size_law, statements_law, trees_law, type_names_law,
 };

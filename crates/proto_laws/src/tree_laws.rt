@@ -2,6 +2,7 @@
 ghost use Rattle.std.specs.List.Sorted.{IsStrictlyIncreasing};
 ghost use Rattle.std.specs.Prelude.{◌≡◌, ◌↔◌, ◌<◌, ◌≤◌, ℕ, IsTrue, List, [], false, length, map};
 ghost use Rattle.proto_laws.specs.Apart.{NamesAreApart};
+ghost use Rattle.proto_laws.specs.OtherTrees.{IsOtherTreeOf};
 ghost use Rattle.proto_laws.specs.Reading.{HeadersAreRead, HeadersAreUnique, StatementsAreRead, StatementsAreUnique};
 ghost use Rattle.proto_laws.specs.Trees.{BlocksEnd, IsTreeOf, ReadsBody};
 ghost use Rattle.proto_tree.specs.declared.node.FileTree.{FileTree};
@@ -100,6 +101,15 @@ pub fn identifiers_law()
 {
     one_token_list();
     cut_tokens();
+}
+
+/// A law: a text that isn't proto3 is read for what it declares as the one tree that rules for its tokens, items and blocks say. Those for tokens are
+/// said in the words of proto2 and of the editions: their labels, groups, and `export` and `local`.
+pub fn other_trees_law()
+    ensures exists { (text : List ℕ) → IsOtherTreeOf text (other_tree text) }
+    ensures only { (text : List ℕ) (tree : FileTree) → IsOtherTreeOf text tree → tree ≡ other_tree text }
+{
+    one_token_list();
 }
 
 /// A law: the names of a text that isn't proto3 are in order and apart. As it is read for what it declares, the declared names start at ascending

@@ -23,10 +23,10 @@ use work_check::{Asked, Checked, check_as};
 
 const NOT_UTF8: &str = "error: a word of the command line isn't UTF-8
 
-Usage: protols serve [--root DIR] [--proto-path DIR]... [--workers N]
-                     [--stdio] [--clientProcessId ID]
-       protols check [--root DIR] [--proto-path DIR]... [--workers N]
-                     [--format FORMAT] [--quiet] [FILE]...
+Usage: protols serve [--root DIR] [--proto-path DIR]... [--read-others]
+                     [--workers N] [--stdio] [--clientProcessId ID]
+       protols check [--root DIR] [--proto-path DIR]... [--read-others]
+                     [--workers N] [--format FORMAT] [--quiet] [FILE]...
 
 For more information, try '--help'.";
 
@@ -62,7 +62,7 @@ fn serve_with<R: Threads + Wait + Clone + Send + Drop + Input + Print + AllocGlo
     )
 }
 
-// Serves an editor, with the files of these folders.
+// Serves an editor, with the files of the folders that these options name.
 fn serve_editor<
     'd,
     R: Threads
@@ -76,8 +76,9 @@ fn serve_editor<
         + Eprint
         + AllocGlobal
         + 'static,
->(rt: &R, dirs: &[&'d str], workers: u8) -> Result<Ended, Failure<'d>> {
-    let config = configuration(rt, dirs, workers)?;
+>(rt: &R, options: &Options<'d>) -> Result<Ended, Failure<'d>> {
+    let workers = options.workers;
+    let config = configuration(rt, options.dirs.as_slice(), workers, options.reads_others)?;
     Ok(serve_with(rt, config, workers)?)
 }
 
@@ -160,7 +161,7 @@ fn main(rt: HostRuntime) -> ExitCode {
     };
     match options(rt.alloc(), words.as_slice()) {
         Ok(asked) if asked.check => status_of_check(&rt, check_files(&rt, &asked)),
-        Ok(asked) => status_of(&rt, serve_editor(&rt, asked.dirs.as_slice(), asked.workers)),
+        Ok(asked) => status_of(&rt, serve_editor(&rt, &asked)),
         Err(error) => explain(&rt, &error),
     }
 }

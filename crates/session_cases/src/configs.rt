@@ -34,7 +34,7 @@ fn roots(alloc: Global) -> Result<Vec<String>, AllocError> {
 /// none.
 pub fn config_of(alloc: Global, given: &str, behind: usize) -> Result<Config, AllocError> {
     let files = files_in(alloc, given, behind)?;
-    match Config::make(alloc, roots(alloc)?, files) {
+    match Config::make(alloc, roots(alloc)?, files, false) {
         Ok(config) => Ok(config),
         Err(_) => Err(AllocError),
     }

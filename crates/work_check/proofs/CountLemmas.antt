@@ -8,14 +8,14 @@ use Rattle.std.proofs.lemmas.List.FromFn.{length-enumerate_from}
 use Rattle.std.specs.declared.alloc.Global.{Global}
 use Rattle.std.specs.declared.string.String.{String}
 use Rattle.check_lines.specs.declared.format.Format.{Format}
-use Rattle.work_index.specs.Workspace.{Workspace, analysis, diagnostics_of}
+use Rattle.work_index.specs.Workspace.{SourceAt, Workspace, analysis, diagnostics_of, no_file}
 use Rattle.work_check.specs.Listing.{is_error, error_count, has_errors}
 use Rattle.work_check.proofs.LinesLemmas.{split}
 
 -- ---- what each file has so many of, one file after the other
 
 abbrev pub Counting : Type 0
-Counting = ℕ × (List ℕ × List ℕ) → ℕ
+Counting = ℕ × SourceAt → ℕ
 
 -- those of the files from a number on
 abbrev pub left_of : Counting → ℕ → Workspace → ℕ
@@ -30,12 +30,12 @@ pub record AreCounted (of : Counting) (count n : ℕ) (w : Workspace) : Type 0 w
 pub none-counted : (of : Counting) (w : Workspace) → AreCounted of 0 0 w
 none-counted of w = record { done = 0; counted = refl; others = omega arith }
 
-pub more-counted : (of : Counting) (w : Workspace) (count n more new : ℕ) → n < length w → AreCounted of count n w → more ≡ of (n, get_or w n ([], []))
+pub more-counted : (of : Counting) (w : Workspace) (count n more new : ℕ) → n < length w → AreCounted of count n w → more ≡ of (n, get_or w n no_file)
     → new ≡ min (count + more) (2 ^ 64 - 1) → AreCounted of new (n + 1) w
 more-counted of w count n more new there at is sum =
     let rest = enumerate_from (n + 1) (drop (n + 1) w) in
     let next : left_of of n w ≡ more + left_of of (n + 1) w =
-    ap (λ xs. sum_by of (enumerate_from n xs)) (split w n ([], []) there) ∙ sum_by-cons of (n, get_or w n ([], [])) rest ∙ ap (λ k. k + sum_by of rest) (sym is) in
+    ap (λ xs. sum_by of (enumerate_from n xs)) (split w n no_file there) ∙ sum_by-cons of (n, get_or w n no_file) rest ∙ ap (λ k. k + sum_by of rest) (sym is) in
     record { done = at.done + more; counted = sum ∙ ap (λ k. min (k + more) (2 ^ 64 - 1)) at.counted ∙ omega arith; others = omega (arith, at.others, next) }
 
 pub all-counted : (of : Counting) (w : Workspace) (count n : ℕ) → length w ≤ n → AreCounted of count n w → count ≡ min (sum_by of (enumerate_from 0 w)) (2 ^ 64 - 1)

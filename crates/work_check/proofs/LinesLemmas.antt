@@ -10,7 +10,7 @@ use Rattle.proto_decls.specs.declared.diagnostic.Diag.{Diag}
 use Rattle.check_lines.specs.Lines.{ListedFileData, line_as, written, is_array, without_first, cut, opening, closing, document}
 use Rattle.check_lines.specs.declared.format.Format.{Format}
 use Rattle.check_lines.specs.declared.format.Format.TheVariants.{Plain, Gnu, Github, Json, Sarif}
-use Rattle.work_index.specs.Workspace.{Workspace, analysis}
+use Rattle.work_index.specs.Workspace.{SourceAt, Workspace, analysis, no_file}
 use Rattle.work_config.specs.Sending.{SendsPrefix}
 use Rattle.work_config.proofs.SendingLemmas.{front-behind}
 use Rattle.work_check.specs.Listing.{file_lines, listed_file, wanted_diags}
@@ -104,12 +104,12 @@ written-cut file ds part more cut = ap (written file) cut ∙ flat_map-append (l
 
 -- ---- the lines of the files, one file after the other
 
-pub split : (w : Workspace) (n : ℕ) (d : List ℕ × List ℕ) → n < length w → drop n w ≡ get_or w n d ∷ drop (n + 1) w
+pub split : (w : Workspace) (n : ℕ) (d : SourceAt) → n < length w → drop n w ≡ get_or w n d ∷ drop (n + 1) w
 split w n d there = rw (add-one n) (drop-cons w n d there)
 
 -- those of the next file come first
 left-more : (l : Listed) (n : ℕ) → n < length l.files → left_from n l ≡ lines_at l n ++ left_from (n + 1) l
-left-more l n there = ap (λ rest. flat_map (file_lines l.how l.roots.items (analysis l.files)) (enumerate_from n rest)) (split l.files n ([], []) there)
+left-more l n there = ap (λ rest. flat_map (file_lines l.how l.roots.items (analysis l.files)) (enumerate_from n rest)) (split l.files n no_file there)
 
 -- the lines of the next file, and those of the files behind it
 pub file-cut : (l : Listed) (n : ℕ) (lines : List ℕ) → n < length l.files → lines ≡ lines_at l n → left_from n l ≡ lines ++ left_from (n + 1) l
@@ -142,9 +142,9 @@ pub sent-all : (l : Listed) (n : ℕ) (old new : Option (List ℕ)) (all room : 
 sent-all l n old new all room first none = sent-last old new all room (cut first (left_from n l)) (ap (cut first) (none-left l n none) ∙ cut_none first)
 
 -- the lines of the file with a number, and its diagnostics
-pub lines-at : (l : Listed) (n : ℕ) (file : ListedFileData) (diags : List Diag) → file ≡ listed_file l.how l.roots.items (n, get_or l.files n ([], []))
-    → diags ≡ wanted_diags l.how (analysis l.files) (n, get_or l.files n ([], [])) → written file diags ≡ lines_at l n
-lines-at l n file diags f d = ap (λ g. written g diags) f ∙ ap (written (listed_file l.how l.roots.items (n, get_or l.files n ([], [])))) d
+pub lines-at : (l : Listed) (n : ℕ) (file : ListedFileData) (diags : List Diag) → file ≡ listed_file l.how l.roots.items (n, get_or l.files n no_file)
+    → diags ≡ wanted_diags l.how (analysis l.files) (n, get_or l.files n no_file) → written file diags ≡ lines_at l n
+lines-at l n file diags f d = ap (λ g. written g diags) f ∙ ap (written (listed_file l.how l.roots.items (n, get_or l.files n no_file))) d
 
 -- what holds anyway holds at an error
 pub on_err : {A E P : Type 0} (r : Result A E) → P → OnErr r P

@@ -4,7 +4,7 @@ use Rattle.std.specs.List.{enumerate_from}
 use Rattle.std.specs.declared.alloc.AllocError.{AllocError}
 use Rattle.std.specs.Io.KnownBytes.{Appends}
 use Rattle.check_lines.specs.Lines.{is_array, cut, document}
-use Rattle.work_index.specs.Workspace.{analysis}
+use Rattle.work_index.specs.Workspace.{analysis, no_file}
 use Rattle.work_check.specs.Listing.{file_lines, lines_with}
 use Rattle.work_check.specs.declared.listed.Listed.{Listed}
 use Rattle.work_check.specs.declared.shares.ShareLines.{ShareLines}
@@ -27,7 +27,7 @@ still_first first lines = first && are_none lines
 
 -- the lines of the file with a number
 abbrev pub lines_at : Listed → ℕ → List ℕ
-lines_at l n = file_lines l.how l.roots.items (analysis l.files) (n, slice_index_or l.files n ([], []))
+lines_at l n = file_lines l.how l.roots.items (analysis l.files) (n, slice_index_or l.files n no_file)
 
 -- the lines of the files from a number on
 abbrev pub left_from : ℕ → Listed → List ℕ

@@ -3,10 +3,8 @@ ghost use Rattle.std.specs.Prelude.{◌≡◌, ◌+◌, ◌≤◌, [], ◌++◌,
 ghost use Rattle.std.specs.Io.KnownBytes.{Appends};
 ghost use Rattle.lsp_frame.specs.Counts.{NoneFell, NoError};
 ghost use Rattle.check_lines.specs.Lines.{cut, written};
-ghost use Rattle.work_files.specs.Files.{workspace};
-ghost use Rattle.work_check.specs.Listing.{listing, has_errors, listed, checked_of};
+ghost use Rattle.work_check.specs.Listing.{listing, has_errors, listed, checked_of, sources_in};
 ghost use Rattle.work_check.specs.Steps.{Sent, all_written, sent_lines, still_first};
-ghost use Rattle.work_config.specs.Configuration.{files_of};
 ghost use Rattle.work_config.specs.Fault.{ComesWhileChecking, NoErrorUnless};
 ghost use Rattle.work_config.specs.Sending.{SendsPrefix};
 
@@ -286,11 +284,11 @@ pub fn check_as<R: Threads + Wait + Clone + Send + Drop + 'static, K: ByteSink, 
     asked: Asked,
 ) -> Result<Checked, ServeFault>
     // At every return what was written is a prefix of the lines, and all of them at `Ok`.
-    ensures prefix { SendsPrefix (K.written writer.old) (K.written writer.new) (listed asked.how (files_of asked.config)) }
-    ensures whole { OnOk result (Appends (K.written writer.old) (K.written writer.new) (listed asked.how (files_of asked.config))) }
+    ensures prefix { SendsPrefix (K.written writer.old) (K.written writer.new) (listed asked.how asked.config) }
+    ensures whole { OnOk result (Appends (K.written writer.old) (K.written writer.new) (listed asked.how asked.config)) }
 
     // It answers how many files are asked for, how many of their diagnostics are errors, and how many of them aren't checked for unknown names.
-    ensures checked { IfOk result (λ found. found ≡ checked_of asked.how (workspace (files_of asked.config))) }
+    ensures checked { IfOk result (λ found. found ≡ checked_of asked.how (sources_in asked.config)) }
 
     // The faults are those of memory and threads, and the sink's, which is reported only where the sink failed in the call.
     ensures fault { IfErr result (ComesWhileChecking (K.counts writer.old) (K.counts writer.new)) }
@@ -330,11 +328,11 @@ pub fn check<R: Threads + Wait + Clone + Send + Drop + 'static, K: ByteSink, G: 
     workers: usize,
 ) -> Result<bool, ServeFault>
     // At every return what was written is a prefix of the lines, and all of them at `Ok`.
-    ensures prefix { SendsPrefix (K.written writer.old) (K.written writer.new) (listing (workspace (files_of config))) }
-    ensures whole { OnOk result (Appends (K.written writer.old) (K.written writer.new) (listing (workspace (files_of config)))) }
+    ensures prefix { SendsPrefix (K.written writer.old) (K.written writer.new) (listing (sources_in config)) }
+    ensures whole { OnOk result (Appends (K.written writer.old) (K.written writer.new) (listing (sources_in config))) }
 
     // It answers true exactly where a diagnostic is an error.
-    ensures errors { IfOk result (λ found. found ≡ has_errors (workspace (files_of config))) }
+    ensures errors { IfOk result (λ found. found ≡ has_errors (sources_in config)) }
 
     // The faults are those of memory and threads, and the sink's, which is reported only where the sink failed in the call.
     ensures fault { IfErr result (ComesWhileChecking (K.counts writer.old) (K.counts writer.new)) }

@@ -6,7 +6,8 @@ ghost use Rattle.work_config.specs.Fault.{IsOfWorkers};
 ghost use Rattle.work_files.specs.Files as texts;
 ghost use Rattle.work_files.specs.View.{file_view};
 ghost use Rattle.work_files.specs.Files.{text_of};
-ghost use Rattle.work_check.specs.Listing.{root_of_text, file_roots};
+ghost use Rattle.work_check.specs.Listing.{root_of_text, file_roots, sources_in};
+ghost use Rattle.work_index.specs.Workspace.{sources_of};
 
 use std::alloc::{AllocError, Global};
 use std::marker::Send;
@@ -22,12 +23,14 @@ use work_space::{DiagnosedFiles, Workspace};
 // The workspace of the files of a configuration, on which no work is done yet.
 fn start_workspace(alloc: Global, config: Config) -> Result<Workspace, ServeFault>
     ensures files { IfOk result (λ w. w.files ≡ files_of config) }
+    ensures others { IfOk result (λ w. w.reads_others ≡ config.reads_others) }
     ensures fault { IfErr result IsOfWorkers }
 {
+    let reads_others = config.reads_others();
     let Ok(files) = config.into_files() else {
         return Err(ServeFault::Memory);
     };
-    match Workspace::from_disk(alloc, files, 0) {
+    match Workspace::from_disk(alloc, files, 0, reads_others) {
         Ok(workspace) => Ok(workspace),
         // There are fewer files than stamps, so only memory can be refused.
         Err(_) => Err(ServeFault::Memory),
@@ -37,6 +40,7 @@ fn start_workspace(alloc: Global, config: Config) -> Result<Workspace, ServeFaul
 // Hands out jobs, and brings what became of one.
 fn work_on<R: Wait>(rt: &R, workspace: &mut Workspace, pool: &mut Pool) -> Result<(), PoolFault>
     ensures files { workspace.new.files ≡ workspace.old.files }
+    ensures others { workspace.new.reads_others ≡ workspace.old.reads_others }
 {
     hand_out_jobs(rt, workspace, pool)?;
     bring_result(rt, workspace, pool)
@@ -45,6 +49,7 @@ fn work_on<R: Wait>(rt: &R, workspace: &mut Workspace, pool: &mut Pool) -> Resul
 // Lets the workers work until the work on each text is there.
 fn await_work<R: Wait>(rt: &R, workspace: &mut Workspace, pool: &mut Pool) -> Result<(), PoolFault>
     ensures files { workspace.new.files ≡ workspace.old.files }
+    ensures others { workspace.new.reads_others ≡ workspace.old.reads_others }
     ensures full { OnOk result (IsFull workspace.new.board) }
 {
     for _result in rt.forever() {
@@ -65,6 +70,7 @@ fn work_on_all<R: Threads + Wait + Clone + Send + Drop + 'static, G: Gate + 'sta
     workers: usize,
 ) -> Result<(), PoolFault>
     ensures files { workspace.new.files ≡ workspace.old.files }
+    ensures others { workspace.new.reads_others ≡ workspace.old.reads_others }
     ensures full { OnOk result (IsFull workspace.new.board) }
 {
     let mut pool = Pool::start(rt, FileWork::linking_once(alloc), workers, gate)?;
@@ -110,7 +116,7 @@ fn diagnose<R: Threads + Wait, G: Gate>(
     workers: usize,
 ) -> Result<DiagnosedFiles, ServeFault>
     requires { IsFull files.board }
-    ensures files { IfOk result (λ found. found ≡ texts.workspace files.files) }
+    ensures files { IfOk result (λ found. found ≡ sources_of files.reads_others (texts.workspace files.files)) }
     ensures fault { IfErr result IsOfWorkers }
 {
     match files.into_diagnosed(rt, workers, gate) {
@@ -128,7 +134,7 @@ fn diagnose_with_roots<R: Threads + Wait, G: Gate>(
     workers: usize,
 ) -> Result<DiagnosedRoots, ServeFault>
     requires { IsFull files.board }
-    ensures files { IfOk result (λ found. found.files ≡ texts.workspace files.files) }
+    ensures files { IfOk result (λ found. found.files ≡ sources_of files.reads_others (texts.workspace files.files)) }
     ensures roots { IfOk result (λ found. found.roots.items ≡ file_roots files.files) }
     ensures fault { IfErr result IsOfWorkers }
 {
@@ -152,7 +158,7 @@ pub fn diagnose_files<R: Threads + Wait + Clone + Send + Drop + 'static, G: Gate
     config: Config,
     workers: usize,
 ) -> Result<DiagnosedRoots, ServeFault>
-    ensures files { IfOk result (λ found. found.files ≡ texts.workspace (files_of config)) }
+    ensures files { IfOk result (λ found. found.files ≡ sources_in config) }
     ensures roots { IfOk result (λ found. found.roots.items ≡ file_roots (files_of config)) }
     ensures fault { IfErr result IsOfWorkers }
 {

@@ -1,6 +1,6 @@
 // The files of a check with what is wrong in them, and what is asked for.
 ghost use Rattle.std.specs.Prelude.{◌≡◌, ◌-◌, ◌<◌, ◌^◌, [], length, filter, All, IfOk, None, slice_index_or, min};
-ghost use Rattle.work_index.specs.Workspace.{analysis};
+ghost use Rattle.work_index.specs.Workspace.{analysis, no_file};
 ghost use Rattle.work_check.specs.Listing.{is_error, is_wanted, listed_file, wanted_diags, wanted_count, line_count, error_count, file_errors, wanted_unchecked, lost_of_first, checked_of};
 
 use crate::wanted::{Checked, Listing};
@@ -30,7 +30,7 @@ impl Listed {
 
     // The file with a number, to be listed.
     pub fn file(&self, alloc: Global, number: usize) -> ListedFile<'_>
-        ensures { result ≡ listed_file self.now.how self.now.roots.items (number, slice_index_or self.now.files number ([], [])) }
+        ensures { result ≡ listed_file self.now.how self.now.roots.items (number, slice_index_or self.now.files number no_file) }
     {
         ListedFile::new(
             alloc,
@@ -43,7 +43,7 @@ impl Listed {
 
     // Whether the lines of the file with a number are asked for.
     pub fn wants(&self, number: usize) -> bool
-        ensures { result ≡ is_wanted self.now.how (slice_index_or self.now.files number ([], [])).0 }
+        ensures { result ≡ is_wanted self.now.how (slice_index_or self.now.files number no_file).0 }
     {
         self.how.wants(self.files.path(number))
     }
@@ -51,7 +51,7 @@ impl Listed {
     // Its diagnostics, if its lines are asked for.
     pub fn diagnostics(&self, number: usize) -> &[Diag]
         requires { number < length self.now.files }
-        ensures { result.now ≡ wanted_diags self.now.how (analysis self.now.files) (number, slice_index_or self.now.files number ([], [])) }
+        ensures { result.now ≡ wanted_diags self.now.how (analysis self.now.files) (number, slice_index_or self.now.files number no_file) }
     {
         if self.wants(number) {
             self.files.diagnosis().diagnostics(number)
@@ -87,7 +87,7 @@ impl Listed {
     // How many diagnostics of a file are errors, if its lines are asked for.
     fn errors_of(&self, number: usize) -> usize
         requires { number < length self.now.files }
-        ensures { result ≡ file_errors self.now.how (analysis self.now.files) (number, slice_index_or self.now.files number ([], [])) }
+        ensures { result ≡ file_errors self.now.how (analysis self.now.files) (number, slice_index_or self.now.files number no_file) }
     {
         self.diagnostics(number)
             .iter()
@@ -108,7 +108,7 @@ impl Listed {
 
     // The files among these that are asked for.
     fn wanted(&self, alloc: Global, files: &[usize]) -> Result<Vec<usize>, AllocError>
-        ensures { IfOk result (λ v. v.items ≡ filter (λ n. is_wanted self.now.how (slice_index_or self.now.files n ([], [])).0) files.now) }
+        ensures { IfOk result (λ v. v.items ≡ filter (λ n. is_wanted self.now.how (slice_index_or self.now.files n no_file).0) files.now) }
     {
         let mut found = Vec::new(alloc);
         for &file in files {

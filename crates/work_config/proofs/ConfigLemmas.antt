@@ -25,9 +25,9 @@ position-map-all : (roots : ℕ) (fs : List DiskFile) → position (λ f. not (i
 position-map-all roots fs = position_from-zero (λ f. not (is_good_file roots f)) (map disk_view fs) ∙ position-map roots fs 0 ∙ sym (position_from-zero (bad roots) fs)
 
 -- beside good roots the first bad file counts
-pub refusal_of : (roots : List (List ℕ)) (fs : List DiskFile) (count : ℕ) (first : Option ℕ) → are_roots roots ≡ true → count ≡ length roots → first ≡ position (bad count) fs
-    → refusal (record { roots = roots; files = map disk_view fs }) ≡ option_map BadPath first
-refusal_of roots fs count first good as_many is = rw good (ap (option_map BadPath) (position-map-all (length roots) fs ∙ ap (λ n. position (bad n) fs) (sym as_many) ∙ sym is))
+pub refusal_of : (roots : List (List ℕ)) (fs : List DiskFile) (reads_others : Bool) (count : ℕ) (first : Option ℕ) → are_roots roots ≡ true → count ≡ length roots → first ≡ position (bad count) fs
+    → refusal (record { roots = roots; files = map disk_view fs; reads_others = reads_others }) ≡ option_map BadPath first
+refusal_of roots fs reads_others count first good as_many is = rw good (ap (option_map BadPath) (position-map-all (length roots) fs ∙ ap (λ n. position (bad n) fs) (sym as_many) ∙ sym is))
 
 one-low : (roots : ℕ) (f : DiskFile) (fs : List DiskFile) (i : ℕ) (good : Bool) → is_good_file roots (disk_view f) ≡ good → cond (not good) (Some i) (position_from (bad roots) (i + 1) fs) ≡ None
     → (position_from (bad roots) (i + 1) fs ≡ None → All (λ f. f.root < roots) fs) → All (λ f. f.root < roots) (f ∷ fs)
@@ -39,8 +39,8 @@ all-low roots [] i none = All-nil (λ f. f.root < roots)
 all-low roots (f ∷ fs) i none = one-low roots f fs i (is_good_file roots (disk_view f)) refl none (all-low roots fs (i + 1))
 
 -- good files that were sorted stably by their roots
-pub in_order : (roots : List (List ℕ)) (old new : List DiskFile) → position (bad (length roots)) old ≡ None
-    → IsPermutation old new → IsNonDecreasingBy (λ f. f.root) new → IsStableByKey (λ f. f.root) nat_cmp old new → map disk_view new ≡ in_root_order (record { roots = roots; files = map disk_view old })
-in_order roots old new none same sorted stable =
+pub in_order : (roots : List (List ℕ)) (old new : List DiskFile) (reads_others : Bool) → position (bad (length roots)) old ≡ None
+    → IsPermutation old new → IsNonDecreasingBy (λ f. f.root) new → IsStableByKey (λ f. f.root) nat_cmp old new → map disk_view new ≡ in_root_order (record { roots = roots; files = map disk_view old; reads_others = reads_others })
+in_order roots old new reads_others none same sorted stable =
     ap (map disk_view) (sorted_stably (λ (f : DiskFile). f.root) old new stable (length roots) same sorted (all-low (length roots) old 0 (sym (position_from-zero (bad (length roots)) old) ∙ none)))
     ∙ keys_seen disk_view (λ f. f.root) 0 (length roots) old

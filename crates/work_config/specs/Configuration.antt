@@ -1,4 +1,4 @@
--- What a session is started with: its roots, and the files that it found on disk.
+-- What a session is started with: its roots, the files that it found on disk, and whether texts that aren't proto3 are read for what they declare.
 use Rattle.std.specs.Prelude.{ℕ, nat_lt, List, Bool, not, ◌&&◌, ◌==◌, if◌then◌else◌, Option, Some, option_map, length, filter}
 use Rattle.std.specs.List.{flat_map, position, range_with_len}
 use Rattle.workspace_uri.specs.Path.{is_workspace_path}
@@ -11,6 +11,7 @@ use Rattle.work_config.specs.declared.fault.ServeFault.TheVariants.{BadRoot, Bad
 pub record Configuration : Type 0 where
   pub roots : List (List ℕ)
   pub files : List FileData
+  pub reads_others : Bool
 
 -- the files of the first root in their order, then those of the next
 abbrev pub in_root_order : Configuration → List FileData

@@ -13,11 +13,12 @@ use std::marker::Model;
 use work_files::DiskFile;
 use workspace_uri::{Roots, is_workspace_path};
 
-/// What a session is started with: its roots, and files on disk under them.
+/// What a session is started with: its roots, files on disk under them, and whether texts that aren't proto3 are read for what they declare.
 #[derive(Debug, Drop)]
 pub struct Config {
     roots: Roots,
     files: Vec<DiskFile>,
+    reads_others: bool,
     ghost good: { position (λ f. not (is_good_file (length (roots_texts roots)) (disk_view f))) files.items ≡ None },
 }
 
@@ -29,7 +30,7 @@ impl Model for Config {
 
     ghost Value = { Configuration };
 
-    ghost view = { λ c. record { roots = roots_texts c.roots; files = map disk_view c.files.items } };
+    ghost view = { λ c. record { roots = roots_texts c.roots; files = map disk_view c.files.items; reads_others = c.reads_others } };
 }
 
 impl Config {
@@ -37,9 +38,10 @@ impl Config {
     ghost use Rattle.workspace_uri.specs.View.{roots_texts};
     ghost use Rattle.work_config.specs.Configuration.{in_root_order, refusal};
 
-    /// The configuration with these roots and files. There has to be at least one root, and each is a `file` URL without host, query
-    /// and fragment whose path ends with `/`. Each file names its root by its number, from 0 in the order of the roots, and has the path
-    /// of a file in a workspace: segments joined by `/` that are not empty, `.` or `..` and hold no U+0000.
+    /// The configuration with these roots and files, and whether texts that aren't proto3 are read for what they declare. There has to be at least
+    /// one root, and each is a `file` URL without host, query and fragment whose path ends with `/`. Each file names its root by its number,
+    /// from 0 in the order of the roots, and has the path of a file in a workspace: segments joined by `/` that are not empty, `.` or `..` and
+    /// hold no U+0000.
     ///
     /// The faults: `BadRoot` if there is no root, or one of them is none; else `BadPath` with the number of the first file that is bad;
     /// and `Memory` if memory was refused.
@@ -47,10 +49,11 @@ impl Config {
         alloc: Global,
         roots: Vec<String>,
         files: Vec<DiskFile>,
+        reads_others: bool,
     ) -> Result<Config, ServeFault>
-        ensures keeps { IfOk result (λ config. config ≡ record { roots = map string_bytes roots.items; files = map disk_view files.items }) }
-        ensures good { OnOk result (refusal (record { roots = map string_bytes roots.items; files = map disk_view files.items }) ≡ None) }
-        ensures refused { IfErr result (λ fault. fault ≢ ServeFault.Memory → refusal (record { roots = map string_bytes roots.items; files = map disk_view files.items }) ≡ Some fault) }
+        ensures keeps { IfOk result (λ config. config ≡ record { roots = map string_bytes roots.items; files = map disk_view files.items; reads_others = reads_others }) }
+        ensures good { OnOk result (refusal (record { roots = map string_bytes roots.items; files = map disk_view files.items; reads_others = reads_others }) ≡ None) }
+        ensures refused { IfErr result (λ fault. fault ≢ ServeFault.Memory → refusal (record { roots = map string_bytes roots.items; files = map disk_view files.items; reads_others = reads_others }) ≡ Some fault) }
     {
         let texts = roots.as_slice();
         let parsed = Config::parse_roots(alloc, texts)?;
@@ -59,6 +62,7 @@ impl Config {
             None => Ok(Config {
                 roots: parsed,
                 files,
+                reads_others,
             }),
         }
     }
@@ -77,13 +81,24 @@ impl Config {
         }
     }
 
+    /// Whether texts that aren't proto3 are read for what they declare.
+    pub fn reads_others(&self) -> bool
+        ensures { result ≡ self.now.reads_others }
+    {
+        self.reads_others
+    }
+
     /// Its roots, and its files: those of the first root in their order, then those of the next. An `Err` comes only where memory was
     /// refused.
     pub fn into_parts(self) -> Result<(Roots, Vec<DiskFile>), AllocError>
         ensures roots { IfOk result (λ parts. roots_texts parts.0 ≡ self.roots) }
         ensures files { IfOk result (λ parts. map disk_view parts.1.items ≡ in_root_order self) }
     {
-        let Config { roots, mut files } = self;
+        let Config {
+            roots,
+            mut files,
+            ..
+        } = self;
         sort_by_root(&mut files)?;
         Ok((roots, files))
     }

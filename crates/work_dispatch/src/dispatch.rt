@@ -19,6 +19,7 @@ fn hand_out_next<R: Wait>(
 ) -> Result<bool, PoolFault>
     requires { pool.old.out < 256 }
     ensures files { workspace.new.files ≡ workspace.old.files }
+    ensures others { workspace.new.reads_others ≡ workspace.old.reads_others }
     ensures gives { OnOk result (Records workspace.old.board workspace.new.board (NextJob ∷ [])) }
     ensures none { IfOk result (λ more. more ≡ false → WhateverCame workspace.old.board (λ opening events. IsFirstWanted opening events None)) }
     ensures rest { IfOk result (λ more. more ≡ false → pool.new.sent ≡ pool.old.sent) }
@@ -43,6 +44,7 @@ pub fn hand_out_jobs<R: Wait>(
     pool: &mut Pool,
 ) -> Result<(), PoolFault>
     ensures files { workspace.new.files ≡ workspace.old.files }
+    ensures others { workspace.new.reads_others ≡ workspace.old.reads_others }
     ensures hands { OnOk result (HandsOut workspace.old.board workspace.new.board pool.old.sent pool.new.sent) }
     ensures memory { IfErr result (λ fault. fault ≡ PoolFault.Memory) }
 {
@@ -57,6 +59,7 @@ pub fn hand_out_jobs<R: Wait>(
 // Brings what became of a job. `Memory` if the job failed because memory ran out, unless its text no longer counts.
 fn bring(workspace: &mut Workspace, done: Done) -> Result<(), PoolFault>
     ensures files { workspace.new.files ≡ workspace.old.files }
+    ensures others { workspace.new.reads_others ≡ workspace.old.reads_others }
     ensures brings { Records workspace.old.board workspace.new.board (event_of done ∷ []) }
 
     // An error is a failure that counts, and none of these is passed over.
@@ -84,6 +87,7 @@ pub fn bring_result<R: Wait>(
     pool: &mut Pool,
 ) -> Result<(), PoolFault>
     ensures files { workspace.new.files ≡ workspace.old.files }
+    ensures others { workspace.new.reads_others ≡ workspace.old.reads_others }
     ensures brings { OnOk result (BringsResult workspace.old.board workspace.new.board pool.old.sent pool.new.sent) }
     ensures received { OnOk result (pool.old.out ≡ pool.new.out + 1) }
 

@@ -1,5 +1,5 @@
 -- The paths of files that ascend are in path order.
-use Rattle.std.proofs.Common.{◌≡◌, ◌<◌, ℕ, zero, suc, List, [], ◌∷◌, map, length, slice_index_or, sym, subst, arith}
+use Rattle.std.proofs.Common.{◌≡◌, ◌<◌, ℕ, zero, suc, Bool, List, [], ◌∷◌, map, length, slice_index_or, sym, subst, arith}
 use Rattle.std.specs.Cmp.Lexicographic.{slice_cmp}
 use Rattle.std.specs.Ordering.{nat_cmp}
 use Rattle.std.specs.declared.cmp.Ordering.TheVariants.{Less}
@@ -10,7 +10,7 @@ use Rattle.import_graph.specs.Paths.{IsInPathOrder}
 use Rattle.proto_decls.specs.declared.named_facts.NamedFacts.{NamedFacts}
 use Rattle.piece_collector.specs.Views.{TextAt}
 use Rattle.piece_collector.specs.Board.{Ascends}
-use Rattle.work_index.specs.Pieces.{workspace_of}
+use Rattle.work_index.specs.Pieces.{source_of, workspace_of}
 use Rattle.work_index.specs.Workspace.{Workspace, all_facts}
 
 abbrev path_at : Workspace → ℕ → NamedFacts → List ℕ
@@ -30,5 +30,5 @@ ordered_files (f ∷ w) ascends zero (suc j) other before there = before_all f.0
 ordered_files (f ∷ w) ascends (suc i) (suc j) other before there = ordered_files w ascends.1 i j other (omega arith) (omega arith)
 
 -- the same of pieces
-pub in_path_order : (ts : List TextAt) → Ascends ts → IsInPathOrder (all_facts (workspace_of ts))
-in_path_order ts ascends = ordered_files (workspace_of ts) (subst (λ ps. IsStrictlySortedBy (slice_cmp nat_cmp) ps) (sym (map-map (λ f. f.0) (λ t. (t.path, t.text)) ts)) ascends)
+pub in_path_order : (r : Bool) (ts : List TextAt) → Ascends ts → IsInPathOrder (all_facts (workspace_of r ts))
+in_path_order r ts ascends = ordered_files (workspace_of r ts) (subst (λ ps. IsStrictlySortedBy (slice_cmp nat_cmp) ps) (sym (map-map (λ f. f.0) (source_of r) ts)) ascends)

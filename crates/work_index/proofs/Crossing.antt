@@ -27,6 +27,7 @@ use Rattle.work_index.proofs.shared_links.SharedLinks.TheSendSync as SharedLinks
 use Rattle.proto_decls.proofs.diagnostic.Diag.TheSendSync as Diag
 use Rattle.proto_resolve.specs.contracts.table.Table as TableRow
 use Rattle.work_index.specs.contracts.file_work.FileOut as FileOut
+use Rattle.work_index.specs.contracts.file_work.KnownText as KnownText
 use Rattle.std.specs.contracts.alloc.Global as Global
 use Rattle.work_index.specs.contracts.shares.Share as Share
 use Rattle.work_index.specs.contracts.linked.LinkedShare as LinkedShare
@@ -42,8 +43,14 @@ node_send = search (knot.send-Node, sendable, Boxed.the_send, Items.the_send, Sp
 tree_field_send : IsSend (FileTree.the_field).row
 tree_field_send = search (sendable, node_send, Items.the_send, Fault.the_send) depth 20
 
+known_field_send : IsSend (KnownText.the_field).row
+known_field_send = struct_send (shape KnownText.the_type) (search (sendable, SharedFacts.the_send) depth 20, (search (sendable, crosses, Asked.the_send, Asked.the_sync) depth 40, tt))
+
+known_send : IsSend KnownText.the_row
+known_send = search (sendable, known_field_send) depth 20
+
 out_field_send : IsSend (FileOut.the_field).row
-out_field_send = struct_send (shape FileOut.the_type) (tree_field_send, (search (sendable, SharedFacts.the_send) depth 20, (search (sendable, crosses, Asked.the_send, Asked.the_sync) depth 40, tt)))
+out_field_send = struct_send (shape FileOut.the_type) (tree_field_send, (known_field_send, (search (sendable, crosses, known_send) depth 40, tt)))
 
 pub out_send : IsSend FileOut.the_row
 out_send = search (sendable, out_field_send) depth 20
@@ -54,8 +61,14 @@ node_sync = search (knot.sync-Node, sendable, Boxed.the_sync, Items.the_sync, Sp
 tree_field_sync : IsSync (FileTree.the_field).row
 tree_field_sync = search (sendable, node_sync, Items.the_sync, Fault.the_sync) depth 20
 
+known_field_sync : IsSync (KnownText.the_field).row
+known_field_sync = struct_sync (shape KnownText.the_type) (search (sendable, SharedFacts.the_sync) depth 20, (search (sendable, crosses, Asked.the_send, Asked.the_sync) depth 40, tt))
+
+known_sync : IsSync KnownText.the_row
+known_sync = search (sendable, known_field_sync) depth 20
+
 out_field_sync : IsSync (FileOut.the_field).row
-out_field_sync = struct_sync (shape FileOut.the_type) (tree_field_sync, (search (sendable, SharedFacts.the_sync) depth 20, (search (sendable, crosses, Asked.the_send, Asked.the_sync) depth 40, tt)))
+out_field_sync = struct_sync (shape FileOut.the_type) (tree_field_sync, (known_field_sync, (search (sendable, crosses, known_sync) depth 40, tt)))
 
 pub out_sync : IsSync FileOut.the_row
 out_sync = search (sendable, out_field_sync) depth 20
@@ -64,7 +77,7 @@ pub heap_send : IsSend Global.the_row
 heap_send = search (sendable, crosses) depth 20
 
 share_field_send : IsSend (Share.the_field).row
-share_field_send = struct_send (shape Share.the_type) (search sendable, (search (sendable, crosses, out_send) depth 40, (search sendable, tt)))
+share_field_send = struct_send (shape Share.the_type) (search sendable, (search (sendable, crosses, out_send) depth 40, (search sendable, (search sendable, tt))))
 
 pub table_sync : IsSync TableRow.the_row
 table_sync = Table.the_sync
@@ -91,7 +104,7 @@ pub diagnosis_sync : IsSync Diagnosis.the_row
 diagnosis_sync = view_sync inside.the_row _ _ _ _
     (recorded_sync (inside.the_field).row _ _ (inside.the_type).to_one
     (struct_sync (shape inside.the_type)
-    (search (sendable, crosses, out_sync) depth 40, (search (sendable, crosses, Items.the_sync, Diag.the_sync) depth 40, (Table.the_sync, tt)))))
+    (search (sendable, crosses, out_sync) depth 40, (search sendable, (search (sendable, crosses, Items.the_sync, Diag.the_sync) depth 40, (Table.the_sync, tt))))))
 
 -- what a closure takes with it crosses where each of two does, and where each of four does
 pub two_send : (name : Sym) (A B : RattleType) → IsSend A → IsSend B → IsSend (TupleAt name (A ∷ B ∷ []))

@@ -1,9 +1,8 @@
--- An analysis is that of the workspace of its paths and texts, and so are its parts.
+-- An analysis is that of its own workspace, and so are its parts.
 use Rattle.std.proofs.Common.{◌≡◌, ◌∙◌, List, [], ◌∷◌, length, map, refl, sym, ap, ap₂, subst}
 use Rattle.std.specs.List.{zip}
 use Rattle.std.proofs.lemmas.List.{length-map}
 use Rattle.std.proofs.lemmas.Simd.{map-map}
-use Rattle.proto_decls.specs.Facts.{facts_of}
 use Rattle.proto_decls.specs.declared.diagnostic.Diag.{Diag}
 use Rattle.proto_decls.specs.declared.named_facts.NamedFacts.{NamedFacts}
 use Rattle.proto_names.specs.Files.{all_decls}
@@ -11,7 +10,7 @@ use Rattle.proto_resolve.specs.declared.resolve.Links.{Links}
 use Rattle.work_index.specs.declared.analysis.AnalysisParts.{AnalysisParts}
 use Rattle.work_index.specs.AnalysisParts.{AreParts}
 use Rattle.work_index.specs.Known.{HoldTogether, analysis_with}
-use Rattle.work_index.specs.Workspace.{AnalysisData, IsKnown, Workspace, all_facts, analysis, diagnostics_of, named_facts, resolution_of, workspace_in}
+use Rattle.work_index.specs.Workspace.{AnalysisData, IsKnown, Workspace, all_facts, analysis, diagnostics_of, named_facts, resolution_of, source_facts, workspace_in}
 use Rattle.work_index.proofs.Numbered.{made, made_length}
 
 pub zipped : (w : Workspace) → zip (map (λ f. f.0) w) (map (λ f. f.1) w) ≡ w
@@ -31,22 +30,22 @@ module _ (a : AnalysisData) (known : IsKnown a) where
   paths-long = ap (λ (x : AnalysisData). length x.paths) known.is ∙ length-map (workspace_in a) (λ file. file.0)
 
   pub facts-long : length a.facts ≡ length a.paths
-  facts-long = ap (λ (x : AnalysisData). length x.facts) known.is ∙ length-map (workspace_in a) (λ file. facts_of file.1) ∙ sym paths-long
+  facts-long = ap (λ (x : AnalysisData). length x.facts) known.is ∙ length-map (workspace_in a) (λ file. source_facts file.1) ∙ sym paths-long
 
   pub links-long : length a.links ≡ length a.paths
   links-long = let w = workspace_in a in ap (λ (x : AnalysisData). length x.links) known.is ∙ made_length (resolution_of w) w ∙ sym paths-long
 
 -- ---- taken apart
 
-pub same_files : (files : List NamedFacts) (w : Workspace) → map (λ f. f.path) files ≡ map (λ f. f.0) w → map (λ f. f.facts) files ≡ map (λ f. facts_of f.1) w → files ≡ all_facts w
+pub same_files : (files : List NamedFacts) (w : Workspace) → map (λ f. f.path) files ≡ map (λ f. f.0) w → map (λ f. f.facts) files ≡ map (λ f. source_facts f.1) w → files ≡ all_facts w
 same_files [] [] paths facts = refl
 same_files [] (y ∷ w) paths facts = absurd (cc)
 same_files (x ∷ files) [] paths facts = absurd (cc)
 same_files (x ∷ files) (y ∷ w) paths facts =
     let path : x.path ≡ y.0 = cc in
-    let said : x.facts ≡ facts_of y.1 = cc in
+    let said : x.facts ≡ source_facts y.1 = cc in
     let paths' : map (λ f. f.path) files ≡ map (λ f. f.0) w = cc in
-    let facts' : map (λ f. f.facts) files ≡ map (λ f. facts_of f.1) w = cc in
+    let facts' : map (λ f. f.facts) files ≡ map (λ f. source_facts f.1) w = cc in
     let head : x ≡ named_facts y = ap₂ (λ p fs. record { path = p; facts = fs }) path said in
     ap₂ (λ a as'. a ∷ as') head (same_files files w paths' facts')
 
@@ -59,7 +58,7 @@ own_parts a parts hold is =
     let all = is ∙ known.is in
     record {
       table = same_files parts.table w (sym hold.3 ∙ ap (λ (b : AnalysisData). b.paths) all) (ap (λ (b : AnalysisData). b.facts) all);
-      files = sym (zipped parts.files.items) ∙ ap (λ (b : AnalysisData). zip b.paths b.texts) is;
+      files = sym (zipped parts.files.items) ∙ ap (λ (b : AnalysisData). zip b.paths b.sources) is;
       links = ap (λ (b : AnalysisData). b.links) all;
       diagnostics = ap (λ (b : AnalysisData). b.diagnostics) all;
     }
@@ -69,13 +68,13 @@ own_parts a parts hold is =
 module _ (w : Workspace) (table : List NamedFacts) (files : Workspace) (links : List Links) (diagnostics : List (List Diag))
     (all : table ≡ all_facts w) (are : files ≡ w) (linked : links ≡ made (resolution_of w) w) (wrong : diagnostics ≡ made (diagnostics_of w) w) where
   abbrev data_of : Workspace → List NamedFacts → List Links → List (List Diag) → AnalysisData
-  data_of fs index ls ds = record { paths = map (λ f. f.0) fs; texts = map (λ f. f.1) fs; facts = map (λ file. file.facts) index; decls = all_decls index; links = ls; diagnostics = ds }
+  data_of fs index ls ds = record { paths = map (λ f. f.0) fs; sources = map (λ f. f.1) fs; facts = map (λ file. file.facts) index; decls = all_decls index; links = ls; diagnostics = ds }
 
   pub is_analysis : analysis_with table files links diagnostics ≡ analysis w
   is_analysis =
       ap₂ (λ (fs : Workspace) (index : List NamedFacts). data_of fs index links diagnostics) are all
       ∙ ap₂ (λ (ls : List Links) (ds : List (List Diag)). data_of w (all_facts w) ls ds) linked wrong
-      ∙ ap (λ fs. record { paths = map (λ f. f.0) w; texts = map (λ f. f.1) w; facts = fs; decls = all_decls (all_facts w); links = made (resolution_of w) w; diagnostics = made (diagnostics_of w) w })
+      ∙ ap (λ fs. record { paths = map (λ f. f.0) w; sources = map (λ f. f.1) w; facts = fs; decls = all_decls (all_facts w); links = made (resolution_of w) w; diagnostics = made (diagnostics_of w) w })
       (map-map (λ file. file.facts) named_facts w)
 
   pub hold_together : HoldTogether table files links diagnostics

@@ -1,5 +1,5 @@
 -- Where a thread was refused, there was something to share.
-use Rattle.std.proofs.Common.{◌≡◌, ◌≤◌, ◌<◌, ◌∙◌, List, [], ◌∷◌, Result, Ok, Err, length, arith, ap, sym, refl}
+use Rattle.std.proofs.Common.{◌≡◌, ◌≤◌, ◌<◌, ◌∙◌, Bool, List, [], ◌∷◌, Result, Ok, Err, length, arith, ap, sym, refl}
 use Rattle.std.specs.Prelude.{IsErrAnd}
 use Rattle.proto_decls.specs.declared.named_facts.NamedFacts.{NamedFacts}
 use Rattle.proto_resolve.specs.declared.fault.TableFault.{TableFault}
@@ -26,6 +26,6 @@ pub refused_by_table : {T : Type 0} (fault : TableFault) (r : Result T AnalyseFa
 refused_by_table fault r h is = of_table fault (refused_with (fault_of_table fault) ThreadRefused r h is)
 
 -- files come of a share
-pub some_share : (shares : List Share) (files : List NamedFacts) → files ≡ all_facts (workspace_of (pieces_in shares)) → 64 ≤ length files → 0 < length shares
-some_share [] files are many = absurd (let none : length files ≡ 0 = ap length are in omega (arith, none, many))
-some_share (s ∷ shares) files are many = omega arith
+pub some_share : (r : Bool) (shares : List Share) (files : List NamedFacts) → files ≡ all_facts (workspace_of r (pieces_in shares)) → 64 ≤ length files → 0 < length shares
+some_share r [] files are many = absurd (let none : length files ≡ 0 = ap length are in omega (arith, none, many))
+some_share r (s ∷ shares) files are many = omega arith

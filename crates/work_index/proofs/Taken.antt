@@ -1,20 +1,20 @@
 -- What the threads that make the tables of all shares promised, and what these tables cover.
-use Rattle.std.proofs.Common.{◌≡◌, ◌∙◌, sym, ap, ap₂, subst, refl, ◌+◌, ℕ, suc, List, [], ◌∷◌, ◌++◌, map, flat_map, length, arith, Ok, Result, IfOk}
+use Rattle.std.proofs.Common.{◌≡◌, ◌∙◌, sym, ap, ap₂, subst, refl, ◌+◌, ℕ, suc, Bool, List, [], ◌∷◌, ◌++◌, map, flat_map, length, arith, Ok, Result, IfOk}
 use Rattle.std.proofs.lemmas.List.{length-map, map-append}
+use Rattle.std.proofs.lemmas.List.Elements.{All-head, All-tail}
 use Rattle.std.proofs.lemmas.List.Sorted.{IsPermutation-refl}
 use Rattle.std.specs.declared.alloc.AllocError.{AllocError}
 use Rattle.std.specs.declared.thread.PromisedHandle.{PromisedHandle}
 use Rattle.std.specs.declared.thread.Promise as Promise
 use Rattle.std.specs.PromisedHandle.{KeepsEach}
 use Rattle.proto_decls.specs.declared.named_facts.NamedFacts.{NamedFacts}
-use Rattle.piece_collector.specs.Views.{TextAt}
 use Rattle.work_index.specs.declared.in_shares.ShareIndexed.{ShareIndexed}
 use Rattle.work_index.specs.declared.indexed.IndexedShare.{IndexedShare}
 use Rattle.work_index.specs.declared.indexed.IndexedShares.{IndexedShares}
 use Rattle.work_index.specs.declared.shares.Share.{Share}
 use Rattle.work_index.specs.Parts.{part_of, IsIndexed, AreIndexed, AreTaken}
-use Rattle.work_index.specs.Pieces.{workspace_of}
-use Rattle.work_index.specs.Shares.{pieces_in, AreConsecutive}
+use Rattle.work_index.specs.Pieces.{source_of, workspace_of}
+use Rattle.work_index.specs.Shares.{pieces_in, AreConsecutive, AreRead}
 use Rattle.work_index.specs.Stretches.{PartData, Cover, FollowFrom}
 use Rattle.work_index.specs.Workspace.{all_facts, named_facts}
 use Rattle.work_index.proofs.Kept.{same_at, kept_at}
@@ -60,24 +60,24 @@ taken ss answers r named t =
 -- ---- what they cover
 
 long : (s : Share) → length (let p = part_of s in p.files) ≡ length s.pieces.items
-long s = length-map (workspace_of s.pieces.items) named_facts ∙ length-map s.pieces.items (λ (t : TextAt). (t.path, t.text))
+long s = length-map (workspace_of s.reads_others s.pieces.items) named_facts ∙ length-map s.pieces.items (source_of s.reads_others)
 
 follow : (n : ℕ) (ss : List Share) → AreConsecutive n ss → FollowFrom n (map part_of ss)
 follow n [] c = tt
 follow n (s ∷ ss) c = (c.0, subst (λ m. FollowFrom m (map part_of ss)) (ap (λ k. n + k) (sym (long s))) (follow (n + length s.pieces.items) ss c.1))
 
-whole : (ss : List Share) → flat_map (λ (p : PartData). p.files) (map part_of ss) ≡ all_facts (workspace_of (pieces_in ss))
-whole [] = refl
-whole (s ∷ ss) =
-    ap (λ (fs : List NamedFacts). all_facts (workspace_of s.pieces.items) ++ fs) (whole ss)
-    ∙ sym (map-append named_facts (workspace_of s.pieces.items) (workspace_of (pieces_in ss)))
-    ∙ ap (map named_facts) (sym (map-append (λ (t : TextAt). (t.path, t.text)) s.pieces.items (pieces_in ss)))
+whole : (r : Bool) (ss : List Share) → AreRead r ss → flat_map (λ (p : PartData). p.files) (map part_of ss) ≡ all_facts (workspace_of r (pieces_in ss))
+whole r [] read = refl
+whole r (s ∷ ss) read =
+    ap₂ (λ (q : Bool) (fs : List NamedFacts). all_facts (workspace_of q s.pieces.items) ++ fs) (All-head (λ (s : Share). s.reads_others ≡ r) s ss read) (whole r ss (All-tail (λ (s : Share). s.reads_others ≡ r) s ss read))
+    ∙ sym (map-append named_facts (workspace_of r s.pieces.items) (workspace_of r (pieces_in ss)))
+    ∙ ap (map named_facts) (sym (map-append (source_of r) s.pieces.items (pieces_in ss)))
 
 -- the tables of all shares cover all files
-pub shares_cover : (ss : List Share) → AreConsecutive 0 ss → Cover (all_facts (workspace_of (pieces_in ss))) (map part_of ss)
-shares_cover ss c = record {
+pub shares_cover : (r : Bool) (ss : List Share) → AreRead r ss → AreConsecutive 0 ss → Cover (all_facts (workspace_of r (pieces_in ss))) (map part_of ss)
+shares_cover r ss read c = record {
   ordered = map part_of ss;
   same = IsPermutation-refl (map part_of ss);
   follow = follow 0 ss c;
-  whole = whole ss;
+  whole = whole r ss read;
 }

@@ -11,7 +11,7 @@ module _ (table : List NamedFacts) (files : Workspace) (links : List Links) (dia
   abbrev pub analysis_with : AnalysisData
   analysis_with = record {
     paths = map (λ f. f.0) files;
-    texts = map (λ f. f.1) files;
+    sources = map (λ f. f.1) files;
     facts = map (λ file. file.facts) table;
     decls = all_decls table;
     links = links;

@@ -1,6 +1,7 @@
 pub mod Workspace
 pub mod Unchecked
 pub mod Pieces
+pub mod Products
 pub mod Fault
 pub mod Stretches
 pub mod Parts

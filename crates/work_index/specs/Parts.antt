@@ -10,7 +10,7 @@ use Rattle.work_index.specs.Workspace.{all_facts}
 
 -- the stretch of a share
 abbrev pub part_of : Share → PartData
-part_of share = record { first = share.first; files = all_facts (workspace_of share.pieces.items) }
+part_of share = record { first = share.first; files = all_facts (workspace_of share.reads_others share.pieces.items) }
 
 -- a share as it was, with the table of its files
 pub record IsIndexed (share : Share) (named : IndexedShare) : Type 0 where

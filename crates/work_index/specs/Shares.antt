@@ -1,5 +1,5 @@
 -- Shares of the pieces of a workspace, and what is made of each.
-use Rattle.std.specs.Prelude.{◌≡◌, ℕ, ◌+◌, ◌≤◌, List, [], ◌∷◌, map, length, Result, Ok, Some, true, slice_get, flat_map, ⊤, All}
+use Rattle.std.specs.Prelude.{◌≡◌, ℕ, ◌+◌, ◌≤◌, Bool, List, [], ◌∷◌, map, length, Result, Ok, Some, true, slice_get, flat_map, ⊤, All}
 use Rattle.std.specs.List.{enumerate_from}
 use Rattle.std.specs.declared.alloc.AllocError.{AllocError}
 use Rattle.piece_collector.specs.Views.{TextAt}
@@ -14,6 +14,14 @@ use Rattle.work_index.specs.Workspace.{Workspace, all_facts, resolution_of, diag
 -- the pieces of all shares, one share after the other
 abbrev pub pieces_in : List Share → List TextAt
 pieces_in shares = flat_map (λ s. s.pieces.items) shares
+
+-- the links of all shares are kept, or those of none
+abbrev pub AreKept : Bool → List Share → Type 0
+AreKept keeps_links shares = All (λ s. s.keeps_links ≡ keeps_links) shares
+
+-- the texts of all shares that aren't proto3 are read for what they declare, or those of none
+abbrev pub AreRead : Bool → List Share → Type 0
+AreRead reads_others shares = All (λ s. s.reads_others ≡ reads_others) shares
 
 -- the first share begins at n, and each other one where the one before it ends
 abbrev pub AreConsecutive : ℕ → List Share → Type 0
@@ -39,8 +47,8 @@ ArePlacedIn files shares = All (λ s. AreNumbersIn files s.first (length s.piece
 -- the pieces of a share, as they were, what is wrong in each of them as files of the workspace, and their links, if these are kept
 pub record IsLinkedIn (w : Workspace) (share : Share) (linked : LinkedShare) : Type 0 where
   pub pieces : linked.pieces.items ≡ share.pieces.items
-  pub links : share.keeps_links ≡ true → linked.resolutions.links.items ≡ map (resolution_of w) (enumerate_from share.first (workspace_of share.pieces.items))
-  pub diagnostics : linked.resolutions.diagnostics.items ≡ map (diagnostics_of w) (enumerate_from share.first (workspace_of share.pieces.items))
+  pub links : share.keeps_links ≡ true → linked.resolutions.links.items ≡ map (resolution_of w) (enumerate_from share.first (workspace_of share.reads_others share.pieces.items))
+  pub diagnostics : linked.resolutions.diagnostics.items ≡ map (diagnostics_of w) (enumerate_from share.first (workspace_of share.reads_others share.pieces.items))
 
 -- the same in the workspace of these files
 abbrev pub IsLinkedBy : List NamedFacts → Share → LinkedShare → Type 0

@@ -1,12 +1,12 @@
 -- What is known of a workspace.
-use Rattle.std.specs.Prelude.{◌≡◌, ℕ, List, ◌++◌, All, false, map, filter, slice_index_or, bytes_eq, [], position}
+use Rattle.std.specs.Prelude.{◌≡◌, ℕ, Bool, List, ◌++◌, All, false, map, filter, slice_index_or, bytes_eq, [], position}
 use Rattle.std.specs.Option.{option_map_or}
 use Rattle.std.specs.List.{enumerate_from, zip}
 use Rattle.proto_tree.specs.Read.{value_tree}
 use Rattle.proto_decls.specs.declared.diagnostic.Diag.{Diag}
 use Rattle.proto_decls.specs.declared.fact.Decl.{Decl}
 use Rattle.proto_decls.specs.declared.fact.FileFacts.{FileFacts}
-use Rattle.proto_decls.specs.Facts.{facts_of}
+use Rattle.proto_decls.specs.Facts.{facts_by, facts_of}
 use Rattle.proto_decls.specs.Order.{in_order}
 use Rattle.proto_decls.specs.declared.named_facts.NamedFacts.{NamedFacts}
 use Rattle.proto_names.specs.declared.decl_ref.DeclRef.{DeclRef}
@@ -16,38 +16,62 @@ use Rattle.proto_resolve.specs.Resolved.{resolved}
 use Rattle.proto_resolve.specs.Sites.{names_of_file}
 use Rattle.work_links.specs.Asked.{names_asked}
 
--- a workspace: the paths of its files, by their bytes, each with its text
+-- the text of a file, and whether it is read for what it declares if it isn't proto3
+pub record Source : Type 0 where
+  pub text : List ℕ
+  pub reads_others : Bool
+
+-- what the text of a file says by itself
+abbrev pub source_facts : Source → FileFacts
+source_facts s = facts_by s.reads_others s.text
+
+-- the path of a file, by its bytes, and its text
+abbrev pub SourceAt : Type 0
+SourceAt = List ℕ × Source
+
 abbrev pub Workspace : Type 0
-Workspace = List (List ℕ × List ℕ)
+Workspace = List SourceAt
+
+-- what is read where there is no file
+abbrev pub no_file : SourceAt
+no_file = ([], record { text = []; reads_others = false })
+
+-- texts by path, which are all read alike
+abbrev pub sources_of : Bool → List (List ℕ × List ℕ) → Workspace
+sources_of reads_others files = map (λ file. (file.0, record { text = file.1; reads_others = reads_others })) files
+
+-- the texts alone
+abbrev pub texts_of : List Source → List (List ℕ)
+texts_of sources = map (λ s. s.text) sources
 
 -- a file, and what its text says by itself
-abbrev pub named_facts : List ℕ × List ℕ → NamedFacts
-named_facts file = record { path = file.0; facts = facts_of file.1 }
+abbrev pub named_facts : SourceAt → NamedFacts
+named_facts file = record { path = file.0; facts = source_facts file.1 }
 
 abbrev pub all_facts : Workspace → List NamedFacts
 all_facts w = map named_facts w
 
 -- the uses of names in a file, given its number, and what is wrong by what it sees
-abbrev pub resolution_of : Workspace → ℕ × (List ℕ × List ℕ) → Links
-resolution_of w file = resolved (all_facts w) file.0 file.1.1 (value_tree file.1.1)
+abbrev pub resolution_of : Workspace → ℕ × SourceAt → Links
+resolution_of w file = let source = file.1.1 in resolved (all_facts w) file.0 source.text (value_tree source.text)
 
 -- the full names for which a file with a text asks
-abbrev pub asked_of : List ℕ → List (List ℕ)
-asked_of text = let facts = facts_of text in let tree = value_tree text in names_asked (names_of_file text facts tree.nodes) facts.decls
+abbrev pub asked_of : Source → List (List ℕ)
+asked_of s = let facts = source_facts s in let tree = value_tree s.text in names_asked (names_of_file s.text facts tree.nodes) facts.decls
 
 -- what is wrong by itself and by what is seen: each once, in order
 abbrev pub merged : FileFacts → Links → List Diag
 merged facts links = in_order (facts.diags ++ links.diags)
 
--- all that is wrong in a file
-abbrev pub diagnostics_of : Workspace → ℕ × (List ℕ × List ℕ) → List Diag
-diagnostics_of w file = merged (facts_of file.1.1) (resolution_of w file)
+-- all that is wrong in a file; what is wrong in a text by itself is what it says as proto3, however it is read
+abbrev pub diagnostics_of : Workspace → ℕ × SourceAt → List Diag
+diagnostics_of w file = let source = file.1.1 in merged (facts_of source.text) (resolution_of w file)
 
 -- The analysis of a workspace: its paths and its texts; the facts of each file; all declarations, by path, then offset; the uses of
 -- names in each file, with what is wrong by what it sees; and all that is wrong in each file.
 pub record AnalysisData : Type 0 where
   pub paths : List (List ℕ)
-  pub texts : List (List ℕ)
+  pub sources : List Source
   pub facts : List FileFacts
   pub decls : List DeclRef
   pub links : List Links
@@ -56,8 +80,8 @@ pub record AnalysisData : Type 0 where
 abbrev pub analysis : Workspace → AnalysisData
 analysis w = record {
   paths = map (λ file. file.0) w;
-  texts = map (λ file. file.1) w;
-  facts = map (λ file. facts_of file.1) w;
+  sources = map (λ file. file.1) w;
+  facts = map (λ file. source_facts file.1) w;
   decls = all_decls (all_facts w);
   links = map (resolution_of w) (enumerate_from 0 w);
   diagnostics = map (diagnostics_of w) (enumerate_from 0 w);
@@ -65,7 +89,7 @@ analysis w = record {
 
 -- the workspace of an analysis
 abbrev pub workspace_in : AnalysisData → Workspace
-workspace_in a = zip a.paths a.texts
+workspace_in a = zip a.paths a.sources
 
 -- it is the analysis of its own workspace
 pub record IsKnown (a : AnalysisData) : Type 0 where
@@ -74,12 +98,12 @@ pub record IsKnown (a : AnalysisData) : Type 0 where
 -- the paths of the files of a workspace and their texts, what each text says by itself, and what is wrong in each file
 pub record DiagnosisData : Type 0 where
   pub paths : List (List ℕ)
-  pub texts : List (List ℕ)
+  pub sources : List Source
   pub files : List NamedFacts
   pub diagnostics : List (List Diag)
 
 abbrev pub diagnosis : Workspace → DiagnosisData
-diagnosis w = let a = analysis w in record { paths = a.paths; texts = a.texts; files = all_facts w; diagnostics = a.diagnostics }
+diagnosis w = let a = analysis w in record { paths = a.paths; sources = a.sources; files = all_facts w; diagnostics = a.diagnostics }
 
 -- ---- reading it
 

@@ -1,11 +1,11 @@
 // The analysis of a workspace.
-ghost use Rattle.std.specs.Prelude.{◌≡◌, ◌<◌, ◌++◌, ℕ, List, [], ◌∷◌, length, map, IfOk, OnOk};
+ghost use Rattle.std.specs.Prelude.{◌≡◌, ◌<◌, ◌++◌, Bool, [], ◌∷◌, length, map, IfOk, OnOk};
 ghost use Rattle.std.specs.List.{enumerate_from};
 ghost use Rattle.proto_decls.specs.Facts.{facts_of};
 ghost use Rattle.piece_collector.specs.Board.{Ascends};
-ghost use Rattle.work_index.specs.Pieces.{workspace_of};
+ghost use Rattle.work_index.specs.Pieces.{source_of, workspace_of};
 ghost use Rattle.work_index.specs.Shares.{AreNumbersIn};
-ghost use Rattle.work_index.specs.Workspace.{Workspace, all_facts, analysis, resolution_of, merged, diagnostics_of};
+ghost use Rattle.work_index.specs.Workspace.{Source, Workspace, all_facts, analysis, resolution_of, merged, diagnostics_of, source_facts};
 
 use crate::analysis::{Analysis, AnalysisParts, Resolutions};
 use crate::file_tables::table_of;
@@ -20,13 +20,18 @@ use sqlite_items::Items;
 use std::alloc::{AllocError, Global};
 use thread_heap::make_room_for_files;
 
-/// The files of pieces, in their order. An `Err` comes only where memory was refused.
-pub fn files_of(alloc: Global, pieces: &[Piece<FileWork>]) -> Result<Vec<SourceFile>, AllocError>
-    ensures { IfOk result (λ files. files.items ≡ workspace_of pieces.now) }
+/// The files of pieces, in their order; texts that aren't proto3 are read for what they declare, or aren't. An `Err` comes only where memory was
+/// refused.
+pub fn files_of(
+    alloc: Global,
+    pieces: &[Piece<FileWork>],
+    reads_others: bool,
+) -> Result<Vec<SourceFile>, AllocError>
+    ensures { IfOk result (λ files. files.items ≡ workspace_of reads_others pieces.now) }
 {
     let mut files = Vec::with_capacity(alloc, pieces.len())?;
     for piece in pieces {
-        files.push(SourceFile::of(alloc, piece)?)?;
+        files.push(SourceFile::of(alloc, piece, reads_others)?)?;
     }
     Ok(files)
 }
@@ -39,20 +44,20 @@ pub fn resolution_of(
     piece: &Piece<FileWork>,
 ) -> Result<SharedLinks, AllocError>
     requires { file < length table.now }
-    ensures { (w : Workspace) → table.now ≡ all_facts w → IfOk result (λ links. links ≡ resolution_of w (file, (piece.now.path, piece.now.text))) }
+    ensures { (w : Workspace) (reads_others : Bool) → table.now ≡ all_facts w → IfOk result (λ links. links ≡ resolution_of w (file, source_of reads_others piece.now)) }
 {
     let found = resolve_file(alloc, table, file, piece.text(), tree_in(piece))?;
     SharedLinks::of(alloc, found)
 }
 
-/// All that is wrong in a file with these facts, which are those of a text, by itself and by what it sees. An `Err` comes only where memory was
-/// refused.
+/// All that is wrong in a file with these facts, which are those of a text, by itself and by what it sees. How the text is read makes no difference. An
+/// `Err` comes only where memory was refused.
 pub fn diagnostics_of(
     alloc: Global,
     facts: &FileFacts,
     links: &Links,
 ) -> Result<Items<Diag>, AllocError>
-    ensures { (text : List ℕ) → facts.now ≡ facts_of text → IfOk result (λ diags. diags ≡ merged (facts_of text) links.now) }
+    ensures { (s : Source) → facts.now ≡ source_facts s → IfOk result (λ diags. diags ≡ merged (facts_of s.text) links.now) }
 {
     let mut found = Items::from_slice(alloc, facts.diags.as_slice())?;
     if links.diags.is_empty() {
@@ -90,8 +95,8 @@ fn push_linked(
     resolutions: &mut Resolutions,
 ) -> Result<(), AllocError>
     requires { file < length table.now }
-    ensures links { (w : Workspace) → table.now ≡ all_facts w → OnOk result (resolutions.new.links.items ≡ resolutions.old.links.items ++ resolution_of w (file, (piece.now.path, piece.now.text)) ∷ []) }
-    ensures diagnostics { (w : Workspace) → table.now ≡ all_facts w → OnOk result (resolutions.new.diagnostics.items ≡ resolutions.old.diagnostics.items ++ diagnostics_of w (file, (piece.now.path, piece.now.text)) ∷ []) }
+    ensures links { (w : Workspace) (reads_others : Bool) → table.now ≡ all_facts w → OnOk result (resolutions.new.links.items ≡ resolutions.old.links.items ++ resolution_of w (file, source_of reads_others piece.now) ∷ []) }
+    ensures diagnostics { (w : Workspace) (reads_others : Bool) → table.now ≡ all_facts w → OnOk result (resolutions.new.diagnostics.items ≡ resolutions.old.diagnostics.items ++ diagnostics_of w (file, source_of reads_others piece.now) ∷ []) }
 {
     let found = resolution_of(alloc, table, file, piece)?;
     push_found(alloc, piece, found, resolutions)
@@ -107,8 +112,8 @@ pub fn link_files<G: Gate>(
     gate: &G,
 ) -> Result<Resolutions, AllocError>
     requires { AreNumbersIn (length table.now) first (length pieces.now) }
-    ensures links { (w : Workspace) → table.now ≡ all_facts w → IfOk result (λ found. found.links.items ≡ map (resolution_of w) (enumerate_from first (workspace_of pieces.now))) }
-    ensures diagnostics { (w : Workspace) → table.now ≡ all_facts w → IfOk result (λ found. found.diagnostics.items ≡ map (diagnostics_of w) (enumerate_from first (workspace_of pieces.now))) }
+    ensures links { (w : Workspace) (reads_others : Bool) → table.now ≡ all_facts w → IfOk result (λ found. found.links.items ≡ map (resolution_of w) (enumerate_from first (workspace_of reads_others pieces.now))) }
+    ensures diagnostics { (w : Workspace) (reads_others : Bool) → table.now ≡ all_facts w → IfOk result (λ found. found.diagnostics.items ≡ map (diagnostics_of w) (enumerate_from first (workspace_of reads_others pieces.now))) }
 {
     let links = Vec::new(alloc);
     let diagnostics = Vec::new(alloc);
@@ -130,7 +135,7 @@ fn push_diagnosed(
     diagnostics: &mut Vec<Items<Diag>>,
 ) -> Result<(), AllocError>
     requires { file < length table.now }
-    ensures { (w : Workspace) → table.now ≡ all_facts w → OnOk result (diagnostics.new.items ≡ diagnostics.old.items ++ diagnostics_of w (file, (piece.now.path, piece.now.text)) ∷ []) }
+    ensures { (w : Workspace) (reads_others : Bool) → table.now ≡ all_facts w → OnOk result (diagnostics.new.items ≡ diagnostics.old.items ++ diagnostics_of w (file, source_of reads_others piece.now) ∷ []) }
 {
     let found = resolution_of(alloc, table, file, piece)?;
     diagnostics.push(diagnostics_of(alloc, facts_in(piece), found.get())?)?;
@@ -147,7 +152,7 @@ pub fn diagnose_files<G: Gate>(
     gate: &G,
 ) -> Result<Resolutions, AllocError>
     requires { AreNumbersIn (length table.now) first (length pieces.now) }
-    ensures { (w : Workspace) → table.now ≡ all_facts w → IfOk result (λ found. found.diagnostics.items ≡ map (diagnostics_of w) (enumerate_from first (workspace_of pieces.now))) }
+    ensures { (w : Workspace) (reads_others : Bool) → table.now ≡ all_facts w → IfOk result (λ found. found.diagnostics.items ≡ map (diagnostics_of w) (enumerate_from first (workspace_of reads_others pieces.now))) }
 {
     let mut diagnostics = Vec::new(alloc);
     for (place, piece) in pieces.iter().enumerate() {
@@ -160,13 +165,17 @@ pub fn diagnose_files<G: Gate>(
 }
 
 /// The analysis of the workspace of some pieces, which are in the order of their paths, no path twice: it is that of their
-/// paths and texts. An `Err` comes only where memory was refused.
-pub fn analyse_here(alloc: Global, pieces: &[Piece<FileWork>]) -> Result<Analysis, AllocError>
+/// paths and texts, of which those that aren't proto3 are read for what they declare, or aren't. An `Err` comes only where memory was refused.
+pub fn analyse_here(
+    alloc: Global,
+    pieces: &[Piece<FileWork>],
+    reads_others: bool,
+) -> Result<Analysis, AllocError>
     requires { Ascends pieces.now }
-    ensures { IfOk result (λ found. found ≡ analysis (workspace_of pieces.now)) }
+    ensures { IfOk result (λ found. found ≡ analysis (workspace_of reads_others pieces.now)) }
 {
-    let table = table_of(alloc, pieces)?;
-    let files = files_of(alloc, pieces)?;
+    let table = table_of(alloc, pieces, reads_others)?;
+    let files = files_of(alloc, pieces, reads_others)?;
     let resolutions = link_files(alloc, &table, 0, pieces, &OpenGate)?;
     Ok(Analysis::of_parts(AnalysisParts {
         table,

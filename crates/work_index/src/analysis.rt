@@ -88,8 +88,10 @@ impl Model for Analysis {
 
 impl Analysis {
     ghost use Rattle.std.specs.List.{slice_get};
+    ghost use Rattle.import_graph.specs.Closures.{seers_of};
+    ghost use Rattle.import_graph.specs.Imports.{graph_of};
     ghost use Rattle.work_index.specs.AnalysisParts.{AreParts};
-    ghost use Rattle.work_index.specs.Workspace.{IsKnown, Workspace, analysis, decls_named, diags_at, workspace_in};
+    ghost use Rattle.work_index.specs.Workspace.{IsKnown, Workspace, all_facts, analysis, decls_named, diags_at, texts_of, workspace_in};
 
     /// How many files there are.
     pub fn file_count(&self) -> usize
@@ -109,19 +111,19 @@ impl Analysis {
     /// The text of a file.
     pub fn text(&self, file: FileNo) -> &str
         requires { file < length self.now.paths }
-        ensures { slice_get self.now.texts file ≡ Some result.now }
+        ensures { slice_get (texts_of self.now.sources) file ≡ Some result.now }
     {
         self.files[file].text()
     }
 
-    /// Says that this is the analysis of the workspace of its paths and texts, as each analysis is. Does nothing.
+    /// Says that this is the analysis of its own workspace, as each analysis is. Does nothing.
     pub fn known(&self)
         ensures { IsKnown self.now }
     {
         let _ = &self.files;
     }
 
-    /// Takes an analysis apart: it is that of the workspace of its paths and texts, and these are its parts. Takes no memory.
+    /// Takes an analysis apart: it is that of its own workspace, and these are its parts. Takes no memory.
     pub fn into_parts(self) -> AnalysisParts
         ensures known { IsKnown self }
         ensures parts { AreParts (workspace_in self) result }
@@ -193,6 +195,16 @@ impl Analysis {
         ensures { slice_get self.now.links file ≡ Some result.now }
     {
         self.resolutions.links[file].get()
+    }
+
+    /// The numbers of the files that see a file, ascending, each once: itself, those that import it, and those of which an import leads to it by
+    /// public imports. An `Err` comes only where memory was refused.
+    pub fn seen_by(&self, file: FileNo) -> Result<Vec<FileNo>, AllocError>
+        requires { file < length self.now.paths }
+        ensures { IfOk result (λ seers. seers.items ≡ seers_of (graph_of (all_facts (workspace_in self.now))) file) }
+    {
+        let seers = self.table.graph().seen_by(file)?;
+        Ok(seers)
     }
 
     /// The diagnostics 201 to 406 of a file, each once, by start, end, number and words.

@@ -16,6 +16,8 @@ use std::marker::Model;
 pub struct Diagnosis {
     // The work on the texts, which has their paths too.
     pub(crate) pieces: Vec<Piece<FileWork>>,
+    // Whether texts that aren't proto3 were read for what they declare.
+    pub(crate) reads_others: bool,
     pub(crate) diagnostics: Vec<Items<Diag>>,
     pub(crate) table: Table,
 }
@@ -26,7 +28,7 @@ impl Model for Diagnosis {
 
     ghost Value = { DiagnosisData };
 
-    ghost view = { λ d. record { paths = map (λ p. p.path) d.pieces.items; texts = map (λ p. p.text) d.pieces.items; files = d.table; diagnostics = d.diagnostics.items } };
+    ghost view = { λ d. record { paths = map (λ p. p.path) d.pieces.items; sources = map (λ p. record { text = p.text; reads_others = d.reads_others }) d.pieces.items; files = d.table; diagnostics = d.diagnostics.items } };
 
     ghost invariant = { λ d. length d.diagnostics.items ≡ length d.pieces.items };
 }
@@ -34,6 +36,7 @@ impl Model for Diagnosis {
 impl Diagnosis {
     ghost use Rattle.std.specs.List.{slice_get};
     ghost use Rattle.work_index.specs.Unchecked.{unchecked, first_lost};
+    ghost use Rattle.work_index.specs.Workspace.{texts_of};
 
     /// How many files there are.
     pub fn file_count(&self) -> usize
@@ -53,7 +56,7 @@ impl Diagnosis {
     /// The text of a file.
     pub fn text(&self, file: FileNo) -> &str
         requires { file < length self.now.paths }
-        ensures { slice_get self.now.texts file ≡ Some result.now }
+        ensures { slice_get (texts_of self.now.sources) file ≡ Some result.now }
     {
         self.pieces[file].text()
     }

@@ -1,11 +1,11 @@
 // The analysis of a workspace by several threads.
-ghost use Rattle.std.specs.Prelude.{◌≡◌, ◌<◌, length, Err, IfOk};
+ghost use Rattle.std.specs.Prelude.{◌≡◌, ◌<◌, Bool, length, Err, IfOk};
 ghost use Rattle.std.specs.Thread.{IsSync};
 ghost use Rattle.piece_collector.specs.Board.{Ascends};
 ghost use Rattle.work_index.specs.declared.fault.AnalyseFault.TheVariants.{ThreadRefused};
 ghost use Rattle.work_index.specs.Parts.{IsIndexed, AreIndexed};
 ghost use Rattle.work_index.specs.Pieces.{workspace_of};
-ghost use Rattle.work_index.specs.Shares.{pieces_in, AreConsecutive, AreNumbersIn, ArePlacedIn, IsLinkedBy, IsLinkedIn, AreLinkedBy};
+ghost use Rattle.work_index.specs.Shares.{pieces_in, AreConsecutive, AreNumbersIn, ArePlacedIn, AreRead, IsLinkedBy, IsLinkedIn, AreLinkedBy};
 ghost use Rattle.work_index.specs.Workspace.{all_facts, analysis, diagnosis};
 
 use crate::analyse::files_of;
@@ -84,7 +84,7 @@ fn index_all<R: Threads + Wait>(
     )
 }
 
-// The shares as they were, and the table of all their files, which threads make part by part.
+// The shares as they were, and the table of all their files, which threads make part by part. All are read alike.
 fn table_in_shares<R: Threads + Wait>(
     rt: &R,
     alloc: Global,
@@ -92,8 +92,9 @@ fn table_in_shares<R: Threads + Wait>(
 ) -> Result<(Vec<Share>, Table), AnalyseFault>
     requires places { AreConsecutive 0 shares.items }
     requires ordered { Ascends (pieces_in shares.items) }
+    requires read { (reads_others : Bool) × AreRead reads_others shares.items }
     ensures shares { IfOk result (λ r. r.0.items ≡ shares.items) }
-    ensures table { IfOk result (λ r. r.1 ≡ all_facts (workspace_of (pieces_in shares.items))) }
+    ensures table { (reads_others : Bool) → AreRead reads_others shares.items → IfOk result (λ r. r.1 ≡ all_facts (workspace_of reads_others (pieces_in shares.items))) }
     ensures threads { result ≡ Err ThreadRefused → 0 < length shares.items }
 {
     let answers = index_all(rt, alloc, shares)?;
@@ -157,21 +158,25 @@ fn link_in_shares<R: Threads + Wait, G: Gate>(
 ) -> Result<(Table, LinkedShare), AnalyseFault>
     requires first { all.first ≡ 0 }
     requires ordered { Ascends all.pieces.items }
-    ensures table { IfOk result (λ r. r.0 ≡ all_facts (workspace_of all.pieces.items)) }
-    ensures linked { IfOk result (λ r. IsLinkedIn (workspace_of all.pieces.items) all r.1) }
+    ensures table { IfOk result (λ r. r.0 ≡ all_facts (workspace_of all.reads_others all.pieces.items)) }
+    ensures linked { IfOk result (λ r. IsLinkedIn (workspace_of all.reads_others all.pieces.items) all r.1) }
     ensures threads { result ≡ Err ThreadRefused → 0 < length all.pieces.items }
 {
-    let Share {
-        pieces,
-        keeps_links,
-        ..
-    } = all;
-    let count = workers.clamp(1, 64).min(pieces.len());
-    let shares = cut(alloc, pieces, count, keeps_links)?;
+    let count = workers.clamp(1, 64).min(all.pieces.len());
+    let shares = cut(alloc, all, count)?;
     let (shares, table) = table_in_shares(rt, alloc, shares)?;
     let answers = link_all(rt, alloc, shares, &table, gate)?;
     let linked = gather(alloc, answers)?;
     Ok((table, linked))
+}
+
+/// How threads analyse a workspace.
+#[derive(Clone, Copy)]
+pub struct AnalysisSettings {
+    /// How many threads share the work: 0 counts as 1, and over 64 as 64.
+    pub workers: usize,
+    /// Whether texts that aren't proto3 are read for what they declare.
+    pub reads_others: bool,
 }
 
 /// The analysis of the workspace of lent pieces, which come back as they were. It is the one that [`analyse_here`](crate::analyse_here)
@@ -187,11 +192,11 @@ pub fn analyse_in_shares<R: Threads + Wait, G: Gate>(
     rt: &R,
     alloc: Global,
     lent: Lent<FileWork>,
-    workers: usize,
+    settings: AnalysisSettings,
     gate: &G,
 ) -> Result<(Lent<FileWork>, Analysis), AnalyseFault>
     ensures pieces { IfOk result (λ r. r.0 ≡ lent) }
-    ensures analysis { IfOk result (λ r. r.1 ≡ analysis (workspace_of lent)) }
+    ensures analysis { IfOk result (λ r. r.1 ≡ analysis (workspace_of settings.reads_others lent)) }
     ensures threads { result ≡ Err ThreadRefused → 0 < length lent }
 {
     let pieces = lent.into_pieces();
@@ -199,13 +204,14 @@ pub fn analyse_in_shares<R: Threads + Wait, G: Gate>(
         first: 0,
         pieces,
         keeps_links: true,
+        reads_others: settings.reads_others,
     };
-    let (table, linked) = link_in_shares(rt, alloc, all, workers, gate)?;
+    let (table, linked) = link_in_shares(rt, alloc, all, settings.workers, gate)?;
     let LinkedShare {
         pieces,
         resolutions,
     } = linked;
-    let files = files_of(alloc, pieces.as_slice())?;
+    let files = files_of(alloc, pieces.as_slice(), settings.reads_others)?;
     let analysis = Analysis::of_parts(AnalysisParts {
         table,
         files,
@@ -220,10 +226,10 @@ pub fn diagnose<R: Threads + Wait, G: Gate>(
     rt: &R,
     alloc: Global,
     lent: Lent<FileWork>,
-    workers: usize,
+    settings: AnalysisSettings,
     gate: &G,
 ) -> Result<Diagnosis, AnalyseFault>
-    ensures diagnosis { IfOk result (λ found. found ≡ diagnosis (workspace_of lent)) }
+    ensures diagnosis { IfOk result (λ found. found ≡ diagnosis (workspace_of settings.reads_others lent)) }
     ensures threads { result ≡ Err ThreadRefused → 0 < length lent }
 {
     let pieces = lent.into_pieces();
@@ -231,8 +237,9 @@ pub fn diagnose<R: Threads + Wait, G: Gate>(
         first: 0,
         pieces,
         keeps_links: false,
+        reads_others: settings.reads_others,
     };
-    let (table, linked) = link_in_shares(rt, alloc, all, workers, gate)?;
+    let (table, linked) = link_in_shares(rt, alloc, all, settings.workers, gate)?;
     let LinkedShare {
         pieces,
         resolutions,
@@ -240,6 +247,7 @@ pub fn diagnose<R: Threads + Wait, G: Gate>(
     let Resolutions { diagnostics, .. } = resolutions;
     Ok(Diagnosis {
         pieces,
+        reads_others: settings.reads_others,
         diagnostics,
         table,
     })

@@ -26,7 +26,12 @@ pub fn index_share(alloc: Global, share: Share) -> Result<IndexedShare, AllocErr
     ensures { IfOk result (IsIndexed share) }
 {
     make_room_for_files(alloc, 0)?;
-    let part = PartTable::of(alloc, share.first, share.pieces.as_slice())?;
+    let part = PartTable::of(
+        alloc,
+        share.first,
+        share.pieces.as_slice(),
+        share.reads_others,
+    )?;
     Ok(IndexedShare { share, part })
 }
 

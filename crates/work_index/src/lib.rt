@@ -2,8 +2,8 @@
 //!
 //! [`FileWork`] is the work on one file, whose product stands for its text; [`analyse_here`] links the products of all
 //! files, and [`analyse_in_shares`] has several threads do so, as does [`diagnose`], which keeps only what is wrong. What
-//! the analysis of a workspace is, is defined in specs/Workspace.antt as a function of the list of paths and texts; the products save time
-//! and take no part in it. An analysis is made of [`AnalysisParts`], by which the crate above brings it up to other texts.
+//! the analysis of a workspace is, is defined in specs/Workspace.antt as a function of the list of paths and texts, with the choice whether texts that
+//! aren't proto3 are read for what they declare; the products save time and take no part in it. An analysis is made of [`AnalysisParts`], by which the crate above brings it up to other texts.
 #![tactic(auto)]
 
 mod analyse;
@@ -29,9 +29,9 @@ pub use diagnosis::Diagnosis;
 pub use done::Done;
 pub use fault::AnalyseFault;
 pub use file_tables::{named_facts, table_of};
-pub use file_work::{FileOut, FileWork, facts_in, tree_in, tree_of};
+pub use file_work::{FileOut, FileWork, KnownText, facts_in, known_in, tree_in, tree_of};
 pub use gate::{Gate, OpenGate};
-pub use in_shares::{analyse_in_shares, diagnose};
+pub use in_shares::{AnalysisSettings, analyse_in_shares, diagnose};
 pub use part_table::{PartTable, merge_tables};
 pub use shared_links::SharedLinks;
 pub use source_file::SourceFile;

@@ -34,6 +34,7 @@ pub fn link_share<G: Gate>(
         first,
         pieces,
         keeps_links,
+        ..
     } = share;
     let resolutions = if keeps_links {
         link_files(alloc, table, first, pieces.as_slice(), gate)?

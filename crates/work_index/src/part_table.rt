@@ -30,16 +30,17 @@ impl Model for PartTable {
 }
 
 impl PartTable {
-    /// The table of the files of some pieces, the first of which has this number, from 0, among all. Their facts aren't copied. An
-    /// `Err` comes only where memory was refused.
+    /// The table of the files of some pieces, the first of which has this number, from 0, among all; texts that aren't proto3 are read for what they
+    /// declare, or aren't. Their facts aren't copied. An `Err` comes only where memory was refused.
     pub fn of(
         alloc: Global,
         first: usize,
         pieces: &[Piece<FileWork>],
+        reads_others: bool,
     ) -> Result<PartTable, AllocError>
-        ensures { IfOk result (λ p. p ≡ record { first = first; files = all_facts (workspace_of pieces.now) }) }
+        ensures { IfOk result (λ p. p ≡ record { first = first; files = all_facts (workspace_of reads_others pieces.now) }) }
     {
-        let files = all_facts(alloc, pieces)?;
+        let files = all_facts(alloc, pieces, reads_others)?;
         let entries = NameEntries::of(alloc, files)?;
         Ok(PartTable { first, entries })
     }

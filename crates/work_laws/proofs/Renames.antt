@@ -15,16 +15,18 @@ use Rattle.proto_lex.specs.Bytes.{class_of, is_letter, is_name_byte, is_quote, i
 use Rattle.proto_tree.specs.declared.node.Span.{Span}
 use Rattle.proto_tree.specs.Identifiers.{IsIdentifier, IsIdentifierAt, NamesAreIdentifiers}
 use Rattle.proto_tree.specs.Read.{empty_tree, read}
+use Rattle.proto_laws.proofs.IdentifierLaws.{OthersAreIdentifiers}
 use Rattle.doc_text.specs.Laws.{IsInsideLineEnd}
 use Rattle.proto_names.specs.declared.decl_ref.DeclRef.{DeclRef}
-use Rattle.work_index.specs.Workspace.{Workspace, analysis}
+use Rattle.work_index.specs.Workspace.{SourceAt, Workspace, analysis, no_file}
 use Rattle.lsp_queries.specs.Answers.{sites_of}
 use Rattle.lsp_queries.specs.Files.{place_of}
 use Rattle.lsp_queries.specs.Offsets.{symbol_at}
-use Rattle.lsp_renames.specs.Renaming.{checked, is_identifier, is_taken, new_full_name, renamed_symbol}
+use Rattle.lsp_renames.specs.Renaming.{checked, is_identifier, is_taken, new_full_name, renamed_decl, renamed_symbol}
 use Rattle.lsp_renames.specs.RenamingLaws.{IdentifierFormLaw}
+use Rattle.lsp_renames.specs.UnknownUses.{has_unknown_uses}
 use Rattle.lsp_renames.specs.declared.fault.RenameFault.{RenameFault}
-use Rattle.lsp_renames.specs.declared.fault.RenameFault.TheVariants.{BadName, NameTaken}
+use Rattle.lsp_renames.specs.declared.fault.RenameFault.TheVariants.{BadName, NameTaken, NotRenamable}
 use Rattle.lsp_queries.specs.declared.offsets.Symbol.{Symbol}
 use Rattle.lsp_queries.specs.declared.offsets.Symbol.TheVariants.{Declared, Package}
 use Rattle.lsp_queries.specs.declared.place.Place.{Place}
@@ -129,18 +131,23 @@ renamed-decl w r new_name places false taken name is = absurd (cc (is))
 renamed-decl w r new_name places true true name is = absurd (cc (is))
 renamed-decl w r new_name places true false name is = (name, r, (checked-keeps (analysis w) (sites_of (analysis w) r (place_of (analysis w) r)) new_name places is).0)
 
+known-decl : (w : Workspace) (r : DeclRef) (new_name : List ℕ) (places : List Place) (unknown : Bool)
+    → cond {A = Result (List Place) RenameFault} unknown (Err NotRenamable) (renamed_decl (analysis w) r new_name) ≡ Ok places → IsRename w new_name places
+known-decl w r new_name places true is = absurd (cc (is))
+known-decl w r new_name places false is =
+    renamed-decl w r new_name places (is_identifier new_name) (is_taken (analysis w) r (new_full_name (analysis w) r new_name)) refl is
+
 pub renamed-places : (w : Workspace) (o : Option Symbol) (new_name : List ℕ) (places : List Place) → renamed_symbol (analysis w) o new_name ≡ Ok places → IsRename w new_name places
 renamed-places w None new_name places is = absurd (cc (is))
 renamed-places w (Some Package) new_name places is = absurd (cc (is))
-renamed-places w (Some (Declared r)) new_name places is =
-    renamed-decl w r new_name places (is_identifier new_name) (is_taken (analysis w) r (new_full_name (analysis w) r new_name)) refl is
+renamed-places w (Some (Declared r)) new_name places is = known-decl w r new_name places (has_unknown_uses (analysis w) r.file) is
 
-text-utf8 : (w : Workspace) (file : ℕ) → All (λ file. IsUtf8 file.1) w → IsUtf8 (text_in w file)
+text-utf8 : (w : Workspace) (file : ℕ) → All (λ file. IsUtf8 file.1.text) w → IsUtf8 (text_in w file)
 text-utf8 w file utf8 = by (cases_lt file (length w))
   where
     by : (file < length w) ⊎ (length w ≤ file) → IsUtf8 (text_in w file)
-    by (inl lt) = utf8 file ([], []) lt
-    by (inr past) = subst (λ (found : List ℕ × List ℕ). IsUtf8 found.1) (sym (get_or_past w file ([], []) past)) IsUtf8-nil
+    by (inl lt) = utf8 file no_file lt
+    by (inr past) = subst (λ (found : SourceAt). IsUtf8 found.1.text) (sym (get_or_past w file no_file past)) IsUtf8-nil
 
 module _ (w : Workspace) (file : ℕ) where
   abbrev is_here : Place → Bool
@@ -149,11 +156,11 @@ module _ (w : Workspace) (file : ℕ) where
   all-here : (places : List Place) → All (λ p. p.file ≡ file) (places_in file places)
   all-here places k d lt = eqb-true (get_or (places_in file places) k d).file file (filter_passes is_here places k d lt)
 
-  places-cut : read [] ≡ empty_tree → NamesAreIdentifiers → IsUtf8 (text_in w file) → (r : DeclRef) → All (IsCutOut (text_in w file)) (places_in file (places_of w r true))
-  places-cut empty identifiers utf8 r k d lt =
+  places-cut : read [] ≡ empty_tree → NamesAreIdentifiers → OthersAreIdentifiers → IsUtf8 (text_in w file) → (r : DeclRef) → All (IsCutOut (text_in w file)) (places_in file (places_of w r true))
+  places-cut empty identifiers others utf8 r k d lt =
       let all = places_of w r true in
       let p = get_or (places_in file all) k d in
-      let is = All-filter is_here (λ p. (p.file < length w) × IsIdentifierAt (text_in w p.file) (span_of p)) all (places-identifiers empty identifiers w r true) k d lt in
+      let is = All-filter is_here (λ p. (p.file < length w) × IsIdentifierAt (text_in w p.file) (span_of p)) all (places-identifiers empty identifiers others w r true) k d lt in
       cut_out (text_in w file) p (subst (λ n. IsIdentifierAt (text_in w n) (span_of p)) (all-here all k d lt) is.1) utf8
 
   places-apart_here : PlacesAreApart → (r : DeclRef) → AllPairs (λ p q. p.«end» < q.start) (places_in file (places_of w r true))
@@ -162,11 +169,11 @@ module _ (w : Workspace) (file : ℕ) where
       pairs-with IsApart (λ p q. p.«end» < q.start) (λ p. p.file ≡ file) (λ p q first second apart. apart (first ∙ sym second)) (places_in file all) (all-here all)
       (AllPairs-filter IsApart is_here all (apart w r true))
 
-pub renames-change : EditsChangeThePlaces → IdentifierFormLaw → PlacesAreApart → NamesAreIdentifiers → read [] ≡ empty_tree → RenamesChangeTheNames
-renames-change edits form apart identifiers empty e w asked offset new_name places file utf8 is =
+pub renames-change : EditsChangeThePlaces → IdentifierFormLaw → PlacesAreApart → NamesAreIdentifiers → OthersAreIdentifiers → read [] ≡ empty_tree → RenamesChangeTheNames
+renames-change edits form apart identifiers others empty e w asked offset new_name places file utf8 is =
     let text = text_in w file in
     let rename = renamed-places w (symbol_at (analysis w) asked offset) new_name places is in
     let text_is = text-utf8 w file utf8 in
     edits e text new_name (places_in file places) text_is (name-utf8 new_name ((form new_name).0 rename.0))
-    (subst (λ all. All (IsCutOut text) (places_in file all)) rename.2 (places-cut w file empty identifiers text_is rename.1))
+    (subst (λ all. All (IsCutOut text) (places_in file all)) rename.2 (places-cut w file empty identifiers others text_is rename.1))
     (subst (λ all. AllPairs (λ p q. p.«end» < q.start) (places_in file all)) rename.2 (places-apart_here w file apart rename.1))

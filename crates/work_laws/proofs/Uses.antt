@@ -1,12 +1,12 @@
 -- Each name of each file of a workspace has its uses.
-use Rattle.std.proofs.Common.{◌≡◌, ◌∙◌, sym, subst, ℕ, ◌+◌, ◌<◌, ◌==◌, List, [], ◌∷◌, true, Option, Some, None, length, get_or, refl, arith}
+use Rattle.std.proofs.Common.{◌≡◌, ◌∙◌, sym, subst, ℕ, ◌+◌, ◌<◌, ◌==◌, List, [], ◌∷◌, Bool, true, Option, Some, None, length, get_or, refl, arith}
 use Rattle.std.specs.Prelude.{◌≢◌, All, IsUtf8, option_and_then}
 use Rattle.std.specs.List.{enumerate_from}
 use Rattle.std.proofs.lemmas.List.{length-map}
 use Rattle.std.proofs.lemmas.List.Elements.{All-nil, All-cons, All-head, All-map, All-tail, All-weaker}
 use Rattle.proto_tree.specs.Identifiers.{IsIdentifier}
 use Rattle.proto_tree.specs.Read.{value_tree}
-use Rattle.proto_decls.specs.Facts.{facts_of}
+use Rattle.proto_decls.specs.Facts.{facts_by}
 use Rattle.proto_tree.specs.Names.{type_components_in}
 use Rattle.proto_decls.specs.IdentifierLaws.{HasIdentifiers, IsIdentifierIn, NamesAreIdentifiers}
 use Rattle.proto_decls.specs.Nesting.{NamesNest}
@@ -26,7 +26,7 @@ use Rattle.proto_resolve.proofs.Firsts.{agrees}
 use Rattle.proto_resolve.proofs.Members.{to_any}
 use Rattle.proto_resolve.proofs.UsesByName.{uses_by_name}
 use Rattle.work_laws.specs.UseLaws.{HasItsUses, NamesHaveTheirUses, names_in, uses_in, view_in}
-use Rattle.work_index.specs.Workspace.{Workspace, all_facts, named_facts}
+use Rattle.work_index.specs.Workspace.{SourceAt, Workspace, all_facts, named_facts}
 
 -- a file sees itself
 sees_itself : (files : List NamedFacts) (f : ℕ) → f < length files → is_seen (view_of (graph_of files) f) f ≡ true
@@ -60,7 +60,7 @@ some_bytes : (name : List ℕ) → IsIdentifier name → name ≢ []
 some_bytes [] is same = is
 some_bytes (c ∷ name) is same = cc (same)
 
-module _ (law : UsesLaw) (w : Workspace) (nest : All (λ file. NamesNest file.facts) (all_facts w)) (file : ℕ × (List ℕ × List ℕ)) (there : file.0 < length w) where
+module _ (law : UsesLaw) (w : Workspace) (nest : All (λ file. NamesNest file.facts) (all_facts w)) (file : ℕ × SourceAt) (there : file.0 < length w) where
   abbrev of_name : ℕ → NameSite → List NameUse
   of_name i site = uses_of (all_facts w) file.0 (view_in w file) i site
 
@@ -84,16 +84,16 @@ module _ (law : UsesLaw) (w : Workspace) (nest : All (λ file. NamesNest file.fa
       let name = get_or (enumerate_from 0 (names_in w file)) k d in
       name_has name.0 name.1 (own k d lt) (named k d lt)
 
-  file_has : HasIdentifiers file.1.1 → All (λ name. HasItsUses w file name.0 name.1) (enumerate_from 0 (names_in w file))
+  file_has : HasIdentifiers file.1.1.text → All (λ name. HasItsUses w file name.0 name.1) (enumerate_from 0 (names_in w file))
   file_has identifiers =
-      let text = file.1.1 in
+      let text = file.1.1.text in
       let nodes = (let tree = value_tree text in tree.nodes) in
       let components : All (λ s. text_at text s ≢ []) (type_components_in nodes) = All-weaker (IsIdentifierIn text) (λ s. text_at text s ≢ []) (λ s is. some_bytes (text_at text s) is) (type_components_in nodes) identifiers.types in
       names_have (of_names text (λ c. c ≢ []) (facts_at (all_facts w) file.0) nodes components)
 
-pub names-have-uses : UsesLaw → NamesAreIdentifiers → ((text : List ℕ) → NamesNest (facts_of text)) → (w : Workspace) → All (λ file. IsUtf8 file.1) w → NamesHaveTheirUses w
+pub names-have-uses : UsesLaw → NamesAreIdentifiers → ((reads_others : Bool) (text : List ℕ) → NamesNest (facts_by reads_others text)) → (w : Workspace) → All (λ file. IsUtf8 file.1.text) w → NamesHaveTheirUses w
 names-have-uses law identifiers nest w utf8 =
-    let all_nest = All-map (λ file. NamesNest file.facts) named_facts w (λ k d lt. nest (let file = get_or w k d in file.1)) in
-    let all_has = All-weaker (λ file. IsUtf8 file.1) (λ file. HasIdentifiers file.1) (λ file is. identifiers file.1 is) w utf8 in
-    All-weaker (λ file. (file.0 < length w) × HasIdentifiers file.1.1) (λ file. All (λ name. HasItsUses w file name.0 name.1) (enumerate_from 0 (names_in w file)))
-    (λ file has. file_has law w all_nest file has.0 has.1) (enumerate_from 0 w) (numbered_below (λ file. HasIdentifiers file.1) 0 (length w) w (omega arith) all_has)
+    let all_nest = All-map (λ file. NamesNest file.facts) named_facts w (λ k d lt. let file = get_or w k d in nest file.1.reads_others file.1.text) in
+    let all_has = All-weaker (λ (file : SourceAt). IsUtf8 file.1.text) (λ (file : SourceAt). HasIdentifiers file.1.text) (λ file is. identifiers file.1.text is) w utf8 in
+    All-weaker (λ (file : ℕ × SourceAt). (file.0 < length w) × HasIdentifiers file.1.1.text) (λ file. All (λ name. HasItsUses w file name.0 name.1) (enumerate_from 0 (names_in w file)))
+    (λ file has. file_has law w all_nest file has.0 has.1) (enumerate_from 0 w) (numbered_below (λ (file : SourceAt). HasIdentifiers file.1.text) 0 (length w) w (omega arith) all_has)

@@ -55,5 +55,5 @@ EditsChangeThePlaces =
 -- where the texts are UTF-8, so it is with the places of a rename in each file
 abbrev pub RenamesChangeTheNames : Type 0
 RenamesChangeTheNames =
-    (e : Encoding) (w : Workspace) (asked offset : ℕ) (new_name : List ℕ) (places : List Place) (file : ℕ) → All (λ file. IsUtf8 file.1) w → renamed (analysis w) asked offset new_name ≡ Ok places
+    (e : Encoding) (w : Workspace) (asked offset : ℕ) (new_name : List ℕ) (places : List Place) (file : ℕ) → All (λ file. IsUtf8 file.1.text) w → renamed (analysis w) asked offset new_name ≡ Ok places
     → (let text = text_in w file in let here = places_in file places in changed_from_the_last e (map (change_of e new_name text) here) text ≡ respelled new_name text here)

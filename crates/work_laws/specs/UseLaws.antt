@@ -10,13 +10,13 @@ use Rattle.proto_resolve.specs.declared.uses.NameUse.{NameUse}
 use Rattle.proto_resolve.specs.Laws.{AreUsesOf}
 use Rattle.proto_resolve.specs.Names.{meaning, scope_of}
 use Rattle.proto_resolve.specs.Resolved.{sites_at}
-use Rattle.work_index.specs.Workspace.{Workspace, all_facts, resolution_of}
+use Rattle.work_index.specs.Workspace.{SourceAt, Workspace, all_facts, resolution_of}
 
 -- a file, given its number
-module _ (w : Workspace) (file : ℕ × (List ℕ × List ℕ)) where
+module _ (w : Workspace) (file : ℕ × SourceAt) where
   -- its names
   abbrev pub names_in : List NameSite
-  names_in = sites_at (all_facts w) file.0 file.1.1 (value_tree file.1.1)
+  names_in = let source = file.1.1 in sites_at (all_facts w) file.0 source.text (value_tree source.text)
 
   -- what it sees
   abbrev pub view_in : List ℕ

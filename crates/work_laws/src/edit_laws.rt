@@ -4,7 +4,7 @@ ghost use Rattle.work_laws.specs.EditLaws.{ChangesEdit, EditsChangeThePlaces, Re
 use doc_text::{changes_keep_utf8, round_trips};
 use lsp_queries::places_apart;
 use lsp_renames::identifier_form_law;
-use proto_laws::{identifiers_law, size_law};
+use proto_laws::{identifiers_law, other_names_law, size_law};
 
 /// A law: changes of a UTF-8 text that give a name to each of some places, the last one made first, put it there and keep all the
 /// rest, if no two of the places touch and each can be cut out. That is one which starts and ends between two characters and not
@@ -25,5 +25,6 @@ pub fn renames_change_the_names()
     places_apart();
     identifier_form_law();
     identifiers_law();
+    other_names_law();
     size_law();
 }

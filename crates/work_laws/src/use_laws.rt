@@ -9,7 +9,7 @@ use proto_resolve::uses_law;
 /// A law: in UTF-8 texts a name that means nothing has no uses, and one that means something has one for each of its components, in
 /// order, of what is found at the full name up to that component.
 pub fn uses_of_names()
-    ensures { (w : Workspace) → All (λ file. IsUtf8 file.1) w → NamesHaveTheirUses w }
+    ensures { (w : Workspace) → All (λ file. IsUtf8 file.1.text) w → NamesHaveTheirUses w }
 {
     names_are_identifiers();
     names_nest();

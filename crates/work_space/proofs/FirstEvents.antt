@@ -14,21 +14,20 @@ use Rattle.piece_collector.specs.Board.{IsAfter, slot_at}
 use Rattle.piece_collector.specs.Events.{Event, SetText}
 use Rattle.piece_collector.specs.History.{Standing, sets, history, stands_at}
 use Rattle.piece_collector.specs.Views.{BoardView}
-use Rattle.work_index.specs.Workspace.{Workspace}
 use Rattle.work_files.specs.Files.{File, Files, text_of, text_at, workspace, AreInPathOrder}
 use Rattle.work_space.specs.BoardTexts.{HoldsTexts, StampsRunOut, first_events}
 use Rattle.work_space.proofs.Held.{text_in_workspace}
-use Rattle.work_space.proofs.WorkspaceOrder.{Ascend, ascend-workspace}
-use Rattle.work_update.proofs.ByPath.{AreBehind, paths}
+use Rattle.work_space.proofs.WorkspaceOrder.{Texts, TextsAscend, ascend-texts, paths_in}
+use Rattle.work_update.proofs.ByPath.{AreBehind}
 
 abbrev set_text : List Event → List ℕ × List ℕ → List Event
 set_text events file = SetText file.0 file.1 ∷ events
 
-none-behind : (p : List ℕ) (w : Workspace) → AreBehind p (paths w) → lookup (bytes_eq p) w ≡ None
+none-behind : (p : List ℕ) (texts : Texts) → AreBehind p (paths_in texts) → lookup (bytes_eq p) texts ≡ None
 none-behind p [] all = refl
 none-behind p (e ∷ es) all = ap (λ b. cond b (Some e.1) (lookup (bytes_eq p) es)) (sym (is_eq-slice_cmp p e.0) ∙ ap is_eq all.0) ∙ none-behind p es all.1
 
-set-texts : (w : Workspace) (events : List Event) (q : List ℕ) → Ascend w → all_texts (fold set_text events w) q ≡ option_or (lookup (bytes_eq q) w) (all_texts events q)
+set-texts : (texts : Texts) (events : List Event) (q : List ℕ) → TextsAscend texts → all_texts (fold set_text events texts) q ≡ option_or (lookup (bytes_eq q) texts) (all_texts events q)
 unfolding IsStrictlySortedBy
 set-texts [] events q order = refl
 set-texts (e ∷ es) events q order = set-texts es (set_text events e) q order.1 ∙ by (bytes_eq q e.0) refl
@@ -52,7 +51,7 @@ slot-text p (Some x) = refl
 -- the texts after these events
 pub texts_of_first : EventsGiveTheTexts → (o : ℕ) (files : Files) → AreInPathOrder files → (path : List ℕ) → text_after o (first_events (workspace files)) path ≡ text_at path files
 texts_of_first law o files order path =
-    law o (first_events (workspace files)) path ∙ set-texts (workspace files) [] path (ascend-workspace files order) ∙ or-none (lookup (bytes_eq path) (workspace files)) ∙ text_in_workspace files order path
+    law o (first_events (workspace files)) path ∙ set-texts (workspace files) [] path (ascend-texts files order) ∙ or-none (lookup (bytes_eq path) (workspace files)) ∙ text_in_workspace files order path
 
 -- a board after them has the texts of the files
 pub first_texts : EventsGiveTheTexts → (o : ℕ) (board : BoardView) (files : Files) → AreInPathOrder files → IsAfter o board (first_events (workspace files)) → HoldsTexts files board
@@ -61,7 +60,7 @@ first_texts law o board files order after path =
 
 -- ---- one file more
 
-more-first : (x : List ℕ × File) (t : Option (List ℕ)) (rest more : Workspace) (events first : List Event)
+more-first : (x : List ℕ × File) (t : Option (List ℕ)) (rest more : Texts) (events first : List Event)
     → ((es : List Event) → fold set_text es more ≡ first ++ fold set_text es rest)
     → fold set_text events (cons_option (option_map (λ u. (x.0, u)) t) more) ≡ first ++ fold set_text events (cons_option (option_map (λ u. (x.0, u)) t) rest)
 more-first x None rest more events first each = each events
@@ -107,23 +106,23 @@ refused_with fault e (Err y) h is = let same : y ≡ e = cc in sym h ∙ same
 
 -- ---- how many texts were set
 
-sets-on : (o : ℕ) (w : Workspace) (events : List Event) → sets (history o (fold set_text events w)) ≡ length w + sets (history o events)
+sets-on : (o : ℕ) (texts : Texts) (events : List Event) → sets (history o (fold set_text events texts)) ≡ length texts + sets (history o events)
 sets-on o [] events = omega arith
 sets-on o (e ∷ es) events =
     let one : sets (history o (set_text events e)) ≡ sets (history o events) + 1 = refl in
     omega (arith, sets-on o es (set_text events e), one)
 
 -- one for each file that has a text
-pub sets-first : (o : ℕ) (w : Workspace) → sets (history o (first_events w)) ≡ length w
-sets-first o w = omega (arith, sets-on o w [])
+pub sets-first : (o : ℕ) (texts : Texts) → sets (history o (first_events texts)) ≡ length texts
+sets-first o texts = omega (arith, sets-on o texts [])
 
 -- a file that has a text
 pub one_text : (path : List ℕ) (f : File) (text : List ℕ) → Some text ≡ text_of f → length (workspace ((path, f) ∷ [])) ≡ 1
 one_text path f text is = ap (λ t. length {A = List ℕ × List ℕ} (cons_option (option_map (λ u. (path, u)) t) [])) (sym is)
 
-texts-option : (t : Option (List ℕ × List ℕ)) (ws : Workspace) → length (cons_option t ws) ≡ length (cons_option t []) + length ws
-texts-option None ws = omega arith
-texts-option (Some u) ws = omega arith
+texts-option : (t : Option (List ℕ × List ℕ)) (texts : Texts) → length (cons_option t texts) ≡ length (cons_option t []) + length texts
+texts-option None texts = omega arith
+texts-option (Some u) texts = omega arith
 
 texts-cons : (e : List ℕ × File) (files : Files) → length (workspace (e ∷ files)) ≡ length (workspace (e ∷ [])) + length (workspace files)
 texts-cons e files = texts-option (option_map (λ u. (e.0, u)) (text_of e.1)) (workspace files)

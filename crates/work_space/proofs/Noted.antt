@@ -1,5 +1,5 @@
 -- What is known of files while changes are noted.
-use Rattle.std.proofs.Common.{◌≡◌, ◌<◌, ◌||◌, ℕ, zero, suc, List, [], ◌∷◌, ◌++◌, Bool, true, false, cond, Option, Some, None, String, length, get_or, map, refl, sym, ap, subst, ◌∙◌, arith}
+use Rattle.std.proofs.Common.{◌≡◌, ◌<◌, ◌||◌, ℕ, zero, suc, List, [], ◌∷◌, ◌++◌, Bool, true, false, cond, Option, Some, None, String, get_or, map, option_map, refl, sym, ap, subst, ◌∙◌, arith}
 use Rattle.std.specs.Prelude.{Contains, IfSome, bytes_eq, string_bytes}
 use Rattle.std.specs.Cmp.Lexicographic.{bytes_decides}
 use Rattle.std.specs.List.{list_any}
@@ -8,14 +8,15 @@ use Rattle.std.proofs.lemmas.Bool.{false≢true}
 use Rattle.std.proofs.lemmas.List.{map_push}
 use Rattle.std.proofs.lemmas.List.Elements.{Contains-append_left, Contains-push}
 use Rattle.collector_laws.proofs.Lists.{one_list}
-use Rattle.work_index.specs.Workspace.{AnalysisData, IsKnown, analysis, workspace_in}
+use Rattle.work_index.specs.Workspace.{AnalysisData, IsKnown, Source, Workspace, analysis, sources_of, workspace_in}
 use Rattle.work_index.proofs.Known.{known_workspace}
-use Rattle.work_update.specs.Updates.{IsInOrder, NameAllChanges, texts_by_path}
+use Rattle.work_update.specs.Updates.{IsInOrder, NameAllChanges, sources_by_path}
 use Rattle.work_files.specs.Files.{Files, AreInPathOrder, text_at, workspace}
-use Rattle.work_space.specs.Kept.{AreNoted, IsOf}
+use Rattle.work_space.specs.Kept.{AreNoted, IsOf, source_at}
 use Rattle.work_files.specs.Texts.{TextsChangeAt}
 use Rattle.work_space.specs.declared.last_analysis.LastAnalysis.{LastAnalysis}
-use Rattle.work_space.proofs.Held.{text_in_workspace}
+use Rattle.work_update.proofs.Updates.{read_as}
+use Rattle.work_space.proofs.Held.{source_in_workspace}
 use Rattle.work_space.proofs.WorkspaceOrder.{ascend-workspace}
 
 -- ---- one more path
@@ -47,7 +48,7 @@ only : (p q : List ℕ) (k : ℕ) → k < 1 → get_or (p ∷ []) k q ≡ q → 
 only p q zero there same = same
 only p q (suc k) there same = absurd (omega (arith, there))
 
-pub known_noted : (path : List ℕ) (known : LastAnalysis) (r : Option LastAnalysis) (before after : List ℕ → Option (List ℕ)) → NameAllChanges (path ∷ []) before after → IsOf known before
+pub known_noted : (path : List ℕ) (known : LastAnalysis) (r : Option LastAnalysis) (before after : List ℕ → Option Source) → NameAllChanges (path ∷ []) before after → IsOf known before
     → IfSome r (λ k. k.analysis ≡ known.analysis) → IfSome r (λ k. AreNoted path (map string_bytes known.changes.items) (map string_bytes k.changes.items)) → IfSome r (λ k. IsOf k after)
 known_noted path known None before after change of same more = tt
 known_noted path known (Some k) before after change of same more = record {
@@ -56,12 +57,12 @@ known_noted path known (Some k) before after change of same more = record {
   changes = λ q out.
       change q (λ has. out (subst (Contains (map string_bytes k.changes.items)) (only path q has.0 has.1 has.2) more.noted))
       ∙ of.changes q (λ has. out (more.kept q has))
-      ∙ ap (λ (a : AnalysisData). texts_by_path (workspace_in a) q) (sym same);
+      ∙ ap (λ (a : AnalysisData). sources_by_path (workspace_in a) q) (sym same);
 }
 
 -- where the text at one path changes, that path names all changes
-pub one_change : (path : List ℕ) (text : Option (List ℕ)) (old new : Files) → TextsChangeAt path text old new → NameAllChanges (path ∷ []) (λ q. text_at q old) (λ q. text_at q new)
-one_change path text old new changes q out = changes q ∙ by (bytes_eq path q) refl
+pub one_change : (reads_others : Bool) (path : List ℕ) (text : Option (List ℕ)) (old new : Files) → TextsChangeAt path text old new → NameAllChanges (path ∷ []) (source_at reads_others old) (source_at reads_others new)
+one_change reads_others path text old new changes q out = ap (option_map (read_as reads_others)) (changes q ∙ by (bytes_eq path q) refl)
   where
     by : (b : Bool) → bytes_eq path q ≡ b → cond b text (text_at q old) ≡ text_at q old
     by false is = refl
@@ -69,20 +70,24 @@ one_change path text old new changes q out = changes q ∙ by (bytes_eq path q) 
 
 -- ---- the files as they are
 
--- an analysis of them
-pub known_fresh : (files : Files) (now : LastAnalysis) → AreInPathOrder files → now.analysis ≡ analysis (workspace files) → now.changes.items ≡ [] → IsOf now (λ q. text_at q files)
-known_fresh files now order is none =
-    let own : workspace_in now.analysis ≡ workspace files = ap workspace_in is ∙ known_workspace (workspace files) in record {
-      is = record { is = is ∙ ap analysis (sym own) };
-      ordered = subst IsInOrder (sym own) (ascend-workspace files order);
-      changes = λ q out. sym (ap (λ w. texts_by_path w q) own ∙ text_in_workspace files order q);
-    }
+module _ (reads_others : Bool) (files : Files) (now : LastAnalysis) (order : AreInPathOrder files) where
+  abbrev own : Workspace
+  own = sources_of reads_others (workspace files)
 
--- where no change is noted, it is that of the files
-pub known_still : (files : Files) (now : LastAnalysis) → AreInPathOrder files → IsOf now (λ q. text_at q files) → now.changes.items ≡ [] → now.analysis ≡ analysis (workspace files)
-known_still files now order of none =
-    let own = workspace_in now.analysis in
-    let named : NameAllChanges [] (texts_by_path (workspace_in now.analysis)) (λ q. text_at q files) =
-    subst (λ (paths : List (String Global)). NameAllChanges (map string_bytes paths) (texts_by_path (workspace_in now.analysis)) (λ q. text_at q files)) none of.changes in
-    let is = of.is in
-    is.is ∙ ap analysis (one_list own (workspace files) of.ordered (ascend-workspace files order) (λ q. sym (named q (λ has. absurd (omega (arith, has.1)))) ∙ sym (text_in_workspace files order q)))
+  -- an analysis of them
+  pub known_fresh : now.analysis ≡ analysis own → now.changes.items ≡ [] → IsOf now (source_at reads_others files)
+  known_fresh is none =
+      let same : workspace_in now.analysis ≡ own = ap workspace_in is ∙ known_workspace own in record {
+        is = record { is = is ∙ ap analysis (sym same) };
+        ordered = subst IsInOrder (sym same) (ascend-workspace reads_others files order);
+        changes = λ q out. sym (ap (λ w. sources_by_path w q) same ∙ source_in_workspace reads_others files order q);
+      }
+
+  -- where no change is noted, it is that of the files
+  pub known_still : IsOf now (source_at reads_others files) → now.changes.items ≡ [] → now.analysis ≡ analysis own
+  known_still of none =
+      let known = workspace_in now.analysis in
+      let named : NameAllChanges [] (sources_by_path known) (source_at reads_others files) =
+      subst (λ (paths : List (String Global)). NameAllChanges (map string_bytes paths) (sources_by_path known) (source_at reads_others files)) none of.changes in
+      let is = of.is in
+      is.is ∙ ap analysis (one_list known own of.ordered (ascend-workspace reads_others files order) (λ q. sym (named q (λ has. absurd (omega (arith, has.1)))) ∙ sym (source_in_workspace reads_others files order q)))

@@ -1,35 +1,53 @@
 -- The paths of a workspace ascend where those of its files do.
-use Rattle.std.proofs.Common.{◌≡◌, ℕ, List, [], ◌∷◌, Option, Some, None, option_map, nat_cmp, Ordering, Less}
+use Rattle.std.proofs.Common.{◌≡◌, ℕ, List, [], ◌∷◌, Bool, Option, Some, None, map, option_map, nat_cmp, Less, subst, sym}
 use Rattle.std.specs.List.{cons_option}
 use Rattle.std.specs.List.Sorted.{IsStrictlySortedBy}
 use Rattle.std.specs.Cmp.Lexicographic.{slice_cmp}
 use Rattle.std.specs.Map.{keys_of}
-use Rattle.work_index.specs.Workspace.{Workspace}
+use Rattle.std.proofs.lemmas.Simd.{map-map}
+use Rattle.work_index.specs.Workspace.{SourceAt, Workspace, sources_of}
 use Rattle.work_update.specs.Updates.{IsInOrder}
-use Rattle.work_update.proofs.ByPath.{AreBehind, paths}
+use Rattle.work_update.proofs.ByPath.{AreBehind}
 use Rattle.work_files.specs.Files.{Files, text_of, workspace, AreInPathOrder}
 
 abbrev pub Ascend : Workspace → Type 0
 Ascend w = IsInOrder w
 
--- the files with one more in front, if it has a text
-abbrev with_first : List ℕ → Option (List ℕ) → Workspace → Workspace
-with_first path text w = cons_option (option_map (λ t. (path, t)) text) w
+-- texts by path
+abbrev pub Texts : Type 0
+Texts = List (List ℕ × List ℕ)
 
-behind-with_first : (p path : List ℕ) (text : Option (List ℕ)) (w : Workspace) → slice_cmp nat_cmp p path ≡ Less → AreBehind p (paths w) → AreBehind p (paths (with_first path text w))
-behind-with_first p path None w less all = all
-behind-with_first p path (Some t) w less all = (less, all)
+abbrev pub paths_in : Texts → List (List ℕ)
+paths_in texts = map (λ f. f.0) texts
 
-behind-workspace : (p : List ℕ) (files : Files) → AreBehind p (keys_of files) → AreBehind p (paths (workspace files))
+abbrev pub TextsAscend : Texts → Type 0
+TextsAscend texts = IsStrictlySortedBy (slice_cmp nat_cmp) (paths_in texts)
+
+-- the texts with one more in front, if there is one
+abbrev with_first : List ℕ → Option (List ℕ) → Texts → Texts
+with_first path text texts = cons_option (option_map (λ t. (path, t)) text) texts
+
+behind-with_first : (p path : List ℕ) (text : Option (List ℕ)) (texts : Texts) → slice_cmp nat_cmp p path ≡ Less → AreBehind p (paths_in texts) → AreBehind p (paths_in (with_first path text texts))
+behind-with_first p path None texts less all = all
+behind-with_first p path (Some t) texts less all = (less, all)
+
+behind-workspace : (p : List ℕ) (files : Files) → AreBehind p (keys_of files) → AreBehind p (paths_in (workspace files))
 behind-workspace p [] all = tt
 behind-workspace p (e ∷ es) all = behind-with_first p e.0 (text_of e.1) (workspace es) all.0 (behind-workspace p es all.1)
 
-ascend-with_first : (path : List ℕ) (text : Option (List ℕ)) (w : Workspace) → AreBehind path (paths w) → Ascend w → Ascend (with_first path text w)
+ascend-with_first : (path : List ℕ) (text : Option (List ℕ)) (texts : Texts) → AreBehind path (paths_in texts) → TextsAscend texts → TextsAscend (with_first path text texts)
 unfolding IsStrictlySortedBy
-ascend-with_first path None w behind rest = rest
-ascend-with_first path (Some t) w behind rest = (behind, rest)
+ascend-with_first path None texts behind rest = rest
+ascend-with_first path (Some t) texts behind rest = (behind, rest)
 
-pub ascend-workspace : (files : Files) → AreInPathOrder files → Ascend (workspace files)
+pub ascend-texts : (files : Files) → AreInPathOrder files → TextsAscend (workspace files)
 unfolding IsStrictlySortedBy
-ascend-workspace [] order = tt
-ascend-workspace (e ∷ es) order = ascend-with_first e.0 (text_of e.1) (workspace es) (behind-workspace e.0 es order.0) (ascend-workspace es order.1)
+ascend-texts [] order = tt
+ascend-texts (e ∷ es) order = ascend-with_first e.0 (text_of e.1) (workspace es) (behind-workspace e.0 es order.0) (ascend-texts es order.1)
+
+-- however the texts are read
+pub ascend-workspace : (reads_others : Bool) (files : Files) → AreInPathOrder files → Ascend (sources_of reads_others (workspace files))
+ascend-workspace reads_others files order =
+    let paths : map (λ (f : SourceAt). f.0) (sources_of reads_others (workspace files)) ≡ paths_in (workspace files) =
+    map-map (λ (f : SourceAt). f.0) (λ file. (file.0, record { text = file.1; reads_others = reads_others })) (workspace files) in
+    subst (λ ps. IsStrictlySortedBy (slice_cmp nat_cmp) ps) (sym paths) (ascend-texts files order)

@@ -4,7 +4,6 @@ use Rattle.piece_collector.specs.Events.{Event, SetText, Remove}
 use Rattle.piece_collector.specs.Views.{BoardView, known_text}
 use Rattle.work_files.specs.Files.{Files, text_at}
 use Rattle.work_files.specs.Texts.{is_open}
-use Rattle.work_index.specs.Workspace.{Workspace}
 
 -- the board has the text of each file that has one, and no other
 abbrev pub HoldsTexts : Files → BoardView → Type 0
@@ -24,8 +23,8 @@ abbrev pub events_at : List ℕ → Files → Files → List Event
 events_at path old new = if is_open path old then event_at path new ∷ [] else []
 
 -- the text of each file is set, in the order of the paths; the latest event comes first
-abbrev pub first_events : Workspace → List Event
-first_events w = fold (λ events file. SetText file.0 file.1 ∷ events) [] w
+abbrev pub first_events : List (List ℕ × List ℕ) → List Event
+first_events files = fold (λ events file. SetText file.0 file.1 ∷ events) [] files
 
 -- behind this stamp there are fewer than so many: the last one is 18446744073709551615
 abbrev pub StampsRunOut : ℕ → ℕ → Type 0

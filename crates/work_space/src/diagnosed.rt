@@ -1,5 +1,5 @@
 // Files with what is wrong in each.
-ghost use Rattle.std.specs.Prelude.{◌≡◌, [], length, slice_index_or};
+ghost use Rattle.std.specs.Prelude.{◌≡◌, length, slice_index_or};
 ghost use Rattle.work_index.specs.Workspace as index;
 ghost use Rattle.work_space.specs.View.{diagnosed_files};
 
@@ -8,7 +8,7 @@ use std::marker::Model;
 use work_index::Diagnosis;
 
 /// The files of a workspace with what is wrong in each, which never change. A file is a number: its place, from 0, in the order of
-/// their paths. Contracts see them as the workspace: the paths of the files, each with its text.
+/// their paths. Contracts see them as the workspace: the paths of the files, each with its text and how it is read.
 #[derive(Drop)]
 pub struct DiagnosedFiles {
     diagnosis: Diagnosis,
@@ -44,7 +44,7 @@ impl DiagnosedFiles {
 
     /// The path of a file; empty where there is no such file.
     pub fn path(&self, file: FileNo) -> &str
-        ensures { result.now ≡ (slice_index_or self.now file ([], [])).0 }
+        ensures { result.now ≡ (slice_index_or self.now file index.no_file).0 }
     {
         if file < self.file_count() {
             self.diagnosis.path(file)
@@ -55,7 +55,7 @@ impl DiagnosedFiles {
 
     /// The text of a file; empty where there is no such file.
     pub fn text(&self, file: FileNo) -> &str
-        ensures { result.now ≡ (slice_index_or self.now file ([], [])).1 }
+        ensures { result.now ≡ (slice_index_or self.now file index.no_file).1.text }
     {
         if file < self.file_count() {
             self.diagnosis.text(file)

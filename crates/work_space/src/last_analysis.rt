@@ -2,9 +2,8 @@
 ghost use Rattle.std.specs.Prelude.{◌≡◌, List, ℕ, Option, Some, [], ◌∷◌, false, map, string_bytes, bytes_eq, IfOk, IfSome};
 ghost use Rattle.std.specs.List.{list_any};
 ghost use Rattle.piece_collector.specs.Board.{IsFull};
-ghost use Rattle.piece_collector.specs.Views.{known_text};
-ghost use Rattle.work_index.specs.Workspace.{Workspace, analysis};
-ghost use Rattle.work_update.specs.Updates.{IsWorkspaceOf, NameAllChanges};
+ghost use Rattle.work_index.specs.Workspace.{Source, Workspace, analysis};
+ghost use Rattle.work_update.specs.Updates.{IsWorkspaceOf, NameAllChanges, known_source};
 ghost use Rattle.work_space.specs.Kept.{AreNoted, IsOf, is_current};
 
 use arrayvec::ArrayVec;
@@ -68,27 +67,28 @@ fn noted(known: LastAnalysis, path: String) -> Option<LastAnalysis>
 
 /// What is known after a path has another text, or none: nothing if too many files changed since the analysis. Takes no memory.
 pub fn known_after(known: Option<LastAnalysis>, path: String) -> Option<LastAnalysis>
-    ensures { (before after : List ℕ → Option (List ℕ)) → NameAllChanges (string_bytes path ∷ []) before after → IfSome known (λ k. IsOf k before) → IfSome result (λ k. IsOf k after) }
+    ensures { (before after : List ℕ → Option Source) → NameAllChanges (string_bytes path ∷ []) before after → IfSome known (λ k. IsOf k before) → IfSome result (λ k. IsOf k after) }
 {
     noted(known?, path)
 }
 
-/// The analysis of the texts of a board, made of what was known. The board has to be complete, and is as before. An `Err` comes only where
-/// memory was refused.
+/// The analysis of the texts of a board, which are read as is chosen, made of what was known. The board has to be complete, and is as before.
+/// An `Err` comes only where memory was refused.
 pub fn analyse(
     alloc: Global,
     known: Option<LastAnalysis>,
     board: &mut Board<FileWork>,
+    reads_others: bool,
 ) -> Result<Analysis, AllocError>
     requires here { board.old.is_lent ≡ false }
     requires full { IsFull board.old }
-    requires known { IfSome known (λ k. IsOf k (λ path. known_text path board.old)) }
-    ensures analysis { IfOk result (λ found. (w : Workspace) → IsWorkspaceOf board.old w → found ≡ analysis w) }
+    requires known { IfSome known (λ k. IsOf k (λ path. known_source reads_others path board.old)) }
+    ensures analysis { IfOk result (λ found. (w : Workspace) → IsWorkspaceOf reads_others board.old w → found ≡ analysis w) }
     ensures board { board.new ≡ board.old }
 {
     let Some(known) = known else {
-        return analyse_board(alloc, board);
+        return analyse_board(alloc, board, reads_others);
     };
     let LastAnalysis { analysis, changes } = known;
-    update_analysis(alloc, analysis, changes.as_slice(), board)
+    update_analysis(alloc, analysis, changes.as_slice(), board, reads_others)
 }

@@ -1,5 +1,5 @@
 // The files of a workspace with their analysis.
-ghost use Rattle.std.specs.Prelude.{◌≡◌, [], length, map, position, slice_index_or, bytes_eq};
+ghost use Rattle.std.specs.Prelude.{◌≡◌, length, map, position, slice_index_or, bytes_eq};
 ghost use Rattle.work_index.specs.Workspace as index;
 
 use import_graph::FileNo;
@@ -7,7 +7,7 @@ use std::marker::Model;
 use work_index::Analysis;
 
 /// The files of a workspace with their analysis. A file is a number: its place, from 0, in the order of their paths. Contracts
-/// see a snapshot as the workspace: the paths of its files, each with its text.
+/// see a snapshot as the workspace: the paths of its files, each with its text and how it is read.
 #[derive(Drop)]
 pub struct Snapshot<'w> {
     analysis: &'w Analysis,
@@ -55,7 +55,7 @@ impl<'w> Snapshot<'w> {
 
     /// The path of a file; empty where there is no such file.
     pub fn path(&self, file: FileNo) -> &'w str
-        ensures { result.now ≡ (slice_index_or self.now file ([], [])).0 }
+        ensures { result.now ≡ (slice_index_or self.now file index.no_file).0 }
     {
         if file < self.analysis.file_count() {
             self.analysis.path(file)
@@ -66,7 +66,7 @@ impl<'w> Snapshot<'w> {
 
     /// The text of a file; empty where there is no such file.
     pub fn text(&self, file: FileNo) -> &'w str
-        ensures { result.now ≡ (slice_index_or self.now file ([], [])).1 }
+        ensures { result.now ≡ (slice_index_or self.now file index.no_file).1.text }
     {
         if file < self.analysis.file_count() {
             self.analysis.text(file)

@@ -9,6 +9,7 @@ ghost use Rattle.piece_collector.specs.Views.{known_text};
 ghost use Rattle.work_files.specs.Disk.{disk_view};
 ghost use Rattle.work_files.specs.Files.{from_disk, opened_files, changed_files, saved_files, closed_files, text_at, workspace};
 ghost use Rattle.work_files.specs.Texts.{is_open};
+ghost use Rattle.work_index.specs.Workspace.{sources_of};
 ghost use Rattle.work_space.specs.BoardTexts.{HoldsTexts, StampsRunOut, text_event, event_at, events_at, first_events};
 ghost use Rattle.work_files.specs.View.{document_view, file_view};
 
@@ -22,17 +23,19 @@ use std::marker::Model;
 use std::sync::Wait;
 use std::thread::Threads;
 use work_files::{DiskFile, Document, FileEntry, Files, VersionedChanges};
-use work_index::{AnalyseFault, FileWork, Gate, analyse_in_shares, diagnose};
+use work_index::{AnalyseFault, AnalysisSettings, FileWork, Gate, analyse_in_shares, diagnose};
 
 /// The files that an editor's session knows, the board of their texts with the work on them, and the analysis of them.
 ///
 /// Each change of a text is told to the board, which then wants work on it. Once the board is complete the files can be
-/// analysed. Contracts see a workspace as its files, its board, and whether an analysis of the files as they are is known.
+/// analysed. Contracts see a workspace as its files, its board, whether texts that aren't proto3 are read for what they declare, and whether
+/// an analysis of the files as they are is known.
 #[derive(Drop)]
 pub struct Workspace {
     alloc: Global,
     files: Files,
     board: Board<FileWork>,
+    reads_others: bool,
     known: Option<LastAnalysis>,
 }
 
@@ -42,9 +45,9 @@ impl Model for Workspace {
 
     ghost Value = { seen.WorkspaceData };
 
-    ghost view = { λ w. kept.workspace_data w.files w.board w.known };
+    ghost view = { λ w. kept.workspace_data w.files w.board w.reads_others w.known };
 
-    ghost invariant = { λ w. kept.IsKept w.files w.board w.known };
+    ghost invariant = { λ w. kept.IsKept w.files w.board w.reads_others w.known };
 }
 
 // Sets the text of a file on a board, if the file has one.
@@ -109,16 +112,19 @@ fn tell(
 
 impl Workspace {
     /// The workspace of the files on disk. Of two files with one path the earlier counts. The texts get stamps from the one after
-    /// `stamp` on, in the order of their paths.
+    /// `stamp` on, in the order of their paths. `reads_others` chooses, once and for all, whether texts that aren't proto3 are read for what they
+    /// declare.
     ///
     /// Refused with 502 where there are fewer stamps than texts, and with 501 where memory was refused.
     pub fn from_disk(
         alloc: Global,
         disk_files: Vec<DiskFile>,
         stamp: u64,
+        reads_others: bool,
     ) -> Result<Workspace, BoardFault>
         ensures files { IfOk result (λ w. w.files ≡ from_disk (map disk_view disk_files.items)) }
         ensures board { IfOk result (λ w. IsAfter stamp w.board (first_events (workspace w.files))) }
+        ensures others { IfOk result (λ w. w.reads_others ≡ reads_others) }
         ensures exhausted { result ≡ Err BoardFault.Exhausted → StampsRunOut stamp (length (workspace (from_disk (map disk_view disk_files.items)))) }
     {
         let files = Files::from_disk(alloc, disk_files)?;
@@ -127,6 +133,7 @@ impl Workspace {
             alloc,
             files,
             board,
+            reads_others,
             known: None,
         })
     }
@@ -145,6 +152,7 @@ impl Workspace {
     pub fn open(&mut self, path: &str, uri: String, document: Document) -> Result<(), BoardFault>
         ensures files { OnOk result (self.new.files ≡ opened_files (string_bytes uri) (document_view document) path.now self.old.files) }
         ensures board { OnOk result (Records self.old.board self.new.board (event_at path.now self.new.files ∷ [])) }
+        ensures others { self.new.reads_others ≡ self.old.reads_others }
 
         // No stamp is left only where the last one was given.
         ensures exhausted { result ≡ Err BoardFault.Exhausted → (let board = self.new.board in board.last) ≡ 18446744073709551615 }
@@ -164,6 +172,7 @@ impl Workspace {
     pub fn change(&mut self, path: &str, edits: VersionedChanges) -> Result<(), BoardFault>
         ensures files { OnOk result (self.new.files ≡ changed_files edits.version edits.encoding (map change_view edits.changes.items) path.now self.old.files) }
         ensures board { OnOk result (Records self.old.board self.new.board (events_at path.now self.old.files self.new.files)) }
+        ensures others { self.new.reads_others ≡ self.old.reads_others }
 
         // No stamp is left only where the last one was given, and a document is open, whose text needs one.
         ensures exhausted { result ≡ Err BoardFault.Exhausted → (let board = self.new.board in board.last) ≡ 18446744073709551615 }
@@ -186,6 +195,7 @@ impl Workspace {
     pub fn save(&mut self, path: &str) -> Result<(), AllocError>
         ensures files { OnOk result (self.new.files ≡ saved_files path.now self.old.files) }
         ensures board { self.new.board ≡ self.old.board }
+        ensures others { self.new.reads_others ≡ self.old.reads_others }
         ensures err { OnErr result (self.new ≡ self.old) }
     {
         let Some(text) = self.files.shared_open_text(path)? else {
@@ -200,6 +210,7 @@ impl Workspace {
     pub fn close(&mut self, path: &str) -> Result<(), BoardFault>
         ensures files { OnOk result (self.new.files ≡ closed_files path.now self.old.files) }
         ensures board { OnOk result (Records self.old.board self.new.board (events_at path.now self.old.files self.new.files)) }
+        ensures others { self.new.reads_others ≡ self.old.reads_others }
 
         // No stamp is left only where the last one was given, a document is open, and its path has a text after the close, which
         // needs one.
@@ -225,6 +236,7 @@ impl Workspace {
     pub fn next_job(&mut self) -> Result<Option<Job>, AllocError>
         ensures files { self.new.files ≡ self.old.files }
         ensures board { OnOk result (Records self.old.board self.new.board (NextJob ∷ [])) }
+        ensures others { self.new.reads_others ≡ self.old.reads_others }
         ensures first { IfOk result (λ job. WhateverCame self.old.board (λ opening events. IsFirstWanted opening events (option_map (λ j. j.path) job))) }
 
         // The job has the path's current stamp and text.
@@ -238,6 +250,7 @@ impl Workspace {
     pub fn offer(&mut self, piece: Piece<FileWork>) -> Verdict
         ensures files { self.new.files ≡ self.old.files }
         ensures board { Records self.old.board self.new.board (Offer piece.path piece.stamp piece.text ∷ []) }
+        ensures others { self.new.reads_others ≡ self.old.reads_others }
         ensures verdict { WhateverCame self.old.board (λ opening events. result ≡ verdict_on piece.stamp piece.text (stands_at opening events piece.path)) }
     {
         self.board.offer(piece)
@@ -247,6 +260,7 @@ impl Workspace {
     pub fn fail(&mut self, path: &str, stamp: u64) -> Verdict
         ensures files { self.new.files ≡ self.old.files }
         ensures board { Records self.old.board self.new.board (Fail path.now stamp ∷ []) }
+        ensures others { self.new.reads_others ≡ self.old.reads_others }
         ensures verdict { WhateverCame self.old.board (λ opening events. result ≡ failure_on stamp (stands_at opening events path.now)) }
     {
         self.board.fail(path, stamp)
@@ -285,12 +299,14 @@ impl Workspace {
         requires { IsFull self.old.board }
         ensures files { self.new.files ≡ self.old.files }
         ensures board { self.new.board ≡ self.old.board }
+        ensures others { self.new.reads_others ≡ self.old.reads_others }
         ensures current { OnOk result (IsTrue self.new.is_current) }
     {
         if self.is_current() {
             return Ok(());
         }
-        let analysis = analyse(self.alloc, self.known.take(), &mut self.board)?;
+        let known = self.known.take();
+        let analysis = analyse(self.alloc, known, &mut self.board, self.reads_others)?;
         self.known = Some(LastAnalysis::current(self.alloc, analysis));
         Ok(())
     }
@@ -311,6 +327,7 @@ impl Workspace {
         requires { IsFull self.old.board }
         ensures files { OnOk result (self.new.files ≡ self.old.files) }
         ensures board { OnOk result (self.new.board ≡ self.old.board) }
+        ensures others { self.new.reads_others ≡ self.old.reads_others }
         ensures current { OnOk result (IsTrue self.new.is_current) }
     {
         if self.known.is_none() {
@@ -331,10 +348,15 @@ impl Workspace {
         requires { IsFull self.old.board }
         ensures files { OnOk result (self.new.files ≡ self.old.files) }
         ensures board { OnOk result (self.new.board ≡ self.old.board) }
+        ensures others { self.new.reads_others ≡ self.old.reads_others }
         ensures current { OnOk result (IsTrue self.new.is_current) }
     {
+        let settings = AnalysisSettings {
+            workers,
+            reads_others: self.reads_others,
+        };
         let lent = self.board.lend_all()?;
-        match analyse_in_shares(rt, self.alloc, lent, workers, gate) {
+        match analyse_in_shares(rt, self.alloc, lent, settings, gate) {
             Ok((back, analysis)) => {
                 self.board.take_back(back);
                 self.known = Some(LastAnalysis::current(self.alloc, analysis));
@@ -360,22 +382,27 @@ impl Workspace {
         gate: &G,
     ) -> Result<DiagnosedFiles, AnalyseFault>
         requires { IsFull self.board }
-        ensures { IfOk result (λ found. found ≡ workspace self.files) }
+        ensures { IfOk result (λ found. found ≡ sources_of self.reads_others (workspace self.files)) }
     {
         let Workspace {
             alloc,
             mut board,
+            reads_others,
             ..
         } = self;
+        let settings = AnalysisSettings {
+            workers,
+            reads_others,
+        };
         let lent = board.lend_all()?;
-        let diagnosis = diagnose(rt, alloc, lent, workers, gate)?;
+        let diagnosis = diagnose(rt, alloc, lent, settings, gate)?;
         Ok(DiagnosedFiles::of(diagnosis))
     }
 
     /// The files with their analysis. Takes no memory.
     pub fn snapshot(&self) -> Snapshot<'_>
         requires { IsTrue self.now.is_current }
-        ensures { result ≡ workspace self.now.files }
+        ensures { result ≡ sources_of self.now.reads_others (workspace self.now.files) }
     {
         match &self.known {
             Some(known) => Snapshot::of(&known.analysis),

@@ -26,11 +26,10 @@ use Rattle.work_links.specs.Laws.{MovedLaw, decl_moved}
 use Rattle.work_links.specs.Touched.{links_after, target_after, use_after}
 use Rattle.work_index.proofs.ByFile.{nobody_imports}
 use Rattle.work_index.proofs.Known.{known_workspace}
-use Rattle.work_index.proofs.Numbered.{nothing}
 use Rattle.std.proofs.lemmas.Simd.{map-map}
 use Rattle.work_index.specs.declared.analysis.AnalysisParts.{AnalysisParts}
 use Rattle.work_index.specs.AnalysisParts.{AreParts}
-use Rattle.work_index.specs.Workspace.{Workspace, AnalysisData, NoneImports, all_facts, named_facts, workspace_in}
+use Rattle.work_index.specs.Workspace.{SourceAt, Workspace, AnalysisData, NoneImports, all_facts, named_facts, no_file, workspace_in}
 use Rattle.work_index.proofs.Ascending.{ordered_files}
 use Rattle.work_update.specs.Arrivals.{Arrives, TakesIn, numbers_with}
 use Rattle.work_update.specs.FilesMoves.{HasCome}
@@ -100,7 +99,7 @@ module _ (at count : ℕ) (last : count ≤ at) where
 
 -- ---- the workspace with the file
 
-module _ (old : Workspace) (at : ℕ) (file : List ℕ × List ℕ) (within : at ≤ length old) where
+module _ (old : Workspace) (at : ℕ) (file : SourceAt) (within : at ≤ length old) where
   abbrev w : Workspace
   w = insert old at file
 
@@ -115,13 +114,13 @@ module _ (old : Workspace) (at : ℕ) (file : List ℕ × List ℕ) (within : at
           let is : n ≡ g = same_Some n g (sym moves ∙ front at (length old) g less before) in record {
             there = less;
             here = omega (arith, less, is, longer);
-            same = sym (ap (λ m. get_or w m nothing) is ∙ get_or-insert_below old at file nothing g before within);
+            same = sym (ap (λ m. get_or w m no_file) is ∙ get_or-insert_below old at file no_file g before within);
           }
       | inr from ↦
           let is : n ≡ g + 1 = same_Some n (g + 1) (sym moves ∙ behind at (length old) g less from) in record {
             there = less;
             here = omega (arith, less, is, longer);
-            same = sym (ap (λ m. get_or w m nothing) is ∙ get_or-insert_above old at file nothing g from within);
+            same = sym (ap (λ m. get_or w m no_file) is ∙ get_or-insert_above old at file no_file g from within);
           }
     ]
   ]
@@ -129,7 +128,7 @@ module _ (old : Workspace) (at : ℕ) (file : List ℕ × List ℕ) (within : at
   comes : NobodyImports (all_facts old) file.0 → ComesUnimported (all_facts old) w (numbers_with at (length old)) at
   comes nobody = record {
     came = subst (λ n. HasCome (numbers_with at (length old)) n (length w) at) (sym (length-map old named_facts)) (subst (λ n. HasCome (numbers_with at (length old)) (length old) n at) (sym longer) (come at (length old) within));
-    nobody = subst (λ (f : List ℕ × List ℕ). NobodyImports (all_facts old) f.0) (sym (get_or-insert_at old at file nothing within)) nobody;
+    nobody = subst (λ (f : SourceAt). NobodyImports (all_facts old) f.0) (sym (get_or-insert_at old at file no_file within)) nobody;
   }
 
   -- its facts are put among those of the others in the order of the paths
@@ -137,7 +136,7 @@ module _ (old : Workspace) (at : ℕ) (file : List ℕ × List ℕ) (within : at
   in_order ordered = subst (λ (files : List NamedFacts). IsInPathOrder files) (map_insert named_facts old at file) (ordered_files w ordered)
 
 -- the parts of the analysis with the file, which gets the number at which its path goes among those of the files
-pub arrived : (a : AnalysisData) (file : List ℕ × List ℕ) (arrives : Arrives a file) (k : ℕ) (parts : AnalysisParts) → AreParts (workspace_in a) parts
+pub arrived : (a : AnalysisData) (file : SourceAt) (arrives : Arrives a file) (k : ℕ) (parts : AnalysisParts) → AreParts (workspace_in a) parts
     → ((at : ℕ) (f : NamedFacts) → f.path ≡ file.0 → at ≤ length parts.table → IsInPathOrder (insert parts.table at f) → k ≡ at) → MovedLaw → ArrivalLaw
     → TakesIn (insert arrives.old arrives.at file) (numbers_with k (length parts.files.items)) k file parts
 arrived a file arrives k parts are placed moved_law arrival_law =
@@ -152,4 +151,4 @@ arrived a file arrives k parts are placed moved_law arrival_law =
     subst (λ k. TakesIn (insert old arrives.at file) (numbers_with k (length parts.files.items)) k file parts) (sym here)
     (subst (λ n. TakesIn (insert old arrives.at file) (numbers_with arrives.at n) arrives.at file parts) (sym many)
     (with_it old (insert old arrives.at file) (numbers_with arrives.at (length old)) arrives.at file parts of ordered (stay old arrives.at file arrives.within)
-    (comes old arrives.at file arrives.within nobody) (get_or-insert_at old arrives.at file nothing arrives.within) moved_law arrival_law))
+    (comes old arrives.at file arrives.within nobody) (get_or-insert_at old arrives.at file no_file arrives.within) moved_law arrival_law))

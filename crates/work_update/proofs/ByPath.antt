@@ -14,9 +14,8 @@ use Rattle.std.proofs.lemmas.List.{length-map}
 use Rattle.std.proofs.lemmas.List.Quantifiers.{position-Some}
 use Rattle.std.proofs.lemmas.Map.Text.{is_eq-slice_cmp}
 use Rattle.collector_laws.proofs.Lists.{one_list}
-use Rattle.work_index.proofs.Numbered.{nothing}
-use Rattle.work_index.specs.Workspace.{Workspace}
-use Rattle.work_update.specs.Updates.{IsInOrder, texts_by_path}
+use Rattle.work_index.specs.Workspace.{SourceAt, Workspace, no_file}
+use Rattle.work_update.specs.Updates.{IsInOrder, sources_by_path}
 
 -- each path comes after p
 abbrev pub AreBehind : List ℕ → List (List ℕ) → Type 0
@@ -42,12 +41,12 @@ unequal p q apart = by (bytes_eq p q) refl
 
 -- ---- the file of a number
 
-at-behind : (p : List ℕ) (w : Workspace) (n : ℕ) (d : List ℕ × List ℕ) → AreBehind p (paths w) → n < length w → slice_cmp nat_cmp p (get_or w n d).0 ≡ Less
+at-behind : (p : List ℕ) (w : Workspace) (n : ℕ) (d : SourceAt) → AreBehind p (paths w) → n < length w → slice_cmp nat_cmp p (get_or w n d).0 ≡ Less
 at-behind p [] n d all there = absurd (omega (arith, there))
 at-behind p (e ∷ w) zero d all there = all.0
 at-behind p (e ∷ w) (suc n) d all there = at-behind p w n d all.1 (omega (arith, there))
 
-pub text-at : (w : Workspace) (n : ℕ) (d : List ℕ × List ℕ) → IsInOrder w → n < length w → lookup (bytes_eq (get_or w n d).0) w ≡ Some (get_or w n d).1
+pub text-at : (w : Workspace) (n : ℕ) (d : SourceAt) → IsInOrder w → n < length w → lookup (bytes_eq (get_or w n d).0) w ≡ Some (get_or w n d).1
 unfolding IsStrictlySortedBy
 text-at [] n d order there = absurd (omega (arith, there))
 text-at (e ∷ w) zero d order there = ap (λ b. cond b (Some e.1) (lookup (bytes_eq e.0) w)) ((bytes_decides e.0 e.0).1 refl)
@@ -56,13 +55,13 @@ text-at (e ∷ w) (suc n) d order there =
     let other : bytes_eq p e.0 ≡ false = nat_list_eq_equiv.symm p e.0 ∙ sym (is_eq-slice_cmp e.0 p) ∙ ap is_eq (at-behind e.0 w n d order.0 (omega (arith, there))) in
     ap (λ b. cond b (Some e.1) (lookup (bytes_eq p) w)) other ∙ text-at w n d order.1 (omega (arith, there))
 
-pub path-at : (w : Workspace) (n : ℕ) (d : List ℕ × List ℕ) → n < length w → get_or (paths w) n d.0 ≡ (get_or w n d).0
+pub path-at : (w : Workspace) (n : ℕ) (d : SourceAt) → n < length w → get_or (paths w) n d.0 ≡ (get_or w n d).0
 path-at [] n d there = absurd (omega (arith, there))
 path-at (e ∷ w) zero d there = refl
 path-at (e ∷ w) (suc n) d there = path-at w n d (omega (arith, there))
 
 -- files of one path are one
-pub one_place : (w : Workspace) (n k : ℕ) (d : List ℕ × List ℕ) → IsInOrder w → n < length w → k < length w → (get_or w n d).0 ≡ (get_or w k d).0 → n ≡ k
+pub one_place : (w : Workspace) (n k : ℕ) (d : SourceAt) → IsInOrder w → n < length w → k < length w → (get_or w n d).0 ≡ (get_or w k d).0 → n ≡ k
 unfolding IsStrictlySortedBy
 one_place [] n k d order there there' same = absurd (omega (arith, there))
 one_place (e ∷ w) zero zero d order there there' same = refl
@@ -93,29 +92,29 @@ not_found p xs n d none there = by (p (get_or xs n d)) refl
         cc
 
 -- the file whose number is that of a path has the path
-pub at_position : (path : List ℕ) (w : Workspace) (n : ℕ) → position (λ q. bytes_eq q path) (paths w) ≡ Some n → (n < length w) × ((get_or w n nothing).0 ≡ path)
+pub at_position : (path : List ℕ) (w : Workspace) (n : ℕ) → position (λ q. bytes_eq q path) (paths w) ≡ Some n → (n < length w) × ((get_or w n no_file).0 ≡ path)
 at_position path w n is =
     let found = position-Some (λ q. bytes_eq q path) (paths w) n [] is in
     let there : n < length w = omega (arith, found.0, length-map w (λ f. f.0)) in
-    (there, sym (path-at w n nothing there) ∙ (bytes_decides _ path).0 found.1)
+    (there, sym (path-at w n no_file there) ∙ (bytes_decides _ path).0 found.1)
 
 -- a path that has no number is that of no file
-pub none-at : (path : List ℕ) (w : Workspace) → position (λ q. bytes_eq q path) (paths w) ≡ None → (n : ℕ) → n < length w → bytes_eq (get_or w n nothing).0 path ≡ false
-none-at path w none n there = ap (λ q. bytes_eq q path) (sym (path-at w n nothing there)) ∙ not_found (λ q. bytes_eq q path) (paths w) n [] none (omega (arith, there, length-map w (λ f. f.0)))
+pub none-at : (path : List ℕ) (w : Workspace) → position (λ q. bytes_eq q path) (paths w) ≡ None → (n : ℕ) → n < length w → bytes_eq (get_or w n no_file).0 path ≡ false
+none-at path w none n there = ap (λ q. bytes_eq q path) (sym (path-at w n no_file there)) ∙ not_found (λ q. bytes_eq q path) (paths w) n [] none (omega (arith, there, length-map w (λ f. f.0)))
 
 -- the number of a file's path is its own
-pub own_position : (w : Workspace) (n : ℕ) → IsInOrder w → n < length w → position (λ q. bytes_eq q (get_or w n nothing).0) (paths w) ≡ Some n
+pub own_position : (w : Workspace) (n : ℕ) → IsInOrder w → n < length w → position (λ q. bytes_eq q (get_or w n no_file).0) (paths w) ≡ Some n
 own_position w n order there = by (position (λ q. bytes_eq q path) (paths w)) refl
   where
     path : List ℕ
-    path = (get_or w n nothing).0
+    path = (get_or w n no_file).0
 
     by : (o : Option ℕ) → position (λ q. bytes_eq q path) (paths w) ≡ o → o ≡ Some n
     by None is = absurd (false≢true (sym (none-at path w is n there) ∙ (bytes_decides path path).1 refl))
-    by (Some k) is = let found = at_position path w k is in ap (λ m. Some m) (one_place w k n nothing order found.0 there found.1)
+    by (Some k) is = let found = at_position path w k is in ap (λ m. Some m) (one_place w k n no_file order found.0 there found.1)
 
 -- no text stands at a path that is that of no file
-pub no_text : (path : List ℕ) (w : Workspace) → ((n : ℕ) → n < length w → bytes_eq (get_or w n nothing).0 path ≡ false) → texts_by_path w path ≡ None
+pub no_text : (path : List ℕ) (w : Workspace) → ((n : ℕ) → n < length w → bytes_eq (get_or w n no_file).0 path ≡ false) → sources_by_path w path ≡ None
 no_text path [] unknown = refl
 no_text path (e ∷ w) unknown =
     ap (λ b. cond b (Some e.1) (lookup (bytes_eq path) w)) (symm path e.0 ∙ unknown 0 (omega arith))
@@ -130,16 +129,16 @@ marked_paths : (w : Workspace) → map (λ e. e.0) (marked w) ≡ paths w
 marked_paths [] = refl
 marked_paths (f ∷ w) = ap (λ ps. f.0 ∷ ps) (marked_paths w)
 
-marked-at : (path : List ℕ) (w : Workspace) → lookup (bytes_eq path) (marked w) ≡ option_map (λ text. true) (texts_by_path w path)
+marked-at : (path : List ℕ) (w : Workspace) → lookup (bytes_eq path) (marked w) ≡ option_map (λ source. true) (sources_by_path w path)
 marked-at path [] = refl
 marked-at path (f ∷ w) = by (bytes_eq path f.0) (marked-at path w)
   where
-    by : (b : Bool) → lookup (bytes_eq path) (marked w) ≡ option_map (λ text. true) (texts_by_path w path) → cond b (Some true) (lookup (bytes_eq path) (marked w)) ≡ option_map (λ text. true) (cond b (Some f.1) (texts_by_path w path))
+    by : (b : Bool) → lookup (bytes_eq path) (marked w) ≡ option_map (λ source. true) (sources_by_path w path) → cond b (Some true) (lookup (bytes_eq path) (marked w)) ≡ option_map (λ source. true) (cond b (Some f.1) (sources_by_path w path))
     by true rest = refl
     by false rest = rest
 
 -- files with texts at the same paths have the same paths
-pub same_paths : (old new : Workspace) → IsInOrder old → IsInOrder new → ((path : List ℕ) → option_map (λ text. true) (texts_by_path old path) ≡ option_map (λ text. true) (texts_by_path new path)) → paths old ≡ paths new
+pub same_paths : (old new : Workspace) → IsInOrder old → IsInOrder new → ((path : List ℕ) → option_map (λ source. true) (sources_by_path old path) ≡ option_map (λ source. true) (sources_by_path new path)) → paths old ≡ paths new
 same_paths old new before after same =
     let P : List (List ℕ) → Type 0 = λ ps. IsStrictlySortedBy (slice_cmp nat_cmp) ps in
     sym (marked_paths old)

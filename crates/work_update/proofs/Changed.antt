@@ -11,7 +11,7 @@ use Rattle.std.proofs.lemmas.List.Kept.{IsStrictlyIncreasing-filter}
 use Rattle.std.proofs.lemmas.List.{length-map, length-set}
 use Rattle.piece_collector.specs.Views.{TextAt}
 use Rattle.proto_decls.specs.declared.fact.FileFacts.{FileFacts}
-use Rattle.proto_decls.specs.Facts.{facts_of}
+use Rattle.proto_decls.specs.Facts.{facts_by}
 use Rattle.import_graph.specs.declared.imports.FileImports.{FileImports}
 use Rattle.proto_decls.specs.declared.named_facts.NamedFacts.{NamedFacts}
 use Rattle.import_graph.specs.Closures.{seers_of, sees, view_of}
@@ -30,10 +30,10 @@ use Rattle.work_update.specs.Changes.{DifferAt}
 use Rattle.work_update.specs.declared.update_texts.Told.{Told}
 use Rattle.work_update.specs.declared.update_texts.FileChange.{FileChange}
 
-pub facts_in_piece : (ts : List TextAt) (n : ℕ) (t : TextAt) → n < length ts → t ≡ get_or ts n t → facts_at (all_facts (workspace_of ts)) n ≡ facts_of t.text
-facts_in_piece [] n t there is = absurd (omega (arith, there))
-facts_in_piece (u ∷ ts) zero t there is = ap (λ v. facts_of v.text) (sym is)
-facts_in_piece (u ∷ ts) (suc n) t there is = facts_in_piece ts n t (omega (arith, there)) is
+pub facts_in_piece : (r : Bool) (ts : List TextAt) (n : ℕ) (t : TextAt) → n < length ts → t ≡ get_or ts n t → facts_at (all_facts (workspace_of r ts)) n ≡ facts_by r t.text
+facts_in_piece r [] n t there is = absurd (omega (arith, there))
+facts_in_piece r (u ∷ ts) zero t there is = ap (λ v. facts_by r v.text) (sym is)
+facts_in_piece r (u ∷ ts) (suc n) t there is = facts_in_piece r ts n t (omega (arith, there)) is
 
 -- ---- other facts of a file
 

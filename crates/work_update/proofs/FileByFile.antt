@@ -7,8 +7,8 @@ use Rattle.std.proofs.lemmas.List.FromFn.{length-enumerate_from}
 use Rattle.std.proofs.lemmas.Option.{slice_get-get_or, slice_get-map}
 use Rattle.proto_decls.specs.declared.diagnostic.Diag.{Diag}
 use Rattle.proto_resolve.specs.declared.resolve.Links.{Links}
-use Rattle.work_index.proofs.Numbered.{made, made_at, made_length, nothing}
-use Rattle.work_index.specs.Workspace.{AnalysisData, IsKnown, Workspace, analysis, diagnostics_of, resolution_of, workspace_in}
+use Rattle.work_index.proofs.Numbered.{made, made_at, made_length}
+use Rattle.work_index.specs.Workspace.{AnalysisData, IsKnown, SourceAt, Workspace, analysis, diagnostics_of, no_file, resolution_of, workspace_in}
 use Rattle.work_index.proofs.Known.{is_known, links-long, paths-long}
 use Rattle.work_update.specs.Bindings.{Means, SameInFile, SameMeaning, bindings, bindings_in, codes, codes_in}
 
@@ -71,13 +71,13 @@ module _ (a b : AnalysisData) (file : ℕ) (links : Links) (diagnostics : List D
 -- ---- the analysis of a workspace
 
 -- what is made of a file is there
-made-get : {X : Type 0} (f : ℕ × (List ℕ × List ℕ) → X) (w : Workspace) (n : ℕ) (source : List ℕ × List ℕ) → n < length w → source ≡ get_or w n nothing → slice_get (made f w) n ≡ Some (f (n, source))
+made-get : {X : Type 0} (f : ℕ × SourceAt → X) (w : Workspace) (n : ℕ) (source : SourceAt) → n < length w → source ≡ get_or w n no_file → slice_get (made f w) n ≡ Some (f (n, source))
 made-get f w n source there is =
-    let d = f (0, nothing) in
+    let d = f (0, no_file) in
     slice_get-get_or (made f w) n d (omega (arith, there, made_length f w)) ∙ ap (λ x. Some x) (made_at f w n d there ∙ ap (λ s. f (n, s)) (sym is))
 
 -- a file, with what is said of it where these are all files
-module _ (a : AnalysisData) (w : Workspace) (file : ℕ) (source : List ℕ × List ℕ) (there : file < length w) (is : source ≡ get_or w file nothing) where
+module _ (a : AnalysisData) (w : Workspace) (file : ℕ) (source : SourceAt) (there : file < length w) (is : source ≡ get_or w file no_file) where
   pub kept-same : Means a file (resolution_of w (file, source)) (diagnostics_of w (file, source)) → SameInFile a (analysis w) file
   kept-same = means-same a (analysis w) file (resolution_of w (file, source)) (diagnostics_of w (file, source)) (made-get (resolution_of w) w file source there is) (made-get (diagnostics_of w) w file source there is)
 

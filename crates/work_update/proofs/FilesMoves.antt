@@ -1,5 +1,5 @@
 -- The files of a workspace after one came or left, while all others stayed.
-use Rattle.std.proofs.Common.{◌≡◌, ◌<◌, ◌≤◌, ◌+◌, ◌-◌, ℕ, List, Option, Some, inl, inr, length, get_or, arith, refl, sym, ap, ◌∙◌, subst}
+use Rattle.std.proofs.Common.{◌≡◌, ◌<◌, ◌≤◌, ◌+◌, ◌-◌, ℕ, Bool, List, Option, Some, inl, inr, length, get_or, arith, refl, sym, ap, ◌∙◌, subst}
 use Rattle.std.specs.List.{insert, remove}
 use Rattle.std.proofs.lemmas.Bool.{cases_eq, cases_lt}
 use Rattle.std.proofs.lemmas.List.{ext_get_or, length-map, get_or-map}
@@ -7,9 +7,9 @@ use Rattle.std.proofs.lemmas.List.Edits.{get_or-insert_at, get_or-insert_below, 
 use Rattle.proto_decls.specs.declared.named_facts.NamedFacts.{NamedFacts}
 use Rattle.import_graph.specs.Moves.{place}
 use Rattle.piece_collector.specs.Views.{TextAt}
-use Rattle.work_index.proofs.Numbered.{nothing, piece_at, pieces_length}
-use Rattle.work_index.specs.Pieces.{workspace_of}
-use Rattle.work_index.specs.Workspace.{Workspace, all_facts, named_facts}
+use Rattle.work_index.proofs.Numbered.{piece_at, pieces_length}
+use Rattle.work_index.specs.Pieces.{source_of, workspace_of}
+use Rattle.work_index.specs.Workspace.{Workspace, all_facts, named_facts, no_file}
 use Rattle.work_update.specs.FilesMoves.{HasCome, HasLeft, IsTableBefore}
 use Rattle.work_update.specs.Stayed.{IsSameFile, Stay}
 
@@ -46,19 +46,19 @@ come_to to before now k xs ys come earlier later = subst (λ n. HasCome to n (le
 
 -- the facts of a file, for any default
 abbrev nobody : NamedFacts
-nobody = named_facts nothing
+nobody = named_facts no_file
 
 module _ (old w : Workspace) (to : List (Option ℕ)) (stayed : Stay old w to) where
   -- a file that stayed has its facts under its new number
   same_at : (g n : ℕ) → IsSameFile old w g n → get_or (all_facts old) g nobody ≡ get_or (all_facts w) n nobody
-  same_at g n file = get_or-map named_facts old g nothing nobody file.there ∙ ap named_facts file.same ∙ sym (get_or-map named_facts w n nothing nobody file.here)
+  same_at g n file = get_or-map named_facts old g no_file nobody file.there ∙ ap named_facts file.same ∙ sym (get_or-map named_facts w n no_file nobody file.here)
 
-  pub with_one_that_came : (k : ℕ) (file : NamedFacts) → HasCome to (length (all_facts old)) (length w) k → file ≡ named_facts (get_or w k nothing) → insert (all_facts old) k file ≡ all_facts w
+  pub with_one_that_came : (k : ℕ) (file : NamedFacts) → HasCome to (length (all_facts old)) (length w) k → file ≡ named_facts (get_or w k no_file) → insert (all_facts old) k file ≡ all_facts w
   with_one_that_came k file come is =
       let files = all_facts w in
       let there : k < length w = omega (arith, come.within, come.count) in
       let came : HasCome to (length (all_facts old)) (length files) k = come_to to (length (all_facts old)) (length w) k (all_facts old) files come refl (sym (length-map w named_facts)) in
-      with_one_more to (all_facts old) files k came nobody (λ g n moves. same_at g n (stayed g n moves)) file (is ∙ sym (get_or-map named_facts w k nothing nobody there))
+      with_one_more to (all_facts old) files k came nobody (λ g n moves. same_at g n (stayed g n moves)) file (is ∙ sym (get_or-map named_facts w k no_file nobody there))
 
   pub without_one_that_left : (k : ℕ) → HasLeft to (length (all_facts old)) (length w) k → remove (all_facts old) k ≡ all_facts w
   without_one_that_left k gone =
@@ -115,17 +115,17 @@ module _ (to : List (Option ℕ)) (before now k : ℕ) (files : before ≡ lengt
 
 -- ---- the table before
 
-module _ (table : List NamedFacts) (ts : List TextAt) (to : List (Option ℕ)) (was : IsTableBefore table (workspace_of ts) to) (before k : ℕ) (as_many : before ≡ length table) where
-  pub put_in : (piece : TextAt) → piece ≡ get_or ts k piece → (file : NamedFacts) → file ≡ named_facts (piece.path, piece.text) → HasCome to before (length ts) k
-      → insert table k file ≡ all_facts (workspace_of ts)
+module _ (r : Bool) (table : List NamedFacts) (ts : List TextAt) (to : List (Option ℕ)) (was : IsTableBefore table (workspace_of r ts) to) (before k : ℕ) (as_many : before ≡ length table) where
+  pub put_in : (piece : TextAt) → piece ≡ get_or ts k piece → (file : NamedFacts) → file ≡ named_facts (source_of r piece) → HasCome to before (length ts) k
+      → insert table k file ≡ all_facts (workspace_of r ts)
   put_in piece there file is come =
-      let at : get_or (workspace_of ts) k nothing ≡ (piece.path, piece.text) = piece_at ts k piece (omega (arith, come.within, come.count)) there in
-      subst (λ (files : List NamedFacts). HasCome to (length files) (length (workspace_of ts)) k → insert files k file ≡ all_facts (workspace_of ts)) (sym was.is)
-      (λ come. with_one_that_came was.old (workspace_of ts) to was.stayed k file come (is ∙ sym (ap named_facts at)))
-      (subst (λ n. HasCome to n (length (workspace_of ts)) k) as_many (subst (λ n. HasCome to before n k) (sym (pieces_length ts)) come))
+      let at : get_or (workspace_of r ts) k no_file ≡ source_of r piece = piece_at r ts k piece (omega (arith, come.within, come.count)) there in
+      subst (λ (files : List NamedFacts). HasCome to (length files) (length (workspace_of r ts)) k → insert files k file ≡ all_facts (workspace_of r ts)) (sym was.is)
+      (λ come. with_one_that_came was.old (workspace_of r ts) to was.stayed k file come (is ∙ sym (ap named_facts at)))
+      (subst (λ n. HasCome to n (length (workspace_of r ts)) k) as_many (subst (λ n. HasCome to before n k) (sym (pieces_length r ts)) come))
 
-  pub taken_out : HasLeft to before (length ts) k → remove table k ≡ all_facts (workspace_of ts)
+  pub taken_out : HasLeft to before (length ts) k → remove table k ≡ all_facts (workspace_of r ts)
   taken_out gone =
-      subst (λ (files : List NamedFacts). HasLeft to (length files) (length (workspace_of ts)) k → remove files k ≡ all_facts (workspace_of ts)) (sym was.is)
-      (λ gone. without_one_that_left was.old (workspace_of ts) to was.stayed k gone)
-      (subst (λ n. HasLeft to n (length (workspace_of ts)) k) as_many (subst (λ n. HasLeft to before n k) (sym (pieces_length ts)) gone))
+      subst (λ (files : List NamedFacts). HasLeft to (length files) (length (workspace_of r ts)) k → remove files k ≡ all_facts (workspace_of r ts)) (sym was.is)
+      (λ gone. without_one_that_left was.old (workspace_of r ts) to was.stayed k gone)
+      (subst (λ n. HasLeft to n (length (workspace_of r ts)) k) as_many (subst (λ n. HasLeft to before n k) (sym (pieces_length r ts)) gone))

@@ -13,10 +13,10 @@ use Rattle.std.proofs.lemmas.Simd.{map-map}
 use Rattle.std.proofs.Math.Seq.{get_or-append_seam}
 use Rattle.work_index.specs.declared.analysis.AnalysisParts.{AnalysisParts}
 use Rattle.work_index.specs.AnalysisParts.{AreParts}
-use Rattle.work_index.specs.Workspace.{AnalysisData, IsKnown, Workspace, all_facts, diagnostics_of, resolution_of, workspace_in}
+use Rattle.work_index.specs.Workspace.{AnalysisData, IsKnown, SourceAt, Workspace, all_facts, diagnostics_of, no_file, resolution_of, workspace_in}
 use Rattle.work_update.specs.declared.edited.EditedText.{EditedText}
 use Rattle.work_update.specs.Changes.{WasKnown}
-use Rattle.work_update.specs.Edited.{OthersStay, StaysBut, edit_view, text_after, with_texts}
+use Rattle.work_update.specs.Edited.{OthersStay, StaysBut, edit_view, text_after, with_text, with_texts}
 use Rattle.work_update.specs.declared.update_texts.Outdated.{Outdated}
 
 -- a file for which no text is there keeps its own
@@ -27,8 +27,8 @@ own_text (e ∷ edits) n text none =
     ∙ own_text edits n text (λ more. none (suc more.0, omega (arith, more.1), more.2))
 
 module _ (edits : List (ℕ × List ℕ)) where
-  abbrev after : ℕ × (List ℕ × List ℕ) → List ℕ × List ℕ
-  after e = (e.1.0, text_after edits e.0 e.1.1)
+  abbrev after : ℕ × SourceAt → SourceAt
+  after e = (e.1.0, with_text e.1.1 (text_after edits e.0 e.1.1.text))
 
   paths_stay : (k : ℕ) (w : Workspace) → map (λ f. f.0) w ≡ map (λ f. f.0) (map after (enumerate_from k w))
   paths_stay k [] = refl
@@ -37,11 +37,11 @@ module _ (edits : List (ℕ × List ℕ)) where
   abbrev Lacks : ℕ → Type 0
   Lacks n = Contains (map (λ e. e.0) edits) n → ⊥
 
-  stay : (k : ℕ) (w : Workspace) (n : ℕ) → Lacks (k + n) → get_or w n ([], []) ≡ get_or (map after (enumerate_from k w)) n ([], [])
+  stay : (k : ℕ) (w : Workspace) (n : ℕ) → Lacks (k + n) → get_or w n no_file ≡ get_or (map after (enumerate_from k w)) n no_file
   stay k [] n none = refl
   stay k (f ∷ w) zero none =
       let here : k + 0 ≡ k = omega arith in
-      ap (λ (text : List ℕ). (f.0, text)) (sym (own_text edits k f.1 (subst Lacks here none)))
+      ap (λ (text : List ℕ). (f.0, with_text f.1 text)) (sym (own_text edits k f.1.text (subst Lacks here none)))
   stay k (f ∷ w) (suc n) none = let next : k + suc n ≡ k + 1 + n = omega arith in stay (k + 1) w n (subst Lacks next none)
 
 pub others_stay : OthersStay
@@ -63,7 +63,7 @@ text_of_two first second n text =
 module _ (first second : List (ℕ × List ℕ)) where
   two : (k : ℕ) (w : Workspace) → map (after (first ++ second)) (enumerate_from k w) ≡ map (after first) (enumerate_from k (map (after second) (enumerate_from k w)))
   two k [] = refl
-  two k (f ∷ w) = ap₂ (λ (text : List ℕ) (rest : Workspace). (f.0, text) ∷ rest) (text_of_two first second k f.1) (two (k + 1) w)
+  two k (f ∷ w) = ap₂ (λ (text : List ℕ) (rest : Workspace). (f.0, with_text f.1 text) ∷ rest) (text_of_two first second k f.1.text) (two (k + 1) w)
 
   pub texts_of_two : (w : Workspace) → with_texts (first ++ second) w ≡ with_texts first (with_texts second w)
   texts_of_two w = two 0 w
@@ -91,27 +91,27 @@ module _ (file : ℕ) (text : List ℕ) where
   behind : (k : ℕ) (w : Workspace) → file < k → map (after edit) (enumerate_from k w) ≡ w
   behind k [] past = refl
   behind k (f ∷ w) past =
-      ap₂ (λ (b : Bool) (rest : Workspace). (f.0, option_map_or (λ (e : ℕ × List ℕ). e.1) (cond b (Some (file, text)) None) f.1) ∷ rest) (differs file k past) (behind (k + 1) w (omega (arith, past)))
+      ap₂ (λ (b : Bool) (rest : Workspace). (f.0, with_text f.1 (option_map_or (λ (e : ℕ × List ℕ). e.1) (cond b (Some (file, text)) None) f.1.text)) ∷ rest) (differs file k past) (behind (k + 1) w (omega (arith, past)))
 
   above : (n m : ℕ) → m < n → (n == m) ≡ false
   above n m lt = grind (arith, nat_tests)
 
-  one : (k i : ℕ) (w : Workspace) → k + i ≡ file → i < length w → set w i ((let f = get_or w i ([], []) in f.0), text) ≡ map (after edit) (enumerate_from k w)
+  one : (k i : ℕ) (w : Workspace) → k + i ≡ file → i < length w → set w i (let f = get_or w i no_file in (f.0, with_text f.1 text)) ≡ map (after edit) (enumerate_from k w)
   one k i [] at there = absurd (omega (arith, there))
   one k zero (f ∷ w) at there =
       let here : file ≡ k = omega (arith, at) in
       let found : (file == k) ≡ true = ap (λ n. file == n) (sym here) ∙ same file in
-      ap₂ (λ (g : List ℕ × List ℕ) (rest : Workspace). g ∷ rest)
-      (ap (λ (b : Bool). (f.0, option_map_or (λ (e : ℕ × List ℕ). e.1) (cond b (Some (file, text)) None) f.1)) (sym found))
+      ap₂ (λ (g : SourceAt) (rest : Workspace). g ∷ rest)
+      (ap (λ (b : Bool). (f.0, with_text f.1 (option_map_or (λ (e : ℕ × List ℕ). e.1) (cond b (Some (file, text)) None) f.1.text))) (sym found))
       (sym (behind (k + 1) w (omega (arith, here))))
   one k (suc i) (f ∷ w) at there =
       let past : k < file = omega (arith, at) in
-      ap₂ (λ (g : List ℕ × List ℕ) (rest : Workspace). g ∷ rest)
-      (ap (λ (b : Bool). (f.0, option_map_or (λ (e : ℕ × List ℕ). e.1) (cond b (Some (file, text)) None) f.1)) (sym (above file k past)))
+      ap₂ (λ (g : SourceAt) (rest : Workspace). g ∷ rest)
+      (ap (λ (b : Bool). (f.0, with_text f.1 (option_map_or (λ (e : ℕ × List ℕ). e.1) (cond b (Some (file, text)) None) f.1.text))) (sym (above file k past)))
       (one (k + 1) i w (omega (arith, at)) (omega (arith, there)))
 
   -- that text in the place of the file's
-  pub one_text : (w later : Workspace) → file < length w → later ≡ set w file ((let f = get_or w file ([], []) in f.0), text) → later ≡ with_texts edit w
+  pub one_text : (w later : Workspace) → file < length w → later ≡ set w file (let f = get_or w file no_file in (f.0, with_text f.1 text)) → later ≡ with_texts edit w
   one_text w later there put = put ∙ one 0 file w (zero-add file) there
 
 -- ---- the files of the texts

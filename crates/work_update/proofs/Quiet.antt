@@ -16,11 +16,11 @@ use Rattle.proto_names.specs.Outlines.{exports, with_facts}
 use Rattle.proto_resolve.specs.Seen.{SeenLaw, SeesTheSame}
 use Rattle.proto_resolve.specs.declared.resolve.Links.{Links}
 use Rattle.proto_resolve.proofs.Outlines.{asking, asks_alike, same_graph}
-use Rattle.work_index.proofs.Numbered.{made_at, nothing}
-use Rattle.work_index.specs.Workspace.{AnalysisData, IsKnown, Workspace, all_facts, analysis, merged, named_facts, resolution_of}
+use Rattle.work_index.proofs.Numbered.{made_at}
+use Rattle.work_index.specs.Workspace.{AnalysisData, IsKnown, Source, SourceAt, Workspace, all_facts, analysis, merged, named_facts, no_file, resolution_of, source_facts}
 use Rattle.work_update.specs.Bindings.{Means, SameInFile, SameMeaning}
-use Rattle.work_update.specs.Changes.{file_text}
-use Rattle.work_update.specs.Edited.{text_after, with_texts}
+use Rattle.work_update.specs.Changes.{file_source}
+use Rattle.work_update.specs.Edited.{text_after, with_text, with_texts}
 use Rattle.work_update.specs.Quiet.{AreTexts, HasOthers, HasTexts, IsQuiet, KeepsWith, SaysSomethingElse, is_own, links_with, other_text, own_text}
 use Rattle.work_update.proofs.Changed.{is_put, others_stay}
 use Rattle.work_update.proofs.FileByFile.{all-kept, kept-same, same-in, same-kept}
@@ -42,7 +42,7 @@ put-back (x ∷ files) (suc n) facts there = ap (λ fs. x ∷ fs) (put-back file
 -- ---- texts that say the same to other files and of imports
 
 abbrev AreQuiet : Workspace → Workspace → Type 0
-AreQuiet w after = (n : ℕ) → n < length w → IsQuiet (facts_at (all_facts w) n) (facts_of (file_text after n))
+AreQuiet w after = (n : ℕ) → n < length w → IsQuiet (facts_at (all_facts w) n) (source_facts (file_source after n))
 
 abbrev paths_of : Workspace → List (List ℕ)
 paths_of w = map (λ f. f.0) w
@@ -73,7 +73,7 @@ module _ (w after : Workspace) (paths : paths_of after ≡ paths_of w) (quiet : 
   later = all_facts after
 
   abbrev facts : FileFacts
-  facts = facts_of (file_text after n)
+  facts = source_facts (file_source after n)
 
   long : length after ≡ length w
   long = sym (length-map after (λ f. f.0)) ∙ ap length paths ∙ length-map w (λ f. f.0)
@@ -106,28 +106,28 @@ module _ (w after : Workspace) (paths : paths_of after ≡ paths_of w) (quiet : 
     seen = λ k d lt. let g = get_or (view_of (graph_of later) n) k d in seen g (g == n) refl;
   }
 
-  links-are : SeenLaw → links_with before n (file_text after n) ≡ resolution_of after (n, get_or after n nothing)
-  links-are law = let text = file_text after n in law (with_facts before n facts) later n (omega (arith, within_after, length-map after named_facts)) sees text (value_tree text)
+  links-are : SeenLaw → links_with before n (file_source after n) ≡ resolution_of after (n, get_or after n no_file)
+  links-are law = let text = (file_source after n).text in law (with_facts before n facts) later n (omega (arith, within_after, length-map after named_facts)) sees text (value_tree text)
 
   abbrev Keeps : AnalysisData → Links → Type 0
-  Keeps a links = Means a n links (merged (facts_of (file_text after n)) links)
+  Keeps a links = Means a n links (merged (facts_of (file_source after n).text) links)
 
-  pub with-same : SeenLaw → (a : AnalysisData) → KeepsWith before n (file_text after n) a → SameInFile a (analysis after) n
-  with-same law a keeps = kept-same a after n (get_or after n nothing) within_after refl (subst (Keeps a) (links-are law) keeps)
+  pub with-same : SeenLaw → (a : AnalysisData) → KeepsWith before n (file_source after n) a → SameInFile a (analysis after) n
+  with-same law a keeps = kept-same a after n (get_or after n no_file) within_after refl (subst (Keeps a) (links-are law) keeps)
 
-  pub same-with : SeenLaw → (a : AnalysisData) → SameInFile a (analysis after) n → KeepsWith before n (file_text after n) a
-  same-with law a same = subst (Keeps a) (sym (links-are law)) (same-kept a after n (get_or after n nothing) within_after refl same)
+  pub same-with : SeenLaw → (a : AnalysisData) → SameInFile a (analysis after) n → KeepsWith before n (file_source after n) a
+  same-with law a same = subst (Keeps a) (sym (links-are law)) (same-kept a after n (get_or after n no_file) within_after refl same)
 
 -- ---- the files of a workspace, one after the other
 
 -- the text of each file with the texts that aren't taken first
-abbrev pub text-of : Option ℕ → List (Option (List ℕ)) → Workspace → ℕ → List ℕ
-text-of own texts w n = unwrap_or (other_text own texts n) (file_text w n)
+abbrev pub source-of : Option ℕ → List (Option (List ℕ)) → Workspace → ℕ → Source
+source-of own texts w n = let s = file_source w n in with_text s (unwrap_or (other_text own texts n) s.text)
 
 -- the first k files are quiet, and the flag says whether they keep what they meant
 pub record AreCompared (a : AnalysisData) (own : Option ℕ) (texts : List (Option (List ℕ))) (w : Workspace) (k : ℕ) (keep : Bool) : Type 0 where
-  pub quiet : (n : ℕ) → n < k → IsQuiet (facts_at (all_facts w) n) (facts_of (text-of own texts w n))
-  pub keeps : IsTrue keep ↔ ((n : ℕ) → n < k → KeepsWith (all_facts w) n (text-of own texts w n) a)
+  pub quiet : (n : ℕ) → n < k → IsQuiet (facts_at (all_facts w) n) (source_facts (source-of own texts w n))
+  pub keeps : IsTrue keep ↔ ((n : ℕ) → n < k → KeepsWith (all_facts w) n (source-of own texts w n) a)
 
 pub none-compared : (a : AnalysisData) (own : Option ℕ) (texts : List (Option (List ℕ))) (w : Workspace) → AreCompared a own texts w 0 true
 none-compared a own texts w = record {
@@ -136,12 +136,12 @@ none-compared a own texts w = record {
 }
 
 module _ (a : AnalysisData) (own : Option ℕ) (texts : List (Option (List ℕ))) (w : Workspace) (k : ℕ) (keep : Bool) (so_far : AreCompared a own texts w k keep) where
-  pub one-compared : (keeps : Bool) (both : Bool) → both ≡ (keep && keeps) → IsQuiet (facts_at (all_facts w) k) (facts_of (text-of own texts w k)) → (IsTrue keeps ↔ KeepsWith (all_facts w) k (text-of own texts w k) a)
+  pub one-compared : (keeps : Bool) (both : Bool) → both ≡ (keep && keeps) → IsQuiet (facts_at (all_facts w) k) (source_facts (source-of own texts w k)) → (IsTrue keeps ↔ KeepsWith (all_facts w) k (source-of own texts w k) a)
       → AreCompared a own texts w (k + 1) both
   one-compared keeps both is quiet here = record {
-    quiet = below_more (λ n. IsQuiet (facts_at (all_facts w) n) (facts_of (text-of own texts w n))) k so_far.quiet quiet;
+    quiet = below_more (λ n. IsQuiet (facts_at (all_facts w) n) (source_facts (source-of own texts w n))) k so_far.quiet quiet;
     keeps = (
-      λ yes. let parts = and_parts keep keeps (sym is ∙ yes) in below_more (λ n. KeepsWith (all_facts w) n (text-of own texts w n) a) k (so_far.keeps.0 parts.0) (here.0 parts.1),
+      λ yes. let parts = and_parts keep keeps (sym is ∙ yes) in below_more (λ n. KeepsWith (all_facts w) n (source-of own texts w n) a) k (so_far.keeps.0 parts.0) (here.0 parts.1),
       λ all. is ∙ and_from keep keeps (so_far.keeps.1 (λ n lt. all n (omega (arith, lt)))) (here.1 (all k (omega arith))),
     );
   }
@@ -151,22 +151,22 @@ module _ (a : AnalysisData) (own : Option ℕ) (texts : List (Option (List ℕ))
   all-compared law after has known long end' = (
     λ is. all-kept a after known (long ∙ sym same_long) (λ n lt.
         let there : n < length w = omega (arith, lt, same_long) in
-        with-same w after has.paths quiet n there law a (subst (λ text. KeepsWith (all_facts w) n text a) (sym (has.each n there)) (so_far.keeps.0 is n (omega (arith, there, end'))))),
+        with-same w after has.paths quiet n there law a (subst (λ s. KeepsWith (all_facts w) n s a) (sym (has.each n there)) (so_far.keeps.0 is n (omega (arith, there, end'))))),
     λ same. so_far.keeps.1 (λ n lt.
         let there : n < length w = omega (arith, lt, end') in
-        subst (λ text. KeepsWith (all_facts w) n text a) (has.each n there) (same-with w after has.paths quiet n there law a (same-in a (analysis after) n same))),
+        subst (λ s. KeepsWith (all_facts w) n s a) (has.each n there) (same-with w after has.paths quiet n there law a (same-in a (analysis after) n same))),
   )
     where
       same_long : length after ≡ length w
       same_long = sym (length-map after (λ f. f.0)) ∙ ap length has.paths ∙ length-map w (λ f. f.0)
 
-      quiet : (n : ℕ) → n < length w → IsQuiet (facts_at (all_facts w) n) (facts_of (file_text after n))
-      quiet n lt = subst (λ text. IsQuiet (facts_at (all_facts w) n) (facts_of text)) (sym (has.each n lt)) (so_far.quiet n (omega (arith, lt, end')))
+      quiet : (n : ℕ) → n < length w → IsQuiet (facts_at (all_facts w) n) (source_facts (file_source after n))
+      quiet n lt = subst (λ s. IsQuiet (facts_at (all_facts w) n) (source_facts s)) (sym (has.each n lt)) (so_far.quiet n (omega (arith, lt, end')))
 
 -- ---- the texts that are taken first, and the others
 
-pub text-with : (edits : List (ℕ × List ℕ)) (w : Workspace) (n : ℕ) → n < length w → file_text (with_texts edits w) n ≡ text_after edits n (file_text w n)
-text-with edits w n there = ap (λ (f : List ℕ × List ℕ). f.1) (made_at (λ e. (e.1.0, text_after edits e.0 e.1.1)) w n nothing there)
+pub source-with : (edits : List (ℕ × List ℕ)) (w : Workspace) (n : ℕ) → n < length w → file_source (with_texts edits w) n ≡ (let s = file_source w n in with_text s (text_after edits n s.text))
+source-with edits w n there = ap (λ (f : SourceAt). f.1) (made_at (λ e. (e.1.0, with_text e.1.1 (text_after edits e.0 e.1.1.text))) w n no_file there)
 
 own-then-others : (own : Option ℕ) (texts : List (Option (List ℕ))) (n : ℕ) (t : List ℕ) → unwrap_or (slice_index_or texts n None) t ≡ unwrap_or (other_text own texts n) (own_text own texts n t)
 own-then-others own texts n t = by (is_own own n)
@@ -182,8 +182,10 @@ has-others own texts edits w first after are own_texts has = let stays = other.o
   paths = has.paths ∙ stays.paths ∙ ap paths_of (sym are);
   each = λ n lt.
       let there : n < length w = omega (arith, lt, ap length are, other.as_many_files edits w) in
-      has.each n there ∙ own-then-others own texts n (file_text w n)
-      ∙ ap (unwrap_or (other_text own texts n)) (sym (own_texts n (file_text w n) there) ∙ sym (text-with edits w n there) ∙ ap (λ (v : Workspace). file_text v n) (sym are));
+      let s = file_source w n in
+      has.each n there ∙ ap (with_text s) (own-then-others own texts n s.text)
+      ∙ ap (λ (s : Source). with_text s (unwrap_or (other_text own texts n) s.text))
+      (ap (with_text s) (sym (own_texts n s.text there)) ∙ sym (source-with edits w n there) ∙ ap (λ (v : Workspace). file_source v n) (sym are));
 }
 
 -- a file whose other text isn't taken first has its text till then
@@ -200,12 +202,13 @@ pub says-else : (own : Option ℕ) (texts : List (Option (List ℕ))) (edits : L
 says-else own texts edits w first are own_texts says =
     let n = says.file in
     let there : n < length w = omega (arith, says.within, ap length are, other.as_many_files edits w) in
-    let same : file_text first n ≡ file_text w n =
-    ap (λ (v : Workspace). file_text v n) are ∙ text-with edits w n there ∙ own_texts n (file_text w n) there ∙ not-first own texts n (file_text w n) _ says.differs in
-    record { file = n; within = there; differs = subst (λ t. IsSomeAnd (other_text own texts n) (λ text. ¬ IsQuiet (facts_of t) (facts_of text))) same says.differs }
+    let s = file_source w n in
+    let same : file_source first n ≡ s =
+    ap (λ (v : Workspace). file_source v n) are ∙ source-with edits w n there ∙ ap (with_text s) (own_texts n s.text there ∙ not-first own texts n s.text _ says.differs) in
+    record { file = n; within = there; differs = subst (λ s. IsSomeAnd (other_text own texts n) (λ text. ¬ IsQuiet (source_facts s) (source_facts (with_text s text)))) same says.differs }
 
 pub has-texts : (texts : List (Option (List ℕ))) (edits : List (ℕ × List ℕ)) (w : Workspace) (count : ℕ) → count ≡ length w → AreTexts count edits texts → HasTexts texts w (with_texts edits w)
 has-texts texts edits w count long are = let stays = other.others_stay edits w in record {
   paths = sym stays.paths;
-  each = λ n lt. text-with edits w n lt ∙ sym (are.each n (file_text w n) (omega (arith, lt, long)));
+  each = λ n lt. let s = file_source w n in source-with edits w n lt ∙ ap (with_text s) (sym (are.each n s.text (omega (arith, lt, long))));
 }

@@ -23,16 +23,16 @@ use Rattle.work_links.specs.declared.renumbering.Renumbering.{Renumbering}
 use Rattle.work_links.specs.Asked.{has_all, names_asked}
 use Rattle.work_links.specs.Laws.{DifferBy, TouchedLaw}
 use Rattle.work_links.specs.Touched.{decl_after, links_after, Tells}
-use Rattle.work_index.proofs.Numbered.{made, made_at, made_length, nothing}
+use Rattle.work_index.proofs.Numbered.{made, made_at, made_length}
 use Rattle.work_index.proofs.Known.{same_files}
 use Rattle.work_index.specs.declared.analysis.Resolutions.{Resolutions}
-use Rattle.work_index.specs.Workspace.{Workspace, all_facts, asked_of, diagnostics_of, merged, named_facts, resolution_of}
+use Rattle.work_index.specs.Workspace.{Source, Workspace, all_facts, asked_of, diagnostics_of, merged, named_facts, no_file, resolution_of, source_facts}
 use Rattle.work_update.specs.declared.update_texts.Effect.{Effect}
 use Rattle.work_update.specs.declared.update_texts.Effect.TheVariants.{Stay, Move, Relink}
 use Rattle.work_update.specs.declared.update_texts.FileChange.{FileChange}
 use Rattle.work_update.specs.declared.update_texts.Outdated.{Outdated}
 use Rattle.work_update.specs.declared.update_texts.Relinking.{Relinking}
-use Rattle.work_update.specs.Changes.{AreLinked, AreLinkedBefore, AreTakenBut, DifferAt, Follows, HasPlaces, IsLinked, IsMoved, StillWait, WasKnown, file_text, links_under, no_links, waiting_under, waits}
+use Rattle.work_update.specs.Changes.{AreLinked, AreLinkedBefore, AreTakenBut, DifferAt, Follows, HasPlaces, IsLinked, IsMoved, StillWait, WasKnown, file_source, links_under, no_links, waiting_under, waits}
 use Rattle.work_update.specs.Edited.{StaysBut}
 use Rattle.work_update.proofs.Changed.{is_put, others_stay, paths_stay}
 
@@ -76,8 +76,8 @@ alike_after n a b c first second = record {
   waits = second.waits ∙ first.waits;
 }
 
-linked_alike : (files : List NamedFacts) (n : ℕ) (text : List ℕ) (before now : Relinking) → IsAlike n before now → IsLinked files n text before.resolutions → IsLinked files n text now.resolutions
-linked_alike files n text before now alike linked = record { links = alike.links ∙ linked.links; diagnostics = alike.diagnostics ∙ linked.diagnostics }
+linked_alike : (files : List NamedFacts) (n : ℕ) (s : Source) (before now : Relinking) → IsAlike n before now → IsLinked files n s before.resolutions → IsLinked files n s now.resolutions
+linked_alike files n s before now alike linked = record { links = alike.links ∙ linked.links; diagnostics = alike.diagnostics ∙ linked.diagnostics }
 
 links_elsewhere : (e : Effect) (k n : ℕ) (links : List Links) → n ≢ k → get_or (links_under e k links) n no_links ≡ get_or links n no_links
 links_elsewhere Stay k n links apart = refl
@@ -119,15 +119,15 @@ still_waits (Move by) k n waiting marked = marked
 still_waits Relink k n waiting marked = one_more_waits waiting k n marked
 
 -- a file that is spared is linked as before but for the numbers
-module _ (old new : List NamedFacts) (change : FileChange) (differs : DifferAt old new change) (law : TouchedLaw) (n : ℕ) (text : List ℕ) (asked : Asked) (by : Renumbering)
-    (moved : IsMoved old new change n asked by) (own : facts_at old n ≡ facts_of text) (has : has_all asked (asked_of text) ≡ true) where
-  own_now : facts_at new n ≡ facts_of text
+module _ (old new : List NamedFacts) (change : FileChange) (differs : DifferAt old new change) (law : TouchedLaw) (n : ℕ) (s : Source) (asked : Asked) (by : Renumbering)
+    (moved : IsMoved old new change n asked by) (own : facts_at old n ≡ source_facts s) (has : has_all asked (asked_of s) ≡ true) where
+  own_now : facts_at new n ≡ source_facts s
   own_now = sym (differs.others n moved.other) ∙ own
 
-  asked_same : names_asked (sites_at new n text (value_tree text)) (decls_at new n) ≡ asked_of text
-  asked_same = ap (λ (facts : FileFacts). let tree = value_tree text in names_asked (names_of_file text facts tree.nodes) facts.decls) own_now
+  asked_same : names_asked (sites_at new n s.text (value_tree s.text)) (decls_at new n) ≡ asked_of s
+  asked_same = ap (λ (facts : FileFacts). let tree = value_tree s.text in names_asked (names_of_file s.text facts tree.nodes) facts.decls) own_now
 
-  links_moved : resolved new n text (value_tree text) ≡ links_after (decl_after by) (resolved old n text (value_tree text))
+  links_moved : resolved new n s.text (value_tree s.text) ≡ links_after (decl_after by) (resolved old n s.text (value_tree s.text))
   links_moved =
       let touched = moved.touched in
       let there : (let by = touched.by in by.file) ≡ change.file = (let tells = moved.tells in tells.file_is) in
@@ -136,25 +136,25 @@ module _ (old new : List NamedFacts) (change : FileChange) (differs : DifferAt o
         others = λ g apart. differs.others g (λ same. apart (same ∙ sym there));
         tells = subst (λ g. Tells g (facts_at old g) (facts_at new g) touched) (sym there) moved.tells;
       } in
-      law old new touched n asked text (value_tree text) (λ same. moved.other (same ∙ there)) differ_by moved.imports (rw asked_same has) moved.untouched
-      ∙ ap (λ by. links_after (decl_after by) (resolved old n text (value_tree text))) moved.by_is
+      law old new touched n asked s.text (value_tree s.text) (λ same. moved.other (same ∙ there)) differ_by moved.imports (rw asked_same has) moved.untouched
+      ∙ ap (λ by. links_after (decl_after by) (resolved old n s.text (value_tree s.text))) moved.by_is
 
 -- the file itself is linked after the effect, unless it waits
-here : (old new : List NamedFacts) (change : FileChange) → DifferAt old new change → SeenLaw → TouchedLaw → (n : ℕ) (text : List ℕ) (asked : Asked) → n < length new → facts_at old n ≡ facts_of text → has_all asked (asked_of text) ≡ true
-    → (e : Effect) → Follows old new change n asked e → (before now : Relinking) → n < length before.resolutions.links.items → n < length before.waiting.items → IsUnder e n before now → IsLinked old n text before.resolutions
-    → waits now n ≡ false → IsLinked new n text now.resolutions
-here old new change differs seen touched n text asked within own has Stay follows before now linked_there waiting_there under linked idle =
-    let same : resolved old n text (value_tree text) ≡ resolved new n text (value_tree text) = seen old new n within follows.1 text (value_tree text) in record {
+here : (old new : List NamedFacts) (change : FileChange) → DifferAt old new change → SeenLaw → TouchedLaw → (n : ℕ) (s : Source) (asked : Asked) → n < length new → facts_at old n ≡ source_facts s → has_all asked (asked_of s) ≡ true
+    → (e : Effect) → Follows old new change n asked e → (before now : Relinking) → n < length before.resolutions.links.items → n < length before.waiting.items → IsUnder e n before now → IsLinked old n s before.resolutions
+    → waits now n ≡ false → IsLinked new n s now.resolutions
+here old new change differs seen touched n s asked within own has Stay follows before now linked_there waiting_there under linked idle =
+    let same : resolved old n s.text (value_tree s.text) ≡ resolved new n s.text (value_tree s.text) = seen old new n within follows.1 s.text (value_tree s.text) in record {
       links = ap (λ links. get_or links n no_links) under.links ∙ linked.links ∙ same;
-      diagnostics = ap (λ diagnostics. get_or diagnostics n []) under.diagnostics ∙ linked.diagnostics ∙ ap (merged (facts_of text)) same;
+      diagnostics = ap (λ diagnostics. get_or diagnostics n []) under.diagnostics ∙ linked.diagnostics ∙ ap (merged (facts_of s.text)) same;
     }
-here old new change differs seen touched n text asked within own has (Move by) follows before now linked_there waiting_there under linked idle =
-    let same : resolved new n text (value_tree text) ≡ links_after (decl_after by) (resolved old n text (value_tree text)) = links_moved old new change differs touched n text asked by follows own has in record {
+here old new change differs seen touched n s asked within own has (Move by) follows before now linked_there waiting_there under linked idle =
+    let same : resolved new n s.text (value_tree s.text) ≡ links_after (decl_after by) (resolved old n s.text (value_tree s.text)) = links_moved old new change differs touched n s asked by follows own has in record {
       links = ap (λ links. get_or links n no_links) under.links ∙ get_or-set_same before.resolutions.links.items n _ no_links linked_there ∙ ap (links_after (decl_after by)) linked.links ∙ sym same;
       diagnostics = ap (λ diagnostics. get_or diagnostics n []) under.diagnostics ∙ linked.diagnostics
-          ∙ ap (λ (diags : List Diag). in_order ((let facts = facts_of text in facts.diags) ++ diags)) (sym (ap (λ (links : Links). links.diags) same));
+          ∙ ap (λ (diags : List Diag). in_order ((let facts = facts_of s.text in facts.diags) ++ diags)) (sym (ap (λ (links : Links). links.diags) same));
     }
-here old new change differs seen touched n text asked within own has Relink follows before now linked_there waiting_there under linked idle =
+here old new change differs seen touched n s asked within own has Relink follows before now linked_there waiting_there under linked idle =
     absurd (false≢true (sym idle ∙ ap (λ waiting. get_or waiting n true) under.waiting ∙ get_or-set_same before.waiting.items n true true waiting_there))
 
 -- ---- the files that are brought up to a change one after the other
@@ -163,7 +163,7 @@ here old new change differs seen touched n text asked within own has Relink foll
 pub record AreFollowed (new : List NamedFacts) (w : Workspace) (start now : Relinking) (k : ℕ) : Type 0 where
   pub places : HasPlaces (length w) now
   pub wait : StillWait start now
-  pub done : (n : ℕ) → n < k → waits now n ≡ false → IsLinked new n (file_text w n) now.resolutions
+  pub done : (n : ℕ) → n < k → waits now n ≡ false → IsLinked new n (file_source w n) now.resolutions
   pub ahead : (n : ℕ) → k ≤ n → IsAlike n start now
 
 pub none_followed : (new : List NamedFacts) (w : Workspace) (start : Relinking) → HasPlaces (length w) start → AreFollowed new w start start 0
@@ -180,12 +180,12 @@ module _ (new : List NamedFacts) (w : Workspace) (start now : Relinking) (k : �
   passed_over marked = record {
     places = so_far.places;
     wait = so_far.wait;
-    done = below_more (λ n. waits now n ≡ false → IsLinked new n (file_text w n) now.resolutions) k so_far.done (λ idle. absurd (false≢true (sym idle ∙ marked)));
+    done = below_more (λ n. waits now n ≡ false → IsLinked new n (file_source w n) now.resolutions) k so_far.done (λ idle. absurd (false≢true (sym idle ∙ marked)));
     ahead = λ n far. so_far.ahead n (omega (arith, far));
   }
 
   -- one that doesn't wait gets the effect of the change
-  pub one_followed : (change : FileChange) (before : AreLinkedBefore new change w start) → SeenLaw → TouchedLaw → k < length w → (asked : Asked) → has_all asked (asked_of (file_text w k)) ≡ true
+  pub one_followed : (change : FileChange) (before : AreLinkedBefore new change w start) → SeenLaw → TouchedLaw → k < length w → (asked : Asked) → has_all asked (asked_of (file_source w k)) ≡ true
       → waits now k ≡ false → (e : Effect) → ((old : List NamedFacts) → DifferAt old new change → Follows old new change k asked e) → (later : Relinking) → IsUnder e k now later → AreFollowed new w start later (k + 1)
   one_followed change before seen touched there asked has idle e follows later under =
       let linked = before.linked in
@@ -194,17 +194,17 @@ module _ (new : List NamedFacts) (w : Workspace) (start now : Relinking) (k : �
       let not_waiting : waits start k ≡ false = sym alike.waits ∙ idle in
       let differs = before.differ in
       let within : k < length new = omega (arith, there, linked.count, differs.files) in
-      let here_now : waits later k ≡ false → IsLinked new k (file_text w k) later.resolutions =
-      here before.old new change before.differ seen touched k (file_text w k) asked within (linked.own k not_waiting) has e (follows before.old before.differ) now later (omega (arith, there, places.links)) (omega (arith, there, places.waiting)) under
-      (linked_alike before.old k (file_text w k) start now alike (linked.linked k not_waiting)) in record {
+      let here_now : waits later k ≡ false → IsLinked new k (file_source w k) later.resolutions =
+      here before.old new change before.differ seen touched k (file_source w k) asked within (linked.own k not_waiting) has e (follows before.old before.differ) now later (omega (arith, there, places.links)) (omega (arith, there, places.waiting)) under
+      (linked_alike before.old k (file_source w k) start now alike (linked.linked k not_waiting)) in record {
         places = places_under e k (length w) now later under so_far.places;
         wait = λ n marked. ap (λ waiting. get_or waiting n true) under.waiting ∙ still_waits e k n now.waiting.items (so_far.wait n marked);
-        done = below_more (λ n. waits later n ≡ false → IsLinked new n (file_text w n) later.resolutions) k (λ n less. earlier n less (elsewhere e k n now later under (λ same. absurd (omega (arith, less, same))))) here_now;
+        done = below_more (λ n. waits later n ≡ false → IsLinked new n (file_source w n) later.resolutions) k (λ n less. earlier n less (elsewhere e k n now later under (λ same. absurd (omega (arith, less, same))))) here_now;
         ahead = λ n far. alike_after n start now later (so_far.ahead n (omega (arith, far))) (elsewhere e k n now later under (λ same. absurd (omega (arith, far, same))));
       }
     where
-      earlier : (n : ℕ) → n < k → IsAlike n now later → waits later n ≡ false → IsLinked new n (file_text w n) later.resolutions
-      earlier n less alike idle = linked_alike new n (file_text w n) now later alike (so_far.done n less (sym alike.waits ∙ idle))
+      earlier : (n : ℕ) → n < k → IsAlike n now later → waits later n ≡ false → IsLinked new n (file_source w n) later.resolutions
+      earlier n less alike idle = linked_alike new n (file_source w n) now later alike (so_far.done n less (sym alike.waits ∙ idle))
 
   -- all are brought up to it in the end
   pub all_followed : (change : FileChange) → AreLinkedBefore new change w start → length w ≤ k → AreLinked new w now
@@ -220,7 +220,7 @@ module _ (new : List NamedFacts) (w : Workspace) (start now : Relinking) (k : �
       inside : (n : ℕ) → waits now n ≡ false → n < k
       inside n idle = let places = so_far.places in omega (arith, within_waiting now.waiting.items n idle, places.waiting, end')
 
-      own : (n : ℕ) → waits start n ≡ false → facts_at new n ≡ facts_of (file_text w n)
+      own : (n : ℕ) → waits start n ≡ false → facts_at new n ≡ source_facts (file_source w n)
       own n idle =
           let linked = before.linked in
           let differs = before.differ in
@@ -229,7 +229,7 @@ module _ (new : List NamedFacts) (w : Workspace) (start now : Relinking) (k : �
 -- ---- changes that are taken one after the other
 
 -- the facts of a file of a workspace
-pub facts_in : (w : Workspace) (n : ℕ) → n < length w → facts_at (all_facts w) n ≡ facts_of (file_text w n)
+pub facts_in : (w : Workspace) (n : ℕ) → n < length w → facts_at (all_facts w) n ≡ source_facts (file_source w n)
 facts_in [] n there = absurd (omega (arith, there))
 facts_in (x ∷ w) zero there = refl
 facts_in (x ∷ w) (suc n) there = facts_in w n (omega (arith, there))
@@ -247,7 +247,7 @@ pub none_taken : (o : Outdated) (w : Workspace) (changed : List ℕ) (now : Reli
 none_taken o w changed now was kept count wait =
     subst (λ files. AreTakenBut changed files w now) (sym was.table) (record {
       paths = map-map (λ f. f.path) named_facts old ∙ stays.paths;
-      others = λ n there out. facts_in old n (omega (arith, there, long)) ∙ ap (λ f. facts_of f.1) (stays.others n out) ∙ sym (facts_in w n there);
+      others = λ n there out. facts_in old n (omega (arith, there, long)) ∙ ap (λ f. source_facts f.1) (stays.others n out) ∙ sym (facts_in w n there);
       linked = record {
         count = length-map old named_facts ∙ long;
         places = record {
@@ -255,7 +255,7 @@ none_taken o w changed now was kept count wait =
           diagnostics = ap length diagnostics_are ∙ made_length (diagnostics_of old) old ∙ long;
           waiting = count;
         };
-        own = λ n idle. facts_in old n (there n idle) ∙ ap (λ f. facts_of f.1) (stays.others n (out n idle));
+        own = λ n idle. facts_in old n (there n idle) ∙ ap (λ f. source_facts f.1) (stays.others n (out n idle));
         linked = λ n idle. record {
           links = ap (λ links. get_or links n no_links) links_are ∙ made_at (resolution_of old) old n no_links (there n idle) ∙ ap (λ f. resolution_of old (n, f)) (stays.others n (out n idle));
           diagnostics = ap (λ diagnostics. get_or diagnostics n []) diagnostics_are ∙ made_at (diagnostics_of old) old n [] (there n idle) ∙ ap (λ f. diagnostics_of old (n, f)) (stays.others n (out n idle));
@@ -335,14 +335,14 @@ module _ (changed : List ℕ) (k : ℕ) (files : List NamedFacts) (w : Workspace
 
 -- once all are taken, the files are those of the workspace
 pub all_taken : (files : List NamedFacts) (w : Workspace) (now : Relinking) → AreTakenBut [] files w now → files ≡ all_facts w
-all_taken files w now taken = same_files files w taken.paths (ext_get_or no_facts (map (λ f. f.facts) files) (map (λ f. facts_of f.1) w) long at)
+all_taken files w now taken = same_files files w taken.paths (ext_get_or no_facts (map (λ f. f.facts) files) (map (λ f. source_facts f.1) w) long at)
   where
-    long : length (map (λ f. f.facts) files) ≡ length (map (λ f. facts_of f.1) w)
-    long = let linked = taken.linked in length-map files (λ f. f.facts) ∙ linked.count ∙ sym (length-map w (λ f. facts_of f.1))
+    long : length (map (λ f. f.facts) files) ≡ length (map (λ f. source_facts f.1) w)
+    long = let linked = taken.linked in length-map files (λ f. f.facts) ∙ linked.count ∙ sym (length-map w (λ f. source_facts f.1))
 
-    at : (n : ℕ) → n < length (map (λ f. f.facts) files) → get_or (map (λ f. f.facts) files) n no_facts ≡ get_or (map (λ f. facts_of f.1) w) n no_facts
+    at : (n : ℕ) → n < length (map (λ f. f.facts) files) → get_or (map (λ f. f.facts) files) n no_facts ≡ get_or (map (λ f. source_facts f.1) w) n no_facts
     at n there =
-        taken.others n (omega (arith, there, long, length-map w (λ f. facts_of f.1))) (λ has. absurd (omega (arith, has.1)))
+        taken.others n (omega (arith, there, long, length-map w (λ f. source_facts f.1))) (λ has. absurd (omega (arith, has.1)))
         ∙ ap (λ facts. get_or facts n no_facts) (map-map (λ f. f.facts) named_facts w)
 
 -- ---- the files that are linked again
@@ -351,8 +351,8 @@ all_taken files w now taken = same_files files w taken.paths (ext_get_or no_fact
 pub record AreLinkedUpTo (files : List NamedFacts) (w : Workspace) (waiting : List Bool) (found : Resolutions) (k : ℕ) : Type 0 where
   pub links : length found.links.items ≡ length w
   pub diagnostics : length found.diagnostics.items ≡ length w
-  pub done : (n : ℕ) → n < k → IsLinked files n (file_text w n) found
-  pub ahead : (n : ℕ) → k ≤ n → get_or waiting n true ≡ false → IsLinked files n (file_text w n) found
+  pub done : (n : ℕ) → n < k → IsLinked files n (file_source w n) found
+  pub ahead : (n : ℕ) → k ≤ n → get_or waiting n true ≡ false → IsLinked files n (file_source w n) found
 
 pub none_linked : (files : List NamedFacts) (w : Workspace) (now : Relinking) → AreLinked files w now → AreLinkedUpTo files w now.waiting.items now.resolutions 0
 none_linked files w now linked = let places = linked.places in record {
@@ -368,28 +368,28 @@ module _ (files : List NamedFacts) (w : Workspace) (waiting : List Bool) (found 
   one_passed idle = record {
     links = so_far.links;
     diagnostics = so_far.diagnostics;
-    done = below_more (λ n. IsLinked files n (file_text w n) found) k so_far.done (so_far.ahead k (omega arith) idle);
+    done = below_more (λ n. IsLinked files n (file_source w n) found) k so_far.done (so_far.ahead k (omega arith) idle);
     ahead = λ n far. so_far.ahead n (omega (arith, far));
   }
 
   -- one that waits is linked again
-  pub one_linked : files ≡ all_facts w → k < length w → (later : Resolutions) → later.links.items ≡ set found.links.items k (resolution_of w (k, get_or w k nothing)) → later.diagnostics.items ≡ set found.diagnostics.items k (diagnostics_of w (k, get_or w k nothing))
+  pub one_linked : files ≡ all_facts w → k < length w → (later : Resolutions) → later.links.items ≡ set found.links.items k (resolution_of w (k, get_or w k no_file)) → later.diagnostics.items ≡ set found.diagnostics.items k (diagnostics_of w (k, get_or w k no_file))
       → AreLinkedUpTo files w waiting later (k + 1)
   one_linked all there later links diagnostics = record {
     links = ap length links ∙ length-set found.links.items k _ ∙ so_far.links;
     diagnostics = ap length diagnostics ∙ length-set found.diagnostics.items k _ ∙ so_far.diagnostics;
-    done = below_more (λ n. IsLinked files n (file_text w n) later) k (λ n less. elsewhere n (λ same. absurd (omega (arith, less, same))) (so_far.done n less)) at;
+    done = below_more (λ n. IsLinked files n (file_source w n) later) k (λ n less. elsewhere n (λ same. absurd (omega (arith, less, same))) (so_far.done n less)) at;
     ahead = λ n far idle. elsewhere n (λ same. absurd (omega (arith, far, same))) (so_far.ahead n (omega (arith, far)) idle);
   }
     where
-      elsewhere : (n : ℕ) → n ≢ k → IsLinked files n (file_text w n) found → IsLinked files n (file_text w n) later
+      elsewhere : (n : ℕ) → n ≢ k → IsLinked files n (file_source w n) found → IsLinked files n (file_source w n) later
       elsewhere n apart linked = record {
         links = ap (λ links. get_or links n no_links) links ∙ get_or-set_other found.links.items k n _ no_links apart ∙ linked.links;
         diagnostics = ap (λ diagnostics. get_or diagnostics n []) diagnostics ∙ get_or-set_other found.diagnostics.items k n _ [] apart ∙ linked.diagnostics;
       }
 
-      at : IsLinked files k (file_text w k) later
-      at = let text = file_text w k in record {
+      at : IsLinked files k (file_source w k) later
+      at = let text = (file_source w k).text in record {
         links = ap (λ links. get_or links k no_links) links ∙ get_or-set_same found.links.items k _ no_links (omega (arith, there, so_far.links)) ∙ ap (λ files. resolved files k text (value_tree text)) (sym all);
         diagnostics = ap (λ diagnostics. get_or diagnostics k []) diagnostics ∙ get_or-set_same found.diagnostics.items k _ [] (omega (arith, there, so_far.diagnostics))
             ∙ ap (λ files. merged (facts_of text) (resolved files k text (value_tree text))) (sym all);
@@ -399,11 +399,11 @@ module _ (files : List NamedFacts) (w : Workspace) (waiting : List Bool) (found 
   pub all_links : files ≡ all_facts w → length w ≤ k → found.links.items ≡ made (resolution_of w) w
   all_links all end' = same_lists found.links.items (made (resolution_of w) w) (so_far.links ∙ sym (made_length (resolution_of w) w)) (λ n d there.
       let linked = so_far.done n (omega (arith, there, so_far.links, end')) in
-      let text = file_text w n in
+      let text = (file_source w n).text in
       get_or_default found.links.items n d no_links there ∙ linked.links ∙ ap (λ files. resolved files n text (value_tree text)) all ∙ sym (made_at (resolution_of w) w n d (omega (arith, there, so_far.links))))
 
   pub all_diagnostics : files ≡ all_facts w → length w ≤ k → found.diagnostics.items ≡ made (diagnostics_of w) w
   all_diagnostics all end' = same_lists found.diagnostics.items (made (diagnostics_of w) w) (so_far.diagnostics ∙ sym (made_length (diagnostics_of w) w)) (λ n d there.
       let linked = so_far.done n (omega (arith, there, so_far.diagnostics, end')) in
-      let text = file_text w n in
+      let text = (file_source w n).text in
       get_or_default found.diagnostics.items n d [] there ∙ linked.diagnostics ∙ ap (λ files. merged (facts_of text) (resolved files n text (value_tree text))) all ∙ sym (made_at (diagnostics_of w) w n d (omega (arith, there, so_far.diagnostics))))

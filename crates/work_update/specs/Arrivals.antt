@@ -8,7 +8,7 @@ use Rattle.import_graph.specs.Paths.{IsInPathOrder}
 use Rattle.work_links.specs.Laws.{decl_moved}
 use Rattle.work_links.specs.Touched.{links_after}
 use Rattle.work_index.specs.declared.analysis.AnalysisParts.{AnalysisParts}
-use Rattle.work_index.specs.Workspace.{AnalysisData, NoneImports, Workspace, all_facts, analysis, diagnostics_of, named_facts, resolution_of}
+use Rattle.work_index.specs.Workspace.{AnalysisData, NoneImports, SourceAt, Workspace, all_facts, analysis, diagnostics_of, named_facts, resolution_of}
 
 -- the numbers of so many files, once another comes to the place `at`: those before it keep theirs, and those from there on get the next
 -- higher one
@@ -17,7 +17,7 @@ numbers_with at count = map (λ g. Some (if nat_lt g at then g else g + 1)) (ran
 
 -- The analysis is that of a workspace to which a file comes that none of its files imports, and which gets the number `at`. With it the
 -- files are in the order of their paths.
-pub record Arrives (a : AnalysisData) (file : List ℕ × List ℕ) : Type 0 where
+pub record Arrives (a : AnalysisData) (file : SourceAt) : Type 0 where
   pub old : Workspace
   pub at : ℕ
   pub is : a ≡ analysis old
@@ -27,7 +27,7 @@ pub record Arrives (a : AnalysisData) (file : List ℕ × List ℕ) : Type 0 whe
 
 -- With the file at the place `at` of each part, and the declarations in the other links under the numbers `to` of their files, the parts are those of
 -- the workspace. Its files are in the order of their paths.
-pub record TakesIn (w : Workspace) (to : List (Option ℕ)) (at : ℕ) (file : List ℕ × List ℕ) (parts : AnalysisParts) : Type 0 where
+pub record TakesIn (w : Workspace) (to : List (Option ℕ)) (at : ℕ) (file : SourceAt) (parts : AnalysisParts) : Type 0 where
   pub here : at < length w
   pub table_place : at ≤ length parts.table
   pub ordered : IsInPathOrder (insert parts.table at (named_facts file))

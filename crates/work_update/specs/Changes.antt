@@ -18,7 +18,7 @@ use Rattle.work_links.specs.declared.touched.Touched.{Touched}
 use Rattle.work_links.specs.Asked.{may_ask}
 use Rattle.work_links.specs.Touched.{decl_after, is_touched, links_after, Tells}
 use Rattle.work_index.specs.declared.analysis.Resolutions.{Resolutions}
-use Rattle.work_index.specs.Workspace.{Workspace, all_facts, diagnostics_of, merged, resolution_of}
+use Rattle.work_index.specs.Workspace.{Source, Workspace, all_facts, diagnostics_of, merged, no_file, resolution_of, source_facts}
 use Rattle.work_update.specs.declared.update_texts.Effect.{Effect}
 use Rattle.work_update.specs.declared.update_texts.Effect.TheVariants.{Stay, Move, Relink}
 use Rattle.work_update.specs.declared.update_texts.Told.{Told}
@@ -75,9 +75,9 @@ Follows old new change f asked Relink = ⊤
 abbrev pub no_links : Links
 no_links = record { uses = []; diags = [] }
 
--- the text of a file
-abbrev pub file_text : Workspace → ℕ → List ℕ
-file_text w n = let file = slice_index_or w n ([], []) in file.1
+-- the text of a file, with the choice how it is read
+abbrev pub file_source : Workspace → ℕ → Source
+file_source w n = let file = slice_index_or w n no_file in file.1
 
 -- the links of all files after an effect on those of one, and which files wait then
 abbrev pub links_under : Effect → ℕ → List Links → List Links
@@ -95,9 +95,9 @@ abbrev pub waits : Relinking → ℕ → Bool
 waits now n = slice_index_or now.waiting.items n true
 
 -- the links and the diagnostics of a file are those that its text has where these are all files
-pub record IsLinked (files : List NamedFacts) (n : ℕ) (text : List ℕ) (found : Resolutions) : Type 0 where
-  pub links : slice_index_or found.links.items n no_links ≡ resolved files n text (value_tree text)
-  pub diagnostics : slice_index_or found.diagnostics.items n [] ≡ merged (facts_of text) (resolved files n text (value_tree text))
+pub record IsLinked (files : List NamedFacts) (n : ℕ) (s : Source) (found : Resolutions) : Type 0 where
+  pub links : slice_index_or found.links.items n no_links ≡ resolved files n s.text (value_tree s.text)
+  pub diagnostics : slice_index_or found.diagnostics.items n [] ≡ merged (facts_of s.text) (resolved files n s.text (value_tree s.text))
 
 -- there is a place for each of so many files
 pub record HasPlaces (count : ℕ) (now : Relinking) : Type 0 where
@@ -109,8 +109,8 @@ pub record HasPlaces (count : ℕ) (now : Relinking) : Type 0 where
 pub record AreLinked (files : List NamedFacts) (w : Workspace) (now : Relinking) : Type 0 where
   pub count : length files ≡ length w
   pub places : HasPlaces (length w) now
-  pub own : (n : ℕ) → waits now n ≡ false → facts_at files n ≡ facts_of (file_text w n)
-  pub linked : (n : ℕ) → waits now n ≡ false → IsLinked files n (file_text w n) now.resolutions
+  pub own : (n : ℕ) → waits now n ≡ false → facts_at files n ≡ source_facts (file_source w n)
+  pub linked : (n : ℕ) → waits now n ≡ false → IsLinked files n (file_source w n) now.resolutions
 
 -- each file that doesn't wait is linked as it was before a change; the changed file waits
 pub record AreLinkedBefore (new : List NamedFacts) (change : FileChange) (w : Workspace) (now : Relinking) : Type 0 where
@@ -136,4 +136,4 @@ pub record AreTakenBut (rest : List ℕ) (files : List NamedFacts) (w : Workspac
 -- there are as many files as in the workspace, and others than these are the same
 pub record AreKeptBut (rest : List ℕ) (kept w : Workspace) : Type 0 where
   pub count : length kept ≡ length w
-  pub others : (n : ℕ) → (Contains rest n → ⊥) → slice_index_or kept n ([], []) ≡ slice_index_or w n ([], [])
+  pub others : (n : ℕ) → (Contains rest n → ⊥) → slice_index_or kept n no_file ≡ slice_index_or w n no_file

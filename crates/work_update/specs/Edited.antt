@@ -1,8 +1,8 @@
 -- Other texts for some files of a workspace.
-use Rattle.std.specs.Prelude.{◌≡◌, ◌==◌, ℕ, List, [], Contains, find, map, slice_index_or, string_bytes}
+use Rattle.std.specs.Prelude.{◌≡◌, ◌==◌, ℕ, Bool, List, Contains, find, map, slice_index_or, string_bytes}
 use Rattle.std.specs.List.{enumerate_from}
 use Rattle.std.specs.Option.{option_map_or}
-use Rattle.work_index.specs.Workspace.{Workspace}
+use Rattle.work_index.specs.Workspace.{Source, SourceAt, Workspace, no_file}
 use Rattle.work_update.specs.declared.edited.EditedText.{EditedText}
 use Rattle.work_update.specs.declared.edited.NamedText.{NamedText}
 
@@ -14,19 +14,23 @@ edit_view e = (e.file, string_bytes e.text)
 abbrev pub text_after : List (ℕ × List ℕ) → ℕ → List ℕ → List ℕ
 text_after edits file text = option_map_or (λ e. e.1) (find (λ e. e.0 == file) edits) text
 
+-- another text in the place of a file's, which is read as that one was
+abbrev pub with_text : Source → List ℕ → Source
+with_text s text = record { text = text; reads_others = s.reads_others }
+
 -- the workspace with these texts
 abbrev pub with_texts : List (ℕ × List ℕ) → Workspace → Workspace
-with_texts edits w = map (λ e. (e.1.0, text_after edits e.0 e.1.1)) (enumerate_from 0 w)
+with_texts edits w = map (λ e. (e.1.0, with_text e.1.1 (text_after edits e.0 e.1.1.text))) (enumerate_from 0 w)
 
 -- a workspace with other texts of these files: the paths stay, and so does each file that is none of these
 pub record StaysBut (files : List ℕ) (old new : Workspace) : Type 0 where
   pub paths : map (λ f. f.0) old ≡ map (λ f. f.0) new
-  pub others : (n : ℕ) → (Contains files n → ⊥) → slice_index_or old n ([], []) ≡ slice_index_or new n ([], [])
+  pub others : (n : ℕ) → (Contains files n → ⊥) → slice_index_or old n no_file ≡ slice_index_or new n no_file
 
 -- so it is with texts for some files
 abbrev pub OthersStay : Type 0
 OthersStay = (edits : List (ℕ × List ℕ)) (w : Workspace) → StaysBut (map (λ e. e.0) edits) w (with_texts edits w)
 
--- a file, by its path and its text
-abbrev pub named_text : NamedText → List ℕ × List ℕ
-named_text f = (string_bytes f.path, string_bytes f.text)
+-- a file, by its path and its text, which is read if it isn't proto3, or isn't
+abbrev pub named_text : Bool → NamedText → SourceAt
+named_text reads_others f = (string_bytes f.path, record { text = string_bytes f.text; reads_others = reads_others })

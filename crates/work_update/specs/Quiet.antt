@@ -9,10 +9,10 @@ use Rattle.proto_names.specs.Outlines.{exports, with_facts}
 use Rattle.proto_resolve.specs.Outlines.{import_outline}
 use Rattle.proto_resolve.specs.Resolved.{resolved}
 use Rattle.proto_resolve.specs.declared.resolve.Links.{Links}
-use Rattle.work_index.specs.Workspace.{AnalysisData, Workspace, merged}
+use Rattle.work_index.specs.Workspace.{AnalysisData, Source, Workspace, merged, source_facts}
 use Rattle.work_update.specs.Bindings.{Means}
-use Rattle.work_update.specs.Changes.{file_text}
-use Rattle.work_update.specs.Edited.{text_after}
+use Rattle.work_update.specs.Changes.{file_source}
+use Rattle.work_update.specs.Edited.{text_after, with_text}
 
 -- facts say to other files, and of imports, what those before them said
 pub record IsQuiet (before after : FileFacts) : Type 0 where
@@ -21,13 +21,13 @@ pub record IsQuiet (before after : FileFacts) : Type 0 where
 
 -- ---- a file with another text, among files that stay
 
-module _ (files : List NamedFacts) (n : ℕ) (text : List ℕ) where
+module _ (files : List NamedFacts) (n : ℕ) (s : Source) where
   abbrev pub links_with : Links
-  links_with = resolved (with_facts files n (facts_of text)) n text (value_tree text)
+  links_with = resolved (with_facts files n (source_facts s)) n s.text (value_tree s.text)
 
   -- it means what it meant in the analysis
   abbrev pub KeepsWith : AnalysisData → Type 0
-  KeepsWith a = Means a n links_with (merged (facts_of text) links_with)
+  KeepsWith a = Means a n links_with (merged (facts_of s.text) links_with)
 
 -- ---- other texts by file
 
@@ -39,7 +39,7 @@ pub record AreTexts (count : ℕ) (edits : List (ℕ × List ℕ)) (texts : List
 -- a workspace with these texts
 pub record HasTexts (texts : List (Option (List ℕ))) (w after : Workspace) : Type 0 where
   pub paths : map (λ f. f.0) after ≡ map (λ f. f.0) w
-  pub each : (n : ℕ) → n < length w → file_text after n ≡ unwrap_or (slice_index_or texts n None) (file_text w n)
+  pub each : (n : ℕ) → n < length w → file_source after n ≡ (let s = file_source w n in with_text s (unwrap_or (slice_index_or texts n None) s.text))
 
 -- whether the text of a file is taken first: of one file, if it is given, else of all
 abbrev pub is_own : Option ℕ → ℕ → Bool
@@ -61,10 +61,10 @@ other_text own texts n = if is_own own n then None else slice_index_or texts n N
 -- from a workspace with the texts that are taken first, one with the others too
 pub record HasOthers (own : Option ℕ) (texts : List (Option (List ℕ))) (w after : Workspace) : Type 0 where
   pub paths : map (λ f. f.0) after ≡ map (λ f. f.0) w
-  pub each : (n : ℕ) → n < length w → file_text after n ≡ unwrap_or (other_text own texts n) (file_text w n)
+  pub each : (n : ℕ) → n < length w → file_source after n ≡ (let s = file_source w n in with_text s (unwrap_or (other_text own texts n) s.text))
 
 -- of some file a text that isn't taken first says to other files, or of imports, something else than the text before it
 pub record SaysSomethingElse (own : Option ℕ) (texts : List (Option (List ℕ))) (w : Workspace) : Type 0 where
   pub file : ℕ
   pub within : file < length w
-  pub differs : IsSomeAnd (other_text own texts file) (λ text. ¬ IsQuiet (facts_of (file_text w file)) (facts_of text))
+  pub differs : IsSomeAnd (other_text own texts file) (λ text. ¬ IsQuiet (source_facts (file_source w file)) (source_facts (with_text (file_source w file) text)))

@@ -1,19 +1,19 @@
 -- Files that stay as they are in a workspace where others come, leave or get other texts.
-use Rattle.std.specs.Prelude.{◌≡◌, ◌<◌, ◌≤◌, ℕ, List, [], Option, Some, None, length, slice_index_or, MatchOption}
+use Rattle.std.specs.Prelude.{◌≡◌, ◌<◌, ◌≤◌, ℕ, List, Option, Some, None, length, slice_index_or, MatchOption}
 use Rattle.proto_decls.specs.declared.named_facts.NamedFacts.{NamedFacts}
 use Rattle.import_graph.specs.declared.imports.FileImports.{FileImports}
 use Rattle.import_graph.specs.Imports.{graph_of}
 use Rattle.import_graph.specs.Moves.{IsMovedOutlook, place}
 use Rattle.import_graph.specs.Outlooks.{outlook}
-use Rattle.work_index.specs.Workspace.{Workspace, all_facts, resolution_of}
+use Rattle.work_index.specs.Workspace.{Workspace, all_facts, no_file, resolution_of}
 use Rattle.work_update.specs.declared.update_files.Earlier.{Earlier}
 use Rattle.work_update.specs.Changes.{no_links}
 
--- the file g of a workspace and the file n of another have the same path and the same text
+-- the file g of a workspace and the file n of another have the same path and the same text, which is read alike
 pub record IsSameFile (old new : Workspace) (g n : ℕ) : Type 0 where
   pub there : g < length old
   pub here : n < length new
-  pub same : slice_index_or old g ([], []) ≡ slice_index_or new n ([], [])
+  pub same : slice_index_or old g no_file ≡ slice_index_or new n no_file
 
 -- each file that has a number among the new ones stayed as it was
 abbrev pub Stay : Workspace → Workspace → List (Option ℕ) → Type 0
@@ -41,4 +41,9 @@ pub record IsEarlier (k : ℕ) (to : List (Option ℕ)) (w : Workspace) (earlier
   pub stayed : Stay old w to
   pub graph : WasGraph earlier.graph (all_facts old) (all_facts w) to
   pub count : length earlier.links.items ≡ length old
-  pub links : (g n : ℕ) → place to g ≡ Some n → k ≤ n → slice_index_or earlier.links.items g no_links ≡ resolution_of old (g, slice_index_or old g ([], []))
+  pub links : (g n : ℕ) → place to g ≡ Some n → k ≤ n → slice_index_or earlier.links.items g no_links ≡ resolution_of old (g, slice_index_or old g no_file)
+
+-- the same beside the table of the files now
+pub record IsEarlierThan (k : ℕ) (to : List (Option ℕ)) (w : Workspace) (table : List NamedFacts) (earlier : Earlier) : Type 0 where
+  pub all : table ≡ all_facts w
+  pub known : IsEarlier k to w earlier

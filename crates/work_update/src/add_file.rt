@@ -4,6 +4,7 @@ ghost use Rattle.std.specs.List.{insert};
 ghost use Rattle.work_links.specs.Laws.{decl_moved};
 ghost use Rattle.work_links.specs.Touched.{links_after};
 ghost use Rattle.work_index.specs.AnalysisParts.{AreParts};
+ghost use Rattle.work_index.specs.Pieces.{source_of};
 ghost use Rattle.work_index.specs.Workspace.{Workspace, analysis};
 ghost use Rattle.work_update.specs.Arrivals.{Arrives, TakesIn, numbers_with};
 
@@ -59,15 +60,16 @@ fn make_way(
     Ok(())
 }
 
-// The parts of an analysis with one more file, which is that of the piece and gets the number `at`.
+// The parts of an analysis with one more file, which is that of the piece and gets the number `at`. Its text is read if it isn't proto3, or isn't.
 fn with_file(
     alloc: Global,
     parts: AnalysisParts,
     at: FileNo,
     piece: &Piece<FileWork>,
+    reads_others: bool,
 ) -> Result<AnalysisParts, AllocError>
-    requires { (w : Workspace) × TakesIn w (numbers_with at (length parts.files.items)) at (piece.now.path, piece.now.text) parts }
-    ensures { (w : Workspace) → TakesIn w (numbers_with at (length parts.files.items)) at (piece.now.path, piece.now.text) parts → IfOk result (AreParts w) }
+    requires { (w : Workspace) × TakesIn w (numbers_with at (length parts.files.items)) at (source_of reads_others piece.now) parts }
+    ensures { (w : Workspace) → TakesIn w (numbers_with at (length parts.files.items)) at (source_of reads_others piece.now) parts → IfOk result (AreParts w) }
 {
     let AnalysisParts {
         table,
@@ -75,8 +77,11 @@ fn with_file(
         mut resolutions,
     } = parts;
     make_way(alloc, at, files.len(), &mut resolutions.links)?;
-    let (table, _) = table.update(alloc, TableChange::Added(at, named_facts(alloc, piece)?))?;
-    files.insert(at, SourceFile::of(alloc, piece)?)?;
+    let (table, _) = table.update(
+        alloc,
+        TableChange::Added(at, named_facts(alloc, piece, reads_others)?),
+    )?;
+    files.insert(at, SourceFile::of(alloc, piece, reads_others)?)?;
     let found = resolution_of(alloc, &table, at, piece)?;
     let diagnostics = diagnostics_of(alloc, facts_in(piece), found.get())?;
     resolutions.links.insert(at, found)?;
@@ -88,20 +93,22 @@ fn with_file(
     })
 }
 
-// The analysis of a workspace with one more file, which is that of the piece, from the analysis without it. None of the others imports it:
-// those stay linked as they were, but for the numbers of files, of which none changes if its path comes after theirs.
+// The analysis of a workspace with one more file, which is that of the piece, from the analysis without it. Its text is read if it isn't proto3, or
+// isn't. None of the others imports it: those stay linked as they were, but for the numbers of files, of which none changes if its path comes after
+// theirs.
 pub fn add_file(
     alloc: Global,
     earlier: Analysis,
     piece: &Piece<FileWork>,
+    reads_others: bool,
 ) -> Result<Analysis, AllocError>
-    requires { Arrives earlier (piece.now.path, piece.now.text) }
-    ensures { (arrives : Arrives earlier (piece.now.path, piece.now.text)) → IfOk result (λ found. found ≡ analysis (insert arrives.old arrives.at (piece.now.path, piece.now.text))) }
+    requires { Arrives earlier (source_of reads_others piece.now) }
+    ensures { (arrives : Arrives earlier (source_of reads_others piece.now)) → IfOk result (λ found. found ≡ analysis (insert arrives.old arrives.at (source_of reads_others piece.now))) }
 {
     moved_law();
     arrival_law();
     let parts = earlier.into_parts();
     let at = parts.table.place_for(piece.path());
-    let parts = with_file(alloc, parts, at, piece)?;
+    let parts = with_file(alloc, parts, at, piece, reads_others)?;
     Ok(Analysis::of_parts(parts))
 }

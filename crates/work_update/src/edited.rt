@@ -1,11 +1,11 @@
 // Texts that are no pieces yet: whether a workspace keeps its meaning with other texts of some files, and an analysis from nothing.
-ghost use Rattle.std.specs.Prelude.{◌≡◌, ◌<◌, ◌↔◌, ◌++◌, ℕ, List, [], All, Some, None, IsSome, length, map, option_map, slice_index_or, slice_set, IfOk, IfSome, IsTrue, OnOk, string_bytes};
+ghost use Rattle.std.specs.Prelude.{◌≡◌, ◌<◌, ◌↔◌, ◌++◌, ℕ, List, All, Some, None, IsSome, length, map, option_map, slice_index_or, slice_set, IfOk, IfSome, IsTrue, OnOk, string_bytes};
 ghost use Rattle.std.specs.Cmp.Lexicographic.{slice_cmp};
 ghost use Rattle.std.specs.List.Sorted.{IsStrictlySortedBy};
 ghost use Rattle.std.specs.Ordering.{nat_cmp};
-ghost use Rattle.work_index.specs.Workspace.{Workspace, analysis, workspace_in};
+ghost use Rattle.work_index.specs.Workspace.{Workspace, analysis, no_file, workspace_in};
 ghost use Rattle.work_update.specs.Bindings.{SameMeaning};
-ghost use Rattle.work_update.specs.Edited.{edit_view, named_text, text_after, with_texts};
+ghost use Rattle.work_update.specs.Edited.{edit_view, named_text, text_after, with_text, with_texts};
 ghost use Rattle.work_update.specs.Quiet.{AreTexts, HasTexts, SaysSomethingElse, own_edit, own_text};
 
 use crate::keeping::{OtherTexts, is_own, keep_meaning};
@@ -45,10 +45,10 @@ fn piece_of(alloc: Global, path: &str, text: SharedText) -> Result<Piece<FileWor
     }
 }
 
-// Gives a file its other text.
+// Gives a file its other text, which is read as the one before.
 fn edit(alloc: Global, edited: EditedText, files: &mut Vec<SourceFile>) -> Result<(), AllocError>
     requires { edited.file < length files.old.items }
-    ensures { OnOk result (files.new.items ≡ slice_set files.old.items edited.file ((slice_index_or files.old.items edited.file ([], [])).0, string_bytes edited.text)) }
+    ensures { OnOk result (files.new.items ≡ slice_set files.old.items edited.file (let file = slice_index_or files.old.items edited.file no_file in (file.0, with_text file.1 (string_bytes edited.text)))) }
 {
     let EditedText { file, text } = edited;
     files[file] = files[file].with_text(alloc, text)?;
@@ -203,15 +203,20 @@ pub fn edits_keep_meaning(
     }
 }
 
-/// The analysis of a workspace of these files, which are in the order of their paths, no path twice. An `Err` comes only where memory was refused.
-pub fn analyse_texts(alloc: Global, files: &[NamedText]) -> Result<Analysis, AllocError>
+/// The analysis of a workspace of these files, which are in the order of their paths, no path twice. Texts that aren't proto3 are read for what they
+/// declare, or aren't. An `Err` comes only where memory was refused.
+pub fn analyse_texts(
+    alloc: Global,
+    files: &[NamedText],
+    reads_others: bool,
+) -> Result<Analysis, AllocError>
     requires { IsStrictlySortedBy (slice_cmp nat_cmp) (map (λ f. string_bytes f.path) files.now) }
-    ensures { IfOk result (λ found. found ≡ analysis (map named_text files.now)) }
+    ensures { IfOk result (λ found. found ≡ analysis (map (named_text reads_others) files.now)) }
 {
     let mut pieces = Vec::with_capacity(alloc, files.len())?;
     for file in files {
         let text = SharedText::shared(alloc, String::from_str(alloc, file.text.as_str())?)?;
         pieces.push(piece_of(alloc, file.path.as_str(), text)?)?;
     }
-    analyse_here(alloc, pieces.as_slice())
+    analyse_here(alloc, pieces.as_slice(), reads_others)
 }

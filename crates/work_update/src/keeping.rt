@@ -1,22 +1,26 @@
 // Whether a workspace keeps its meaning, file by file: what is known of a file is dropped as soon as it is compared.
 ghost use Rattle.std.specs.Prelude.{◌≡◌, ◌≢◌, ◌<◌, ◌↔◌, None, false, length, map, option_map, unwrap_or, string_bytes, IfOk, IfSome, IsSome, IsSomeAnd, IsTrue, OnOk};
-ghost use Rattle.proto_decls.specs.Facts.{facts_of};
+ghost use Rattle.proto_decls.specs.Facts.{facts_by, facts_of};
 ghost use Rattle.proto_names.specs.Files.{facts_at};
 ghost use Rattle.proto_resolve.specs.Resolved.{resolved};
+ghost use Rattle.proto_tree.specs.declared.node.FileTree.{FileTree};
 ghost use Rattle.proto_tree.specs.Read.{value_tree};
-ghost use Rattle.work_index.specs.Workspace.{Workspace, all_facts, analysis, merged};
+ghost use Rattle.work_index.specs.Products.{known_by};
+ghost use Rattle.work_index.specs.Workspace.{Workspace, all_facts, analysis, merged, source_facts};
 ghost use Rattle.work_update.specs.Bindings.{Means, SameMeaning};
 ghost use Rattle.work_update.specs.Changes.{AreLinked, HasPlaces, IsLinked, waits};
+ghost use Rattle.work_update.specs.Edited.{with_text};
 ghost use Rattle.work_update.specs.Quiet.{HasOthers, IsQuiet, KeepsWith, SaysSomethingElse, is_own, other_text};
 
 use crate::comparing::means;
 use crate::update_texts::{Relinking, relinked};
 use import_graph::FileNo;
 use piece_collector::Work;
-use proto_decls::FileFacts;
+use proto_decls::{FileFacts, SharedFacts};
 use proto_resolve::{Index, Table, resolve_file, same_exports, same_imports, seen_law};
+use proto_tree::FileTree;
 use std::alloc::{AllocError, Global};
-use work_index::{Analysis, FileOut, FileWork, SourceFile, diagnostics_of, tree_of};
+use work_index::{Analysis, FileOut, FileWork, KnownText, SourceFile, diagnostics_of, tree_of};
 
 // Other texts by file, and whose are taken first: that of one file, if it is given, else those of all.
 #[derive(Clone, Copy)]
@@ -56,8 +60,39 @@ fn is_quiet(before: &FileFacts, after: &FileFacts) -> bool
     same_exports(after, before) && same_imports(after, before)
 }
 
+// What is known of a text, given what it says as proto3, and as another language if it is one: where such texts are read the second counts.
+fn known_of(own: KnownText, as_other: Option<KnownText>, reads_others: bool) -> KnownText
+    ensures { (tree : FileTree) → result ≡ known_by reads_others (record { tree = tree; own = own; other = as_other }) }
+{
+    if !reads_others {
+        return own;
+    }
+    match as_other {
+        Some(known) => known,
+        None => own,
+    }
+}
+
+// A text that was read.
+#[derive(Drop)]
+struct ReadText {
+    tree: FileTree,
+    // What it says by itself.
+    facts: SharedFacts,
+}
+
+// Reads a text; if it isn't proto3, for what it declares, or not.
+fn read_text(alloc: Global, text: &str, reads_others: bool) -> Result<ReadText, AllocError>
+    ensures tree { IfOk result (λ read. read.tree ≡ value_tree text.now) }
+    ensures facts { IfOk result (λ read. read.facts ≡ facts_by reads_others text.now) }
+{
+    let FileOut { tree, own, other } = FileWork::linking_once(alloc).work(text)?;
+    let KnownText { facts, .. } = known_of(own, other, reads_others);
+    Ok(ReadText { tree, facts })
+}
+
 // Whether a file, with another text, means what it meant in the earlier analysis; `None` if the text says something else than the one before
-// to other files or of imports. The text is read, and what is known of it is dropped again.
+// to other files or of imports. The text is read as the one before, and what is known of it is dropped again.
 fn keeps_with(
     alloc: Global,
     earlier: &Analysis,
@@ -68,13 +103,13 @@ fn keeps_with(
 ) -> Result<Option<bool>, AllocError>
     requires file { file < length table.old }
     requires earlier { file < length earlier.now.paths }
-    requires source { facts_of source.now.1 ≡ facts_at table.old file }
+    requires source { source_facts source.now.1 ≡ facts_at table.old file }
     ensures table { OnOk result (table.new ≡ table.old) }
-    ensures quiet { IfOk result (λ found. found ≢ None → IsQuiet (facts_at table.old file) (facts_of text.now)) }
-    ensures other { IfOk result (λ found. found ≡ None → ¬ (IsQuiet (facts_at table.old file) (facts_of text.now))) }
-    ensures keeps { IfOk result (λ found. IfSome found (λ keeps. IsTrue keeps ↔ KeepsWith table.old file text.now earlier.now)) }
+    ensures quiet { IfOk result (λ found. found ≢ None → IsQuiet (facts_at table.old file) (source_facts (with_text source.now.1 text.now))) }
+    ensures other { IfOk result (λ found. found ≡ None → ¬ (IsQuiet (facts_at table.old file) (source_facts (with_text source.now.1 text.now)))) }
+    ensures keeps { IfOk result (λ found. IfSome found (λ keeps. IsTrue keeps ↔ KeepsWith table.old file (with_text source.now.1 text.now) earlier.now)) }
 {
-    let FileOut { tree, facts, .. } = FileWork::linking_once(alloc).work(text)?;
+    let ReadText { tree, facts } = read_text(alloc, text, source.reads_others())?;
     if !is_quiet(source.facts().get(), facts.get()) {
         return Ok(None);
     }
@@ -99,7 +134,7 @@ fn keeps_meaning(
     requires earlier { file < length earlier.now.paths }
     requires places { HasPlaces (length table.now) now.now }
     requires linked { waits now.now file ≡ false → IsLinked table.now file source.now.1 now.now.resolutions }
-    ensures { IfOk result (λ keeps. IsTrue keeps ↔ Means earlier.now file (resolved table.now file source.now.1 (value_tree source.now.1)) (merged (facts_of source.now.1) (resolved table.now file source.now.1 (value_tree source.now.1)))) }
+    ensures { IfOk result (λ keeps. IsTrue keeps ↔ Means earlier.now file (resolved table.now file source.now.1.text (value_tree source.now.1.text)) (merged (facts_of source.now.1.text) (resolved table.now file source.now.1.text (value_tree source.now.1.text)))) }
 {
     if now.waiting[file] {
         let tree = tree_of(alloc, source.text())?;
@@ -124,13 +159,13 @@ fn keeps(
 ) -> Result<Option<bool>, AllocError>
     requires file { file < length table.old }
     requires earlier { file < length earlier.now.paths }
-    requires source { facts_of source.now.1 ≡ facts_at table.old file }
+    requires source { source_facts source.now.1 ≡ facts_at table.old file }
     requires places { HasPlaces (length table.old) now.now }
     requires linked { waits now.now file ≡ false → IsLinked table.old file source.now.1 now.now.resolutions }
     ensures table { OnOk result (table.new ≡ table.old) }
-    ensures quiet { IfOk result (λ found. found ≢ None → IsQuiet (facts_at table.old file) (facts_of (unwrap_or (option_map (λ t. t.now) other.entry) source.now.1))) }
-    ensures other { IfOk result (λ found. found ≡ None → IsSomeAnd (option_map (λ t. t.now) other.entry) (λ text. ¬ (IsQuiet (facts_at table.old file) (facts_of text)))) }
-    ensures keeps { IfOk result (λ found. IfSome found (λ keeps. IsTrue keeps ↔ KeepsWith table.old file (unwrap_or (option_map (λ t. t.now) other.entry) source.now.1) earlier.now)) }
+    ensures quiet { IfOk result (λ found. found ≢ None → IsQuiet (facts_at table.old file) (source_facts (with_text source.now.1 (unwrap_or (option_map (λ t. t.now) other.entry) source.now.1.text)))) }
+    ensures other { IfOk result (λ found. found ≡ None → IsSomeAnd (option_map (λ t. t.now) other.entry) (λ text. ¬ (IsQuiet (facts_at table.old file) (source_facts (with_text source.now.1 text))))) }
+    ensures keeps { IfOk result (λ found. IfSome found (λ keeps. IsTrue keeps ↔ KeepsWith table.old file (with_text source.now.1 (unwrap_or (option_map (λ t. t.now) other.entry) source.now.1.text)) earlier.now)) }
     ensures some { option_map (λ t. t.now) other.entry ≡ None → IfOk result IsSome }
 {
     match other {

@@ -4,10 +4,9 @@ ghost use Rattle.std.specs.Cmp.Lexicographic.{slice_cmp};
 ghost use Rattle.std.specs.Ordering.{nat_cmp};
 ghost use Rattle.std.specs.declared.cmp.Ordering.TheVariants.{Less};
 ghost use Rattle.piece_collector.specs.Board.{Ascends, IsFull};
-ghost use Rattle.piece_collector.specs.Views.{known_text};
 ghost use Rattle.work_index.specs.Pieces.{workspace_of};
 ghost use Rattle.work_index.specs.Workspace.{Workspace, analysis, workspace_in};
-ghost use Rattle.work_update.specs.Updates.{AreNumbersNow, HasStayed, IsArrival, IsInOrder, IsWorkspaceOf, NameAllChanges, numbers_of, texts_by_path};
+ghost use Rattle.work_update.specs.Updates.{AreNumbersNow, HasStayed, IsArrival, IsInOrder, IsWorkspaceOf, NameAllChanges, known_source, numbers_of, sources_by_path};
 
 use crate::add_file::add_file;
 use crate::update_files::update_files;
@@ -39,7 +38,7 @@ fn arrival<'b>(
 
 // Whether a path is that of a file of the analysis and that of the piece with its number.
 fn has_stayed(earlier: &Analysis, pieces: &[Piece<FileWork>], path: &str) -> bool
-    ensures { IsTrue result → HasStayed earlier.now.paths (workspace_of pieces.now) path.now }
+    ensures { IsTrue result → HasStayed earlier.now.paths (map (λ p. p.path) pieces.now) path.now }
 {
     match earlier.number_of(path) {
         Some(file) => file < pieces.len() && pieces[file].path() == path,
@@ -49,7 +48,7 @@ fn has_stayed(earlier: &Analysis, pieces: &[Piece<FileWork>], path: &str) -> boo
 
 // Whether each of these paths is.
 fn have_stayed(earlier: &Analysis, pieces: &[Piece<FileWork>], changes: &[String]) -> bool
-    ensures { IsTrue result → All (HasStayed earlier.now.paths (workspace_of pieces.now)) (map string_bytes changes.now) }
+    ensures { IsTrue result → All (HasStayed earlier.now.paths (map (λ p. p.path) pieces.now)) (map string_bytes changes.now) }
 {
     for path in changes {
         if !has_stayed(earlier, pieces, path.as_str()) {
@@ -78,7 +77,7 @@ fn numbers_of(
 
 // The first place, from one on, of a piece whose path doesn't come before this one; past the end if there is none.
 fn first_from(pieces: &[Piece<FileWork>], from: usize, path: &str) -> usize
-    ensures { (k : ℕ) → from ≤ k → k < result → slice_cmp nat_cmp (let file = slice_index_or (workspace_of pieces.now) k ([], []) in file.0) path.now ≡ Less }
+    ensures { (k : ℕ) → from ≤ k → k < result → slice_cmp nat_cmp (slice_index_or (map (λ p. p.path) pieces.now) k []) path.now ≡ Less }
 {
     for at in from..pieces.len() {
         if pieces[at].path().cmp(path) != Ordering::Less {
@@ -91,7 +90,7 @@ fn first_from(pieces: &[Piece<FileWork>], from: usize, path: &str) -> usize
 // The first place, from one on, of a piece whose path doesn't come before this one. Mostly the piece at this very place has the path, and whether two
 // paths are the same is told sooner than which comes first.
 fn next_from(pieces: &[Piece<FileWork>], from: usize, path: &str) -> usize
-    ensures { (k : ℕ) → from ≤ k → k < result → slice_cmp nat_cmp (let file = slice_index_or (workspace_of pieces.now) k ([], []) in file.0) path.now ≡ Less }
+    ensures { (k : ℕ) → from ≤ k → k < result → slice_cmp nat_cmp (slice_index_or (map (λ p. p.path) pieces.now) k []) path.now ≡ Less }
 {
     if from < pieces.len() && pieces[from].path() == path {
         return from;
@@ -109,7 +108,7 @@ fn number_now(
 ) -> Option<FileNo>
     ensures unchanged { IfSome result (λ n. Contains changed.now file → ⊥) }
     ensures here { IfSome result (λ n. n < length pieces.now) }
-    ensures path { IfSome result (λ n. (let file = slice_index_or (workspace_of pieces.now) n ([], []) in file.0) ≡ path.now) }
+    ensures path { IfSome result (λ n. slice_index_or (map (λ p. p.path) pieces.now) n [] ≡ path.now) }
 {
     if changed.contains(&file) || at >= pieces.len() || pieces[at].path() != path {
         return None;
@@ -125,7 +124,7 @@ fn numbers_now(
     changed: &[FileNo],
     pieces: &[Piece<FileWork>],
 ) -> Result<Vec<Option<FileNo>>, AllocError>
-    ensures { IfOk result (λ to. AreNumbersNow earlier.now.paths changed.now (workspace_of pieces.now) to.items) }
+    ensures { IfOk result (λ to. AreNumbersNow earlier.now.paths changed.now (map (λ p. p.path) pieces.now) to.items) }
 {
     let count = earlier.file_count();
     let mut to = Vec::with_capacity(alloc, count)?;
@@ -138,29 +137,31 @@ fn numbers_now(
     Ok(to)
 }
 
-// The analysis of the workspace of some pieces, from one before changes at these paths.
+// The analysis of the workspace of some pieces, from one before changes at these paths; texts that aren't proto3 are read, or aren't.
 fn update_by(
     alloc: Global,
     earlier: Analysis,
     changes: &[String],
     pieces: &[Piece<FileWork>],
+    reads_others: bool,
 ) -> Result<Analysis, AllocError>
     requires ascends { Ascends pieces.now }
     requires ordered { IsInOrder (workspace_in earlier) }
-    requires changes { NameAllChanges (map string_bytes changes.now) (texts_by_path (workspace_in earlier)) (texts_by_path (workspace_of pieces.now)) }
-    ensures { IfOk result (λ found. found ≡ analysis (workspace_of pieces.now)) }
+    requires changes { NameAllChanges (map string_bytes changes.now) (sources_by_path (workspace_in earlier)) (sources_by_path (workspace_of reads_others pieces.now)) }
+    ensures { IfOk result (λ found. found ≡ analysis (workspace_of reads_others pieces.now)) }
 {
     earlier.known();
     let changed = numbers_of(alloc, &earlier, changes)?;
     if have_stayed(&earlier, pieces, changes) {
-        return update_texts(alloc, earlier, changed.as_slice(), pieces);
+        return update_texts(alloc, earlier, changed.as_slice(), pieces, reads_others);
     }
     let to = numbers_now(alloc, &earlier, changed.as_slice(), pieces)?;
-    update_files(alloc, earlier, to.as_slice(), pieces)
+    update_files(alloc, earlier, to.as_slice(), pieces, reads_others)
 }
 
 /// The analysis of the texts of a board, from one of earlier texts: `changes` are the paths at which these differ, and there may be others
-/// among them. The board has to be complete, and is as before.
+/// among them. The board has to be complete, and is as before. Texts that aren't proto3 are read for what they declare, or aren't; a file that was
+/// read otherwise before counts as one that got another text.
 ///
 /// If files only got other texts, the links of those are made anew, and of the files that may ask for a name that a change touches. If files
 /// came or left, those that stayed and see the same files keep their links, under the numbers that declarations have now. A file that came,
@@ -172,34 +173,39 @@ pub fn update_analysis(
     earlier: Analysis,
     changes: &[String],
     board: &mut Board<FileWork>,
+    reads_others: bool,
 ) -> Result<Analysis, AllocError>
     requires ordered { IsInOrder (workspace_in earlier) }
-    requires changes { NameAllChanges (map string_bytes changes.now) (texts_by_path (workspace_in earlier)) (λ path. known_text path board.old) }
+    requires changes { NameAllChanges (map string_bytes changes.now) (sources_by_path (workspace_in earlier)) (λ path. known_source reads_others path board.old) }
     requires here { board.old.is_lent ≡ false }
     requires full { IsFull board.old }
-    ensures analysis { IfOk result (λ found. (w : Workspace) → IsWorkspaceOf board.old w → found ≡ analysis w) }
+    ensures analysis { IfOk result (λ found. (w : Workspace) → IsWorkspaceOf reads_others board.old w → found ≡ analysis w) }
     ensures board { board.new ≡ board.old }
 {
     earlier.known();
     if let Some(piece) = arrival(&earlier, changes, board) {
-        return add_file(alloc, earlier, piece);
+        return add_file(alloc, earlier, piece, reads_others);
     }
     let lent = board.lend_all()?;
-    let updated = update_by(alloc, earlier, changes, lent.pieces());
+    let updated = update_by(alloc, earlier, changes, lent.pieces(), reads_others);
     board.take_back(lent);
     updated
 }
 
-/// The analysis of the texts of a board, from nothing. The board has to be complete, and is as before. An `Err` comes only where memory was
-/// refused.
-pub fn analyse_board(alloc: Global, board: &mut Board<FileWork>) -> Result<Analysis, AllocError>
+/// The analysis of the texts of a board, from nothing. The board has to be complete, and is as before. Texts that aren't proto3 are read for what they
+/// declare, or aren't. An `Err` comes only where memory was refused.
+pub fn analyse_board(
+    alloc: Global,
+    board: &mut Board<FileWork>,
+    reads_others: bool,
+) -> Result<Analysis, AllocError>
     requires here { board.old.is_lent ≡ false }
     requires full { IsFull board.old }
-    ensures analysis { IfOk result (λ found. (w : Workspace) → IsWorkspaceOf board.old w → found ≡ analysis w) }
+    ensures analysis { IfOk result (λ found. (w : Workspace) → IsWorkspaceOf reads_others board.old w → found ≡ analysis w) }
     ensures board { board.new ≡ board.old }
 {
     let lent = board.lend_all()?;
-    let found = analyse_here(alloc, lent.pieces());
+    let found = analyse_here(alloc, lent.pieces(), reads_others);
     board.take_back(lent);
     found
 }

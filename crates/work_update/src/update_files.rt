@@ -1,5 +1,5 @@
 // The analysis of a workspace after files came, left or got other texts.
-ghost use Rattle.std.specs.Prelude.{◌≡◌, ◌<◌, ◌+◌, ◌++◌, ℕ, List, [], ◌∷◌, Some, length, map, slice_index_or, slice_set, IfOk, IfSome, OnOk};
+ghost use Rattle.std.specs.Prelude.{◌≡◌, ◌<◌, ◌+◌, ◌++◌, ℕ, Bool, List, [], ◌∷◌, Some, length, map, slice_index_or, slice_set, IfOk, IfSome, OnOk};
 ghost use Rattle.std.specs.List.{enumerate_from};
 ghost use Rattle.import_graph.specs.Imports.{graph_of};
 ghost use Rattle.proto_decls.specs.declared.named_facts.NamedFacts.{NamedFacts};
@@ -8,9 +8,9 @@ ghost use Rattle.work_links.specs.Laws.{MovedLaw, decl_moved};
 ghost use Rattle.work_links.specs.Touched.{links_after};
 ghost use Rattle.piece_collector.specs.Board.{Ascends};
 ghost use Rattle.work_index.specs.Pieces.{workspace_of};
-ghost use Rattle.work_index.specs.Workspace.{all_facts, analysis, diagnostics_of, resolution_of, workspace_in};
+ghost use Rattle.work_index.specs.Workspace.{analysis, diagnostics_of, no_file, resolution_of, workspace_in};
 ghost use Rattle.work_update.specs.Changes.{no_links};
-ghost use Rattle.work_update.specs.Stayed.{AreNumbersBefore, HasMoved, IsEarlier, Stay, WasGraph};
+ghost use Rattle.work_update.specs.Stayed.{AreNumbersBefore, HasMoved, IsEarlierThan, Stay, WasGraph};
 
 use crate::update_table::table_after;
 use import_graph::{FileNo, Graph, moved_outlook};
@@ -105,12 +105,11 @@ fn links_now(
     pieces: &[Piece<FileWork>],
 ) -> Result<SharedLinks, AllocError>
     requires file { file < length pieces.now }
-    requires table { table.now ≡ all_facts (workspace_of pieces.now) }
     requires before { IfSome before (λ g. place to.now g ≡ Some file) }
-    requires earlier { IsEarlier file to.now (workspace_of pieces.now) earlier.old }
+    requires earlier { (reads_others : Bool) × IsEarlierThan file to.now (workspace_of reads_others pieces.now) table.now earlier.old }
     requires moved_law { MovedLaw }
-    ensures links { IfOk result (λ links. links ≡ resolution_of (workspace_of pieces.now) (file, slice_index_or (workspace_of pieces.now) file ([], []))) }
-    ensures earlier { OnOk result (IsEarlier (file + 1) to.now (workspace_of pieces.now) earlier.new) }
+    ensures links { (reads_others : Bool) → IsEarlierThan file to.now (workspace_of reads_others pieces.now) table.now earlier.old → IfOk result (λ links. links ≡ resolution_of (workspace_of reads_others pieces.now) (file, slice_index_or (workspace_of reads_others pieces.now) file no_file)) }
+    ensures earlier { (reads_others : Bool) → IsEarlierThan file to.now (workspace_of reads_others pieces.now) table.now earlier.old → OnOk result (IsEarlierThan (file + 1) to.now (workspace_of reads_others pieces.now) table.now earlier.new) }
 {
     match number_if_moved(&earlier.graph, table, to, before, file)? {
         Some(old) => take_links(alloc, old, to, &mut earlier.links),
@@ -127,12 +126,11 @@ fn link_after(
     before: &[Option<FileNo>],
     pieces: &[Piece<FileWork>],
 ) -> Result<Resolutions, AllocError>
-    requires table { table.now ≡ all_facts (workspace_of pieces.now) }
     requires before { AreNumbersBefore (length pieces.now) to.now before.now }
-    requires earlier { IsEarlier 0 to.now (workspace_of pieces.now) earlier }
+    requires earlier { (reads_others : Bool) × IsEarlierThan 0 to.now (workspace_of reads_others pieces.now) table.now earlier }
     requires moved_law { MovedLaw }
-    ensures links { IfOk result (λ found. found.links.items ≡ map (resolution_of (workspace_of pieces.now)) (enumerate_from 0 (workspace_of pieces.now))) }
-    ensures diagnostics { IfOk result (λ found. found.diagnostics.items ≡ map (diagnostics_of (workspace_of pieces.now)) (enumerate_from 0 (workspace_of pieces.now))) }
+    ensures links { (reads_others : Bool) → IsEarlierThan 0 to.now (workspace_of reads_others pieces.now) table.now earlier → IfOk result (λ found. found.links.items ≡ map (resolution_of (workspace_of reads_others pieces.now)) (enumerate_from 0 (workspace_of reads_others pieces.now))) }
+    ensures diagnostics { (reads_others : Bool) → IsEarlierThan 0 to.now (workspace_of reads_others pieces.now) table.now earlier → IfOk result (λ found. found.diagnostics.items ≡ map (diagnostics_of (workspace_of reads_others pieces.now)) (enumerate_from 0 (workspace_of reads_others pieces.now))) }
 {
     let mut earlier = earlier;
     let links = Vec::new(alloc);
@@ -145,18 +143,19 @@ fn link_after(
     Ok(resolutions)
 }
 
-// The analysis of the workspace of some pieces after files came, left or got other texts. Given are the analysis before, and for each
-// file there its number now, or `None` if it left or has another text. A file that stayed as it was, and sees the same files as before,
-// is not linked again.
+// The analysis of the workspace of some pieces after files came, left or got other texts; texts that aren't proto3 are read, or aren't. Given are the
+// analysis before, and for each file there its number now, or `None` if it left, has another text or is read otherwise. A file that stayed as it was,
+// and sees the same files as before, is not linked again.
 pub fn update_files(
     alloc: Global,
     earlier: Analysis,
     to: &[Option<FileNo>],
     pieces: &[Piece<FileWork>],
+    reads_others: bool,
 ) -> Result<Analysis, AllocError>
     requires ascends { Ascends pieces.now }
-    requires stayed { Stay (workspace_in earlier) (workspace_of pieces.now) to.now }
-    ensures { IfOk result (λ found. found ≡ analysis (workspace_of pieces.now)) }
+    requires stayed { Stay (workspace_in earlier) (workspace_of reads_others pieces.now) to.now }
+    ensures { IfOk result (λ found. found ≡ analysis (workspace_of reads_others pieces.now)) }
 {
     moved_law();
     let AnalysisParts {
@@ -164,14 +163,14 @@ pub fn update_files(
         resolutions: known_resolutions,
         ..
     } = earlier.into_parts();
-    let (table, graph) = table_after(alloc, known, to, pieces)?;
+    let (table, graph) = table_after(alloc, known, to, pieces, reads_others)?;
     let before = numbers_before(alloc, to, pieces.len())?;
     let earlier_files = Earlier {
         graph,
         links: known_resolutions.links,
     };
     let resolutions = link_after(alloc, earlier_files, &table, to, before.as_slice(), pieces)?;
-    let files = files_of(alloc, pieces)?;
+    let files = files_of(alloc, pieces, reads_others)?;
     Ok(Analysis::of_parts(AnalysisParts {
         table,
         files,

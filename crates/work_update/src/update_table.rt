@@ -68,28 +68,30 @@ pub fn move_of(to: &[Option<FileNo>], before: usize, now: usize) -> FilesMove
 }
 
 // The table of the files of some pieces, from the table before files came, left or got other texts; and the graph before, where imports may lead
-// elsewhere now. Where one came or left and all others stayed, its names alone are put in order or taken out; else the table is made anew.
+// elsewhere now. Texts that aren't proto3 are read, or aren't. Where one came or left and all others stayed, its names alone are put in order or taken
+// out; else the table is made anew.
 pub fn table_after(
     alloc: Global,
     table: Table,
     to: &[Option<FileNo>],
     pieces: &[Piece<FileWork>],
+    reads_others: bool,
 ) -> Result<(Table, Option<Graph>), AllocError>
     requires ascends { Ascends pieces.now }
-    requires before { IsTableBefore table (workspace_of pieces.now) to.now }
-    ensures table { IfOk result (λ after. after.0 ≡ all_facts (workspace_of pieces.now)) }
-    ensures graph { IfOk result (λ after. WasGraph after.1 table (all_facts (workspace_of pieces.now)) to.now) }
+    requires before { IsTableBefore table (workspace_of reads_others pieces.now) to.now }
+    ensures table { IfOk result (λ after. after.0 ≡ all_facts (workspace_of reads_others pieces.now)) }
+    ensures graph { IfOk result (λ after. WasGraph after.1 table (all_facts (workspace_of reads_others pieces.now)) to.now) }
 {
     arrival_law();
     match move_of(to, table.len(), pieces.len()) {
         FilesMove::Came(at) => {
-            let file = named_facts(alloc, &pieces[at])?;
+            let file = named_facts(alloc, &pieces[at], reads_others)?;
             table.update(alloc, TableChange::Added(at, file))
         }
         FilesMove::Left(at) => table.update(alloc, TableChange::Removed(at)),
         FilesMove::Other => {
             let before = table.into_graph();
-            Ok((table_of(alloc, pieces)?, Some(before)))
+            Ok((table_of(alloc, pieces, reads_others)?, Some(before)))
         }
     }
 }

@@ -149,16 +149,16 @@ pub fn relinked(
     tree: &FileTree,
 ) -> Result<FileLinks, AllocError>
     requires file { file < length table.now }
-    requires tree { tree.now ≡ value_tree source.now.1 }
-    ensures links { IfOk result (λ found. found.links ≡ resolved table.now file source.now.1 (value_tree source.now.1)) }
-    ensures diagnostics { IfOk result (λ found. found.diagnostics ≡ merged (facts_of source.now.1) (resolved table.now file source.now.1 (value_tree source.now.1))) }
+    requires tree { tree.now ≡ value_tree source.now.1.text }
+    ensures links { IfOk result (λ found. found.links ≡ resolved table.now file source.now.1.text (value_tree source.now.1.text)) }
+    ensures diagnostics { IfOk result (λ found. found.diagnostics ≡ merged (facts_of source.now.1.text) (resolved table.now file source.now.1.text (value_tree source.now.1.text))) }
 {
     let links = resolve_file(alloc, table, file, source.text(), tree)?;
     let diagnostics = diagnostics_of(alloc, source.facts().get(), &links)?;
     Ok(FileLinks { links, diagnostics })
 }
 
-// Links a file again, which has its number among these pieces too.
+// Links a file again, whose text is that of the piece with its number.
 fn link_again(
     alloc: Global,
     table: &Table,
@@ -168,7 +168,7 @@ fn link_again(
     resolutions: &mut Resolutions,
 ) -> Result<(), AllocError>
     requires file { file < length table.now }
-    requires piece { slice_get (workspace_of pieces.now) file ≡ Some source.now }
+    requires text { slice_get (map (λ p. p.text) pieces.now) file ≡ Some source.now.1.text }
     requires links { file < length resolutions.old.links.items }
     requires diagnostics { file < length resolutions.old.diagnostics.items }
     ensures links { (w : Workspace) → table.now ≡ all_facts w → OnOk result (resolutions.new.links.items ≡ slice_set resolutions.old.links.items file (resolution_of w (file, source.now))) }
@@ -361,7 +361,7 @@ pub fn bring_up(
     Ok((table, relinking))
 }
 
-// The links of the files of some pieces, those that wait linked again.
+// The links of all files, those that wait linked again. Their texts are those of the pieces.
 fn link_waiting(
     alloc: Global,
     table: &Table,
@@ -371,7 +371,7 @@ fn link_waiting(
 ) -> Result<Resolutions, AllocError>
     requires table { table.now ≡ all_facts files.now }
     requires linked { AreLinked table.now files.now relinking }
-    requires pieces { workspace_of pieces.now ≡ files.now }
+    requires texts { map (λ p. p.text) pieces.now ≡ map (λ f. f.1.text) files.now }
     ensures links { IfOk result (λ found. found.links.items ≡ map (resolution_of files.now) (enumerate_from 0 files.now)) }
     ensures diagnostics { IfOk result (λ found. found.diagnostics.items ≡ map (diagnostics_of files.now) (enumerate_from 0 files.now)) }
 {
@@ -387,43 +387,45 @@ fn link_waiting(
     Ok(resolutions)
 }
 
-// The files of all pieces, from those before changes of the texts of some: the others stay.
+// The files of all pieces, from those before changes of the texts of some, which are read if they aren't proto3, or aren't: the others stay.
 fn with_changed(
     alloc: Global,
     files: Vec<SourceFile>,
     changed: &[FileNo],
     pieces: &[Piece<FileWork>],
+    reads_others: bool,
 ) -> Result<Vec<SourceFile>, AllocError>
     requires within { All (λ f. f < length pieces.now) changed.now }
-    requires kept { AreKeptBut changed.now files.items (workspace_of pieces.now) }
-    ensures { IfOk result (λ all. all.items ≡ workspace_of pieces.now) }
+    requires kept { AreKeptBut changed.now files.items (workspace_of reads_others pieces.now) }
+    ensures { IfOk result (λ all. all.items ≡ workspace_of reads_others pieces.now) }
 {
     let mut files = files;
     for file in changed {
-        files[*file] = SourceFile::of(alloc, &pieces[*file])?;
+        files[*file] = SourceFile::of(alloc, &pieces[*file], reads_others)?;
     }
     Ok(files)
 }
 
-// The analysis of the workspace of some pieces after changes of the texts of some files, whose numbers are given. Links again only
-// those files, the files of which the imports say another thing than before, and of those that see a changed one the ones that may
-// ask for a name that the change touches: all of them if it touches many names, or the package's.
+// The analysis of the workspace of some pieces after changes of the texts of some files, whose numbers are given; those of them that aren't proto3 are
+// read, or aren't. Links again only those files, the files of which the imports say another thing than before, and of those that see a changed one the
+// ones that may ask for a name that the change touches: all of them if it touches many names, or the package's.
 pub fn update_texts(
     alloc: Global,
     earlier: Analysis,
     changed: &[FileNo],
     pieces: &[Piece<FileWork>],
+    reads_others: bool,
 ) -> Result<Analysis, AllocError>
-    requires within { All (λ f. f < length (workspace_of pieces.now)) changed.now }
-    requires others { StaysBut changed.now (workspace_in earlier) (workspace_of pieces.now) }
-    ensures { IfOk result (λ found. found ≡ analysis (workspace_of pieces.now)) }
+    requires within { All (λ f. f < length (workspace_of reads_others pieces.now)) changed.now }
+    requires others { StaysBut changed.now (workspace_in earlier) (workspace_of reads_others pieces.now) }
+    ensures { IfOk result (λ found. found ≡ analysis (workspace_of reads_others pieces.now)) }
 {
     let AnalysisParts {
         table,
         files,
         resolutions,
     } = earlier.into_parts();
-    let files = with_changed(alloc, files, changed, pieces)?;
+    let files = with_changed(alloc, files, changed, pieces, reads_others)?;
     let outdated = Outdated { table, resolutions };
     let (table, relinking) = bring_up(alloc, outdated, changed, files.as_slice())?;
     let resolutions = link_waiting(alloc, &table, files.as_slice(), pieces, relinking)?;

@@ -4,4 +4,4 @@ use Rattle.lsp_core.proofs.FilesLemmas.{session-order}
 use Rattle.lsp_core.proofs.laws.publications_agree.Goals as goal
 
 pub returns : goal.returns
-returns c = λ config bodies. c.publications_agree_with_reports.ensures (context_of (session config bodies).state) (session-order config bodies) refl
+returns c = λ config bodies. let state = (session config bodies).state in c.publications_agree_with_reports.ensures state.reads_others (context_of state) (session-order config bodies) refl

@@ -4,4 +4,4 @@ use Rattle.lsp_core.proofs.FilesLemmas.{session-order}
 use Rattle.lsp_core.proofs.laws.reports_agree.Goals as goal
 
 pub returns : goal.returns
-returns c = λ config bodies. c.reports_agree_with_documents.ensures (context_of (session config bodies).state) (session-order config bodies) refl
+returns c = λ config bodies. let state = (session config bodies).state in c.reports_agree_with_documents.ensures state.reads_others (context_of state) (session-order config bodies) refl

@@ -1,4 +1,5 @@
 use Rattle.std.proofs.Common.{◌≡◌, ◌≤◌, ◌-◌, ◌++◌, drop, length, map}
+use Rattle.work_index.specs.Workspace.{texts_of}
 use Rattle.work_update.specs.Edited.{edit_view}
 use Rattle.lsp_renames.specs.Cutting.{edits_of}
 use Rattle.lsp_renames.proofs.edited.edited_texts.Given as goal
@@ -7,7 +8,7 @@ use Rattle.lsp_renames.proofs.edited.edited_texts.Given as goal
 abbrev pub invariant-places : goal.invariant-places
 invariant-places l = record {
   within : l.done ≤ length l.places;
-  whole : map edit_view l.edits.items ++ edits_of l.name (let a = l.analysis in a.texts) (drop l.done l.places) ≡ edits_of l.name (let a = l.analysis in a.texts) l.places;
+  whole : map edit_view l.edits.items ++ edits_of l.name (let a = l.analysis in texts_of a.sources) (drop l.done l.places) ≡ edits_of l.name (let a = l.analysis in texts_of a.sources) l.places;
 }
 
 abbrev pub decreases-places : goal.decreases-places

@@ -1,6 +1,7 @@
 use Rattle.std.proofs.Common.{◌≡◌, ◌+◌, ◌-◌, ◌++◌, take, drop, length, map, get_or, ℕ, List, [], ap, subst, sym, ◌∙◌, arith, length-drop, IsUtf8}
 use Rattle.std.proofs.lemmas.List.{take_all}
 use Rattle.std.proofs.lemmas.Option.{get_or_from_slice_get}
+use Rattle.work_index.specs.Workspace.{texts_of}
 use Rattle.work_update.specs.Edited.{edit_view}
 use Rattle.work_update.specs.declared.edited.EditedText.{EditedText}
 use Rattle.lsp_renames.specs.ByFile.{by_file}
@@ -17,7 +18,7 @@ respelled-requires c =
     let any : Place = record { file = 0; start = 0; «end» = 0 } in
     let file = (get_or items 0 any).file in
     let n = c.count_in-count.result in
-    let text = get_or_from_slice_get c.args.analysis.now.texts file c.text.result.now [] c.text.ensures in
+    let text = get_or_from_slice_get (texts_of c.args.analysis.now.sources) file c.text.result.now [] c.text.ensures in
     let rest : take (length items - 1) (drop 1 items) ≡ drop 1 items = take_all _ _ (omega (arith, length-drop 1 items)) in
     subst (λ text. CanBeCut text 0 (take (1 + n) items)) text
     (run_cut c.args.analysis.now file items (1 + n) (subst IsUtf8 (sym text) c.text.utf8)
@@ -29,7 +30,7 @@ returns-clause-added c =
     let any : Place = record { file = 0; start = 0; «end» = 0 } in
     let n = c.count_in-count.result in
     let name = c.args.name.now in
-    let texts = c.args.analysis.now.texts in
+    let texts = texts_of c.args.analysis.now.sources in
     let file = (get_or items 0 any).file in
     let rest : take (length items - 1) (drop 1 items) ≡ drop 1 items = take_all _ _ (omega (arith, length-drop 1 items)) in
     let cut = first_run items n any c.requires.some (rw rest at c.count_in-count.ensures.all) (rw rest at c.count_in-count.ensures.end) in

@@ -6,7 +6,7 @@ use Rattle.work_dispatch.proofs.SendingJobs.{records-more, room-also, room-more,
 use Rattle.work_dispatch.proofs.dispatch.hand_out_jobs.Goals as goal
 
 pub jobs-init : goal.jobs-init
-jobs-init g c = record { files = refl; jobs = ([], λ opening events after. after, record { given = λ opening events after. tt; sent = sym (append-nil _) }, λ k lt. absurd (omega (arith, lt))) }
+jobs-init g c = record { files = refl; others = refl; jobs = ([], λ opening events after. after, record { given = λ opening events after. tt; sent = sym (append-nil _) }, λ k lt. absurd (omega (arith, lt))) }
 
 pub jobs-preserved : goal.jobs-preserved
 jobs-preserved g c =
@@ -16,6 +16,7 @@ jobs-preserved g c =
     let room = subst HasRoom before.jobs.2.sent (c.has_room.ensures.room.0 c.jobs-test.true) in
     record {
       files = c.hand_out_next.ensures.files ∙ before.files;
+      others = c.hand_out_next.ensures.others ∙ before.others;
       jobs = (jobs ++ next.0 ∷ [], records-more _ _ _ jobs next.0 before.jobs.1 c.in_ok-hand_out_next.ensures.gives, sends-more _ _ _ _ _ jobs next.0 before.jobs.1 before.jobs.2 next.1, room-more _ jobs next.0 before.jobs.3 room);
     }
 

@@ -4,5 +4,5 @@ use Rattle.work_index.proofs.OwnDiags.{own-merged}
 use Rattle.work_index.proofs.analyse.diagnostics_of.Goals as goal
 
 pub returns-then-is_empty : goal.returns-then-is_empty
-returns-then-is_empty c text is =
-    c.in_ok-found.ensures ∙ c.as_slice.ensures ∙ ap (λ (f : FileFacts). f.diags) is ∙ own-merged text c.args.links.now (c.if-is_empty.ensures.0 refl)
+returns-then-is_empty c s is =
+    c.in_ok-found.ensures ∙ c.as_slice.ensures ∙ ap (λ (f : FileFacts). f.diags) is ∙ own-merged s c.args.links.now (c.if-is_empty.ensures.0 refl)

@@ -4,4 +4,4 @@ use Rattle.work_index.proofs.analyse.files_of.Given as goal
 
 -- what is there and what is left are all
 abbrev pub invariant-loop-piece : goal.invariant-loop-piece
-invariant-loop-piece l = l.files.items ++ workspace_of (drop l.piece-index l.pieces) ≡ workspace_of l.pieces
+invariant-loop-piece l = l.files.items ++ workspace_of l.reads_others (drop l.piece-index l.pieces) ≡ workspace_of l.reads_others l.pieces

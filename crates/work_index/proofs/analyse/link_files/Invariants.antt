@@ -1,4 +1,4 @@
-use Rattle.std.proofs.Common.{◌≡◌, ◌+◌, ◌++◌, drop}
+use Rattle.std.proofs.Common.{◌≡◌, ◌+◌, ◌++◌, Bool, drop}
 use Rattle.work_index.specs.Workspace.{Workspace, all_facts, resolution_of, diagnostics_of}
 use Rattle.work_index.proofs.Steps.{made_from}
 use Rattle.work_index.proofs.analyse.link_files.Given as goal
@@ -6,6 +6,6 @@ use Rattle.work_index.proofs.analyse.link_files.Given as goal
 -- what is there and what is left are all
 abbrev pub invariant-loop-place : goal.invariant-loop-place
 invariant-loop-place g l = record {
-  links : (w : Workspace) → l.table ≡ all_facts w → l.resolutions.links.items ++ made_from (resolution_of w) (l.first + l.place) (drop l.place l.pieces) ≡ made_from (resolution_of w) l.first l.pieces;
-  diagnostics : (w : Workspace) → l.table ≡ all_facts w → l.resolutions.diagnostics.items ++ made_from (diagnostics_of w) (l.first + l.place) (drop l.place l.pieces) ≡ made_from (diagnostics_of w) l.first l.pieces;
+  links : (w : Workspace) (r : Bool) → l.table ≡ all_facts w → l.resolutions.links.items ++ made_from r (resolution_of w) (l.first + l.place) (drop l.place l.pieces) ≡ made_from r (resolution_of w) l.first l.pieces;
+  diagnostics : (w : Workspace) (r : Bool) → l.table ≡ all_facts w → l.resolutions.diagnostics.items ++ made_from r (diagnostics_of w) (l.first + l.place) (drop l.place l.pieces) ≡ made_from r (diagnostics_of w) l.first l.pieces;
 }

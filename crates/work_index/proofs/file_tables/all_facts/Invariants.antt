@@ -5,4 +5,4 @@ use Rattle.work_index.proofs.file_tables.all_facts.Given as goal
 
 -- what is there and what is left are all
 abbrev pub invariant-loop-piece : goal.invariant-loop-piece
-invariant-loop-piece l = l.files.items ++ all_facts (workspace_of (drop l.piece-index l.pieces)) ≡ all_facts (workspace_of l.pieces)
+invariant-loop-piece l = l.files.items ++ all_facts (workspace_of l.reads_others (drop l.piece-index l.pieces)) ≡ all_facts (workspace_of l.reads_others l.pieces)

@@ -12,9 +12,10 @@ of-requires-after_bounds g c κs =
 pub of_parts-analysis-requires : goal.of_parts-analysis-requires
 of_parts-analysis-requires g c =
     let ts : List TextAt = c.into_pieces-pieces.result.items in
+    let r = c.args.settings.reads_others in
     let linked = c.in_ok-table.ensures.linked in
-    let files = c.in_ok-files.ensures ∙ ap workspace_of (c.as_slice.ensures.value ∙ linked.pieces) in
-    (workspace_of ts, record { table = c.in_ok-table.ensures.table; files = files; links = linked.links refl; diagnostics = linked.diagnostics })
+    let files = c.in_ok-files.ensures ∙ ap (workspace_of r) (c.as_slice.ensures.value ∙ linked.pieces) in
+    (workspace_of r ts, record { table = c.in_ok-table.ensures.table; files = files; links = linked.links refl; diagnostics = linked.diagnostics })
 
 pub returns-clause-pieces : goal.returns-clause-pieces
 returns-clause-pieces g c = c.of.ensures ∙ (c.in_ok-table.ensures.linked.pieces ∙ c.into_pieces-pieces.ensures.pieces)
@@ -22,6 +23,7 @@ returns-clause-pieces g c = c.of.ensures ∙ (c.in_ok-table.ensures.linked.piece
 pub returns-clause-analysis : goal.returns-clause-analysis
 returns-clause-analysis g c =
     let ts : List TextAt = c.into_pieces-pieces.result.items in
+    let r = c.args.settings.reads_others in
     let linked = c.in_ok-table.ensures.linked in
-    let files = c.in_ok-files.ensures ∙ ap workspace_of (c.as_slice.ensures.value ∙ linked.pieces) in
-    c.of_parts-analysis.ensures (workspace_of ts) (record { table = c.in_ok-table.ensures.table; files = files; links = linked.links refl; diagnostics = linked.diagnostics }) ∙ ap (λ us. analysis (workspace_of us)) c.into_pieces-pieces.ensures.pieces
+    let files = c.in_ok-files.ensures ∙ ap (workspace_of r) (c.as_slice.ensures.value ∙ linked.pieces) in
+    c.of_parts-analysis.ensures (workspace_of r ts) (record { table = c.in_ok-table.ensures.table; files = files; links = linked.links refl; diagnostics = linked.diagnostics }) ∙ ap (λ us. analysis (workspace_of r us)) c.into_pieces-pieces.ensures.pieces

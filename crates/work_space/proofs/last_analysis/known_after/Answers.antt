@@ -1,4 +1,4 @@
-use Rattle.std.proofs.Common.{List, ℕ, Option, string_bytes, subst}
+use Rattle.std.proofs.Common.{Option, string_bytes, subst}
 use Rattle.std.specs.Prelude.{IfSome}
 use Rattle.work_space.specs.Kept.{IsOf}
 use Rattle.work_space.specs.declared.last_analysis.LastAnalysis.{LastAnalysis}

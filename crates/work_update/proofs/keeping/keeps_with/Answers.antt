@@ -1,11 +1,12 @@
 use Rattle.std.proofs.Common.{◌≡◌, ◌∙◌, ap, refl, sym}
-use Rattle.proto_decls.specs.Facts.{facts_of}
+use Rattle.proto_decls.specs.Facts.{facts_by, facts_of}
 use Rattle.proto_names.specs.Files.{facts_at}
 use Rattle.proto_names.specs.Outlines.{exports, with_facts}
 use Rattle.proto_resolve.specs.Outlines.{import_outline}
 use Rattle.proto_resolve.specs.Resolved.{resolved}
 use Rattle.proto_tree.specs.Read.{value_tree}
-use Rattle.work_index.specs.Workspace.{merged}
+use Rattle.work_index.specs.Workspace.{Source, merged, source_facts}
+use Rattle.work_update.specs.Edited.{with_text}
 use Rattle.work_update.specs.Quiet.{IsQuiet}
 use Rattle.work_update.proofs.Changed.{is_put}
 use Rattle.work_update.proofs.FileByFile.{means-by}
@@ -41,17 +42,19 @@ returns-clause-keeps c =
     let table = c.args.table.now in
     let file = c.args.file in
     let text = c.args.text.now in
-    let said : c.in_ok-another.field-0 ≡ facts_of text = cc (c.in_ok-another.ensures, c.in_ok-tree.ensures.1) in
-    let known : c.get-3.result.now ≡ facts_of text = cc (c.get-3.ensures, c.in_ok-tree.ensures.1) in
-    let tree : c.in_ok-tree.tree ≡ value_tree text = cc (c.in_ok-tree.tree-is, c.in_ok-tree.ensures.0) in
-    let all : c.set_facts.new.self ≡ with_facts table file (facts_of text) = c.set_facts.ensures ∙ ap (with_facts table file) said in
-    let linked : c.in_ok-links.links ≡ resolved (with_facts table file (facts_of text)) file text (value_tree text) = cc (c.in_ok-links.ensures, all, tree) in
-    means-by c.args.earlier.now file _ _ _ _ _ linked (c.as_slice.ensures ∙ c.in_ok-diagnostics.ensures text known ∙ ap (merged (facts_of text)) linked) c.means.ensures
+    let now : Source = with_text c.args.source.now.1 text in
+    let read : c.in_ok-tree.field-0.facts ≡ source_facts now = c.in_ok-tree.ensures.facts ∙ ap (λ r. facts_by r text) c.reads_others.ensures in
+    let said : c.in_ok-another.field-0 ≡ source_facts now = c.in_ok-another.ensures ∙ read in
+    let known : c.get-3.result.now ≡ source_facts now = c.get-3.ensures ∙ read in
+    let all : c.set_facts.new.self ≡ with_facts table file (source_facts now) = c.set_facts.ensures ∙ ap (with_facts table file) said in
+    let tree : c.in_ok-tree.tree ≡ value_tree text = cc (c.in_ok-tree.tree-is, c.in_ok-tree.ensures.tree) in
+    let linked : c.in_ok-links.links ≡ resolved (with_facts table file (source_facts now)) file text (value_tree text) = cc (c.in_ok-links.ensures, all, tree) in
+    means-by c.args.earlier.now file _ _ _ _ _ linked (c.as_slice.ensures ∙ c.in_ok-diagnostics.ensures now known ∙ ap (merged (facts_of text)) linked) c.means.ensures
 
 pub returns-then-not-is_quiet-clause-other : goal.returns-then-not-is_quiet-clause-other
 returns-then-not-is_quiet-clause-other c = λ none quiet.
     let before : c.get.result.now ≡ facts_at c.args.table.now c.args.file = c.get.ensures ∙ c.facts.ensures ∙ c.requires.source in
-    let after : c.get-2.result.now ≡ facts_of c.args.text.now = cc (c.get-2.ensures, c.in_ok-tree.ensures.1) in
+    let after : c.get-2.result.now ≡ source_facts (with_text c.args.source.now.1 c.args.text.now) = c.get-2.ensures ∙ c.in_ok-tree.ensures.facts ∙ ap (λ r. facts_by r c.args.text.now) c.reads_others.ensures in
     let same : IsQuiet c.get.result.now c.get-2.result.now = record {
       exports_are = ap exports after ∙ quiet.exports_are ∙ sym (ap exports before);
       imports_are = ap import_outline after ∙ quiet.imports_are ∙ sym (ap import_outline before);

@@ -19,25 +19,25 @@ use Rattle.work_update.proofs.update_table.table_after.Goals as goal
 pub update-requires : goal.update-requires
 update-requires c =
     let ts = c.args.pieces.now in
-    let is = put_in c.args.table ts c.args.to.now c.requires.before c.len.result c.in-Came.at c.len.ensures c.index-pieces-at.result c.index-pieces-at.is c.in_ok-file-in-Came.file c.in_ok-file-in-Came.ensures c.in-Came.ensures in
+    let is = put_in c.args.reads_others c.args.table ts c.args.to.now c.requires.before c.len.result c.in-Came.at c.len.ensures c.index-pieces-at.result c.index-pieces-at.is c.in_ok-file-in-Came.file c.in_ok-file-in-Came.ensures c.in-Came.ensures in
     let come = c.in-Came.ensures in
-    (omega (arith, come.within, c.len.ensures), subst (λ (files : List NamedFacts). IsInPathOrder files) (sym is) (in_path_order ts c.requires.ascends))
+    (omega (arith, come.within, c.len.ensures), subst (λ (files : List NamedFacts). IsInPathOrder files) (sym is) (in_path_order c.args.reads_others ts c.requires.ascends))
 
 pub returns-in_ok-file-in-Came-clause-table : goal.returns-in_ok-file-in-Came-clause-table
 returns-in_ok-file-in-Came-clause-table c =
     let ts = c.args.pieces.now in
-    let is = put_in c.args.table ts c.args.to.now c.requires.before c.len.result c.in-Came.at c.len.ensures c.index-pieces-at.result c.index-pieces-at.is c.in_ok-file-in-Came.file c.in_ok-file-in-Came.ensures c.in-Came.ensures in
+    let is = put_in c.args.reads_others c.args.table ts c.args.to.now c.requires.before c.len.result c.in-Came.at c.len.ensures c.index-pieces-at.result c.index-pieces-at.is c.in_ok-file-in-Came.file c.in_ok-file-in-Came.ensures c.in-Came.ensures in
     subst (λ (files : List NamedFacts). IfOk c.update.result (λ after. after.0 ≡ files)) is c.update.ensures.table
 
 pub returns-in_ok-file-in-Came-clause-graph : goal.returns-in_ok-file-in-Came-clause-graph
 returns-in_ok-file-in-Came-clause-graph c =
     let ts = c.args.pieces.now in
-    let w = workspace_of ts in
+    let w = workspace_of c.args.reads_others ts in
     let table : List NamedFacts = c.args.table in
     let to = c.args.to.now in
     let was = c.requires.before in
     let file = c.in_ok-file-in-Came.file in
-    let is = put_in table ts to was c.len.result c.in-Came.at c.len.ensures c.index-pieces-at.result c.index-pieces-at.is file c.in_ok-file-in-Came.ensures c.in-Came.ensures in
+    let is = put_in c.args.reads_others table ts to was c.len.result c.in-Came.at c.len.ensures c.index-pieces-at.result c.index-pieces-at.is file c.in_ok-file-in-Came.ensures c.in-Came.ensures in
     let there : (g n : ℕ) → place to g ≡ Some n → g < length table = λ g n moves.
     let stayed : IsSameFile was.old w g n = was.stayed g n moves in
     omega (arith, stayed.there, ap length was.is, length-map was.old named_facts) in
@@ -46,12 +46,12 @@ returns-in_ok-file-in-Came-clause-graph c =
 
 pub returns-in-Left-clause-table : goal.returns-in-Left-clause-table
 returns-in-Left-clause-table c =
-    let is = taken_out c.args.table c.args.pieces.now c.args.to.now c.requires.before c.len.result c.in-Left.at c.len.ensures c.in-Left.ensures in
+    let is = taken_out c.args.reads_others c.args.table c.args.pieces.now c.args.to.now c.requires.before c.len.result c.in-Left.at c.len.ensures c.in-Left.ensures in
     subst (λ (files : List NamedFacts). IfOk c.update-in-Left.result (λ after. after.0 ≡ files)) is c.update-in-Left.ensures.table
 
 pub returns-in-Left-clause-graph : goal.returns-in-Left-clause-graph
 returns-in-Left-clause-graph c =
     let table : List NamedFacts = c.args.table in
     let to = c.args.to.now in
-    let w = workspace_of c.args.pieces.now in
+    let w = workspace_of c.args.reads_others c.args.pieces.now in
     IfOk-weaker c.update-in-Left.result _ _ (λ after kept. kept_as (λ before. before ≡ graph_of table) ⊥ ((g n : ℕ) → place to g ≡ Some n → HasMoved (graph_of table) (graph_of (all_facts w)) to g n) (λ no. absurd no) after.1 kept) c.update-in-Left.ensures.graph

@@ -1,8 +1,7 @@
 use Rattle.std.proofs.Common.{◌≡◌, ◌<◌, ◌≤◌, ◌+◌, true, length, get_or, sym, ap, subst, ◌∙◌, arith}
 use Rattle.std.proofs.lemmas.List.{get_or_default}
 use Rattle.work_links.specs.Asked.{has_all}
-use Rattle.work_index.proofs.Numbered.{nothing}
-use Rattle.work_index.specs.Workspace.{asked_of}
+use Rattle.work_index.specs.Workspace.{asked_of, no_file}
 use Rattle.work_update.specs.Changes.{waits}
 use Rattle.work_update.specs.declared.update_texts.Relinking.{Relinking}
 use Rattle.work_update.proofs.Relinked.{AreFollowed, all_followed, one_followed, passed_over}
@@ -23,8 +22,8 @@ loop-file-preserved c =
     elim c.if-not-index.branch [
       | then-not-index+in_ok-effect+in_ok-take_effect x ↦
           let source = c.index-files-file.result in
-          let at : get_or w n nothing ≡ source = get_or_default w n nothing source there ∙ sym c.index-files-file.is in
-          let has : has_all x.asked.result.now (asked_of (let file = get_or w n nothing in file.1)) ≡ true = rw at x.asked.ensures in
+          let at : get_or w n no_file ≡ source = get_or_default w n no_file source there ∙ sym c.index-files-file.is in
+          let has : has_all x.asked.result.now (asked_of (let file = get_or w n no_file in file.1)) ≡ true = rw at x.asked.ensures in
           one_followed new w start now n so_far c.args.change.now c.requires.before c.requires.seen_law c.requires.touched_law there x.asked.result.now has (is ∙ x.if-not-index.true) x.in_ok-effect.effect x.in_ok-effect.ensures c.if-not-index.relinking
           (record {
             links = ap (λ (r : Relinking). r.resolutions.links.items) x.relinking-is ∙ x.in_ok-take_effect.ensures.links;

@@ -11,7 +11,7 @@ use Rattle.work_update.proofs.update_texts.link_again.Goals as goal
 pub returns-clause-links : goal.returns-clause-links
 returns-clause-links c = λ w is.
     let file = c.args.file in
-    let text = c.args.source.now.1 in
+    let text = c.args.source.now.1.text in
     let links : List Links = c.args.resolutions.now.links.items in
     let found : c.in_ok-links-2.links ≡ resolved c.args.table.now file text (value_tree text) = cc (c.in_ok-links-2.ensures, c.in_ok-links.links-is, c.in_ok-links.ensures.links) in
     ap (λ (l : Links). set links file l) (found ∙ ap (λ (fs : List NamedFacts). resolved fs file text (value_tree text)) is)
@@ -19,6 +19,6 @@ returns-clause-links c = λ w is.
 pub returns-clause-diagnostics : goal.returns-clause-diagnostics
 returns-clause-diagnostics c = λ w is.
     let file = c.args.file in
-    let text = c.args.source.now.1 in
+    let text = c.args.source.now.1.text in
     let diagnostics : List (List Diag) = c.args.resolutions.now.diagnostics.items in
     ap (λ (ds : List Diag). set diagnostics file ds) (c.in_ok-links.ensures.diagnostics ∙ ap (λ (fs : List NamedFacts). merged (facts_of text) (resolved fs file text (value_tree text))) is)

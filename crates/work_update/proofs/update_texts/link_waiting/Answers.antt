@@ -1,8 +1,7 @@
 use Rattle.std.proofs.Common.{◌≡◌, ◌<◌, ◌≤◌, ◌+◌, true, length, get_or, set, sym, ap, subst, ◌∙◌, arith}
 use Rattle.std.proofs.lemmas.List.{get_or_default}
-use Rattle.work_index.specs.Workspace.{diagnostics_of, resolution_of}
+use Rattle.work_index.specs.Workspace.{diagnostics_of, no_file, resolution_of}
 use Rattle.work_index.specs.declared.analysis.Resolutions.{Resolutions}
-use Rattle.work_index.proofs.Numbered.{nothing}
 use Rattle.work_update.proofs.Relinked.{AreLinkedUpTo, all_diagnostics, all_links, one_linked, one_passed}
 use Rattle.work_update.proofs.update_texts.link_waiting.Goals as goal
 use Rattle.work_update.proofs.update_texts.link_waiting.Goals.{then-index+in_ok-link_again, else-index}
@@ -22,7 +21,7 @@ loop-file-preserved c =
     elim c.if-index.branch [
       | then-index+in_ok-link_again x ↦
           let source = c.index-files-file.result in
-          let at : get_or w n nothing ≡ source = get_or_default w n nothing source there ∙ sym c.index-files-file.is in
+          let at : get_or w n no_file ≡ source = get_or_default w n no_file source there ∙ sym c.index-files-file.is in
           one_linked files w waiting found n so_far c.requires.table there c.if-index.resolutions
           (ap (λ (r : Resolutions). r.links.items) x.resolutions-is ∙ x.in_ok-link_again.ensures.links w c.requires.table ∙ ap (λ file. set found.links.items n (resolution_of w (n, file))) (sym at))
           (ap (λ (r : Resolutions). r.diagnostics.items) x.resolutions-is ∙ x.in_ok-link_again.ensures.diagnostics w c.requires.table ∙ ap (λ file. set found.diagnostics.items n (diagnostics_of w (n, file))) (sym at))

@@ -10,6 +10,6 @@ returns-clause-links c = cc (c.in_ok-links.ensures, c.text.ensures, c.requires.t
 
 pub returns-clause-diagnostics : goal.returns-clause-diagnostics
 returns-clause-diagnostics c =
-    let text = c.args.source.now.1 in
+    let text = c.args.source.now.1.text in
     let found : c.in_ok-links.links ≡ resolved c.args.table.now c.args.file text (value_tree text) = cc (c.in_ok-links.ensures, c.text.ensures, c.requires.tree) in
-    c.in_ok-diagnostics.ensures text (c.get.ensures ∙ c.facts.ensures) ∙ ap (merged (facts_of text)) found
+    c.in_ok-diagnostics.ensures c.args.source.now.1 (c.get.ensures ∙ c.facts.ensures) ∙ ap (merged (facts_of text)) found

@@ -1,8 +1,9 @@
-use Rattle.std.proofs.Common.{◌<◌, ◌∙◌, ℕ, ap, subst, sym}
+use Rattle.std.proofs.Common.{◌<◌, ◌∙◌, ℕ, ap, map, subst, sym}
 use Rattle.std.specs.Prelude.{All}
+use Rattle.std.proofs.lemmas.Simd.{map-map}
 use Rattle.work_index.specs.AnalysisParts.{AreParts}
-use Rattle.work_index.specs.Pieces.{workspace_of}
-use Rattle.work_index.specs.Workspace.{Workspace, all_facts, diagnostics_of, resolution_of, workspace_in}
+use Rattle.work_index.specs.Pieces.{source_of, workspace_of}
+use Rattle.work_index.specs.Workspace.{SourceAt, Workspace, all_facts, diagnostics_of, resolution_of, workspace_in}
 use Rattle.work_index.proofs.Numbered.{made, pieces_length}
 use Rattle.work_update.specs.Changes.{WasKnown}
 use Rattle.work_update.specs.Edited.{StaysBut}
@@ -10,13 +11,13 @@ use Rattle.work_update.proofs.KeptFiles.{none_kept}
 use Rattle.work_update.proofs.update_texts.update_texts.Goals as goal
 
 pub with_changed-requires-clause-within : goal.with_changed-requires-clause-within
-with_changed-requires-clause-within c = subst (λ (n : ℕ). All (λ f. f < n) c.args.changed.now) (pieces_length c.args.pieces.now) c.requires.within
+with_changed-requires-clause-within c = subst (λ (n : ℕ). All (λ f. f < n) c.args.changed.now) (pieces_length c.args.reads_others c.args.pieces.now) c.requires.within
 
 pub with_changed-requires-clause-kept : goal.with_changed-requires-clause-kept
 with_changed-requires-clause-kept c =
     let of : AreParts (workspace_in c.args.earlier) c.into_parts-table.result = c.into_parts-table.ensures.parts in
-    let stay : StaysBut c.args.changed.now (workspace_in c.args.earlier) (workspace_of c.args.pieces.now) = c.requires.others in
-    none_kept (workspace_in c.args.earlier) c.into_parts-table.result.files.items (workspace_of c.args.pieces.now) c.args.changed.now of.files stay.paths stay.others
+    let stay : StaysBut c.args.changed.now (workspace_in c.args.earlier) (workspace_of c.args.reads_others c.args.pieces.now) = c.requires.others in
+    none_kept (workspace_in c.args.earlier) c.into_parts-table.result.files.items (workspace_of c.args.reads_others c.args.pieces.now) c.args.changed.now of.files stay.paths stay.others
 
 pub bring_up-requires : goal.bring_up-requires
 bring_up-requires c =
@@ -31,9 +32,13 @@ bring_up-requires c =
       diagnostics = of.diagnostics;
     })
 
+pub link_waiting-requires-clause-texts : goal.link_waiting-requires-clause-texts
+link_waiting-requires-clause-texts c =
+    sym (ap (map (λ (f : SourceAt). f.1.text)) (c.as_slice-2.ensures.value ∙ c.in_ok-files.ensures) ∙ map-map (λ (f : SourceAt). f.1.text) (source_of c.args.reads_others) c.args.pieces.now)
+
 pub of_parts-requires : goal.of_parts-requires
 of_parts-requires c =
-    let w = workspace_of c.args.pieces.now in
+    let w = workspace_of c.args.reads_others c.args.pieces.now in
     let first = c.as_slice.ensures.value ∙ c.in_ok-files.ensures in
     let second = c.as_slice-2.ensures.value ∙ c.in_ok-files.ensures in (
       w,
@@ -47,7 +52,7 @@ of_parts-requires c =
 
 pub returns : goal.returns
 returns c =
-    let w = workspace_of c.args.pieces.now in
+    let w = workspace_of c.args.reads_others c.args.pieces.now in
     let first = c.as_slice.ensures.value ∙ c.in_ok-files.ensures in
     let second = c.as_slice-2.ensures.value ∙ c.in_ok-files.ensures in
     c.of_parts.ensures w (record {

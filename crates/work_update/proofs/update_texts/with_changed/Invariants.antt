@@ -4,4 +4,4 @@ use Rattle.work_update.specs.Changes.{AreKeptBut}
 use Rattle.work_update.proofs.update_texts.with_changed.Given as goal
 
 abbrev pub invariant-loop-file : goal.invariant-loop-file
-invariant-loop-file l = AreKeptBut (drop l.file-index l.changed) l.files.items (workspace_of l.pieces)
+invariant-loop-file l = AreKeptBut (drop l.file-index l.changed) l.files.items (workspace_of l.reads_others l.pieces)

@@ -1,4 +1,4 @@
-use Rattle.std.proofs.Common.{◌≡◌, ℕ, List, Err, length, refl, ap, ap₂, subst, sym, ◌∙◌, map}
+use Rattle.std.proofs.Common.{◌≡◌, ℕ, List, Bool, Err, length, refl, ap, ap₂, subst, sym, ◌∙◌, map}
 use Rattle.work_space.proofs.FirstEvents.{refused_with}
 use Rattle.lsp_rpc.specs.ClientCapabilities.{default_client}
 use Rattle.lsp_rpc.specs.Message.{message_view}
@@ -17,10 +17,11 @@ use Rattle.lsp_core.proofs.session_core.Core.counting_from.Goals as goal
 
 pub returns-clause-is_after : goal.returns-clause-is_after
 returns-clause-is_after c =
-    let fresh : List (List ℕ) → Files → State = λ roots files. record { roots = roots; client = default_client; phase = Uninitialized; files = files } in
+    let fresh : List (List ℕ) → Files → Bool → State = λ roots files reads_others. record { roots = roots; client = default_client; phase = Uninitialized; files = files; reads_others = reads_others } in
     let files : c.in_ok-workspace.workspace.files ≡ files_of c.args.config = c.in_ok-workspace.ensures.files ∙ ap from_disk c.in_ok-roots.ensures.files in
+    let others : c.in_ok-workspace.workspace.reads_others ≡ c.args.config.reads_others = c.in_ok-workspace.ensures.others ∙ c.reads_others-reads_others.ensures in
     let begun : state_of c.new.result c.in_ok-workspace.workspace ≡ start c.args.config =
-    c.new.ensures c.in_ok-workspace.workspace ∙ ap₂ fresh c.in_ok-roots.ensures.roots files in
+    c.new.ensures c.in_ok-workspace.workspace ∙ ap₂ (λ roots. fresh roots c.in_ok-workspace.workspace.files) c.in_ok-roots.ensures.roots others ∙ ap (λ fs. fresh c.args.config.roots fs c.args.config.reads_others) files in
     record {
       legal = tt;
       state = begun ∙ sym (ap (λ r. r.state) (session-none c.args.config));

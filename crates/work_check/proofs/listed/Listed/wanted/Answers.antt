@@ -1,6 +1,7 @@
 use Rattle.std.proofs.Common.{◌≡◌, ◌∙◌, ◌+◌, ◌<◌, ℕ, Bool, true, false, List, [], ◌∷◌, ◌++◌, ap, append-nil, filter, get_or, length, refl, sym, take}
 use Rattle.std.proofs.lemmas.List.{take_all, take_more}
 use Rattle.std.proofs.lemmas.List.Elements.{filter-append}
+use Rattle.work_index.specs.Workspace.{no_file}
 use Rattle.work_check.specs.Listing.{is_wanted}
 use Rattle.work_check.proofs.listed.Listed.wanted.Goals.{then-wants+in_ok-push, else-wants}
 use Rattle.work_check.proofs.listed.Listed.wanted.Goals as goal
@@ -23,7 +24,7 @@ module _ (p : ℕ → Bool) (xs : List ℕ) (k : ℕ) (lt : k < length xs) where
 pub loop-file-preserved : goal.loop-file-preserved
 loop-file-preserved c =
     let l = c.args.self.now in
-    let test : ℕ → Bool = λ n. is_wanted l.how (get_or l.files n ([], [])).0 in
+    let test : ℕ → Bool = λ n. is_wanted l.how (get_or l.files n no_file).0 in
     let xs = c.args.files.now in
     let k = c.loop-file.file-index in
     let is = c.wants.ensures in
@@ -36,4 +37,4 @@ loop-file-preserved c =
 pub returns : goal.returns
 returns c =
     let l = c.args.self.now in
-    c.loop-file.invariant ∙ ap (filter (λ n. is_wanted l.how (get_or l.files n ([], [])).0)) (take_all c.loop-file.file-index c.args.files.now c.loop-file-test.false)
+    c.loop-file.invariant ∙ ap (filter (λ n. is_wanted l.how (get_or l.files n no_file).0)) (take_all c.loop-file.file-index c.args.files.now c.loop-file-test.false)

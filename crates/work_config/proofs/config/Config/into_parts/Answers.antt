@@ -6,4 +6,4 @@ use Rattle.work_config.proofs.config.Config.into_parts.Goals as goal
 
 pub returns-clause-files : goal.returns-clause-files
 returns-clause-files c =
-    in_order (roots_texts c.self.inside.roots) _ _ c.self.inside.good c.in_ok-sort_by_root.ensures.same c.in_ok-sort_by_root.ensures.sorted c.in_ok-sort_by_root.ensures.stable ∙ ap in_root_order c.self.view_is
+    in_order (roots_texts c.self.inside.roots) _ _ c.self.inside.reads_others c.self.inside.good c.in_ok-sort_by_root.ensures.same c.in_ok-sort_by_root.ensures.sorted c.in_ok-sort_by_root.ensures.stable ∙ ap in_root_order c.self.view_is

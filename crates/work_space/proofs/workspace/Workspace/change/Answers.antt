@@ -1,4 +1,4 @@
-use Rattle.std.proofs.Common.{◌≡◌, ◌∙◌, Option, Some, option_map, ap, sym, subst, refl, true, map}
+use Rattle.std.proofs.Common.{◌≡◌, ◌∙◌, Option, Some, option_map, ap, sym, subst, true, map}
 use Rattle.doc_text.specs.Edits.{change_view}
 use Rattle.work_files.specs.Files.{AreInPathOrder}
 use Rattle.work_space.specs.Kept.{IsKept}
@@ -28,8 +28,9 @@ invariant_of-self-2 c =
     let open_there = some_open path old both.0 in
     let order : AreInPathOrder new = subst AreInPathOrder (sym (c.set_document.ensures ∙ both.1)) (changed_files-order version encoding changes path old c.self.invariant.ordered) in
     let texts : TextsChangeAt path (Some text) old new = subst (λ f. TextsChangeAt path (Some text) old f) (sym c.set_document.ensures) (document-texts path document old open_there.0 open_there.1) in
-    let kept : IsKept old c.self.inside.board c.take.result = subst (λ (k : Option LastAnalysis). IsKept old c.self.inside.board k) (sym c.take.ensures.value) c.self.invariant in
-    keeps path (Some text) old new c.self.inside.board c.tell.new.board c.take.result c.known_after.result kept order c.tell.ensures.here (rw c.in_ok-text.ensures at c.in_ok-tell.ensures.texts) texts (rw c.in_ok-own.ensures.ok at c.known_after.ensures)
+    let others = c.self.inside.reads_others in
+    let kept : IsKept old c.self.inside.board others c.take.result = subst (λ (k : Option LastAnalysis). IsKept old c.self.inside.board others k) (sym c.take.ensures.value) c.self.invariant in
+    keeps others path (Some text) old new c.self.inside.board c.tell.new.board c.take.result c.known_after.result kept order c.tell.ensures.here (rw c.in_ok-text.ensures at c.in_ok-tell.ensures.texts) texts (rw c.in_ok-own.ensures.ok at c.known_after.ensures)
 
 pub returns-clause-board : goal.returns-clause-board
 returns-clause-board c =

@@ -25,8 +25,9 @@ invariant_of-self-2 c =
     let order : AreInPathOrder new = subst AreInPathOrder (sym c.close.ensures) (closed_files-order path old c.self.invariant.ordered) in
     let at_once : TextsChangeAt path t old (closed_files path old) = subst (λ u. TextsChangeAt path u old (closed_files path old)) (sym c.in_ok-kept.ensures) (close-texts path old open_there.0 c.self.invariant.ordered open_there.1) in
     let texts : TextsChangeAt path t old new = subst (λ f. TextsChangeAt path t old f) (sym c.close.ensures) at_once in
-    let kept : IsKept old c.self.inside.board c.take.result = subst (λ (k : Option LastAnalysis). IsKept old c.self.inside.board k) (sym c.take.ensures.value) c.self.invariant in
-    keeps path t old new c.self.inside.board c.tell.new.board c.take.result c.known_after.result kept order c.tell.ensures.here c.in_ok-tell.ensures.texts texts
+    let others = c.self.inside.reads_others in
+    let kept : IsKept old c.self.inside.board others c.take.result = subst (λ (k : Option LastAnalysis). IsKept old c.self.inside.board others k) (sym c.take.ensures.value) c.self.invariant in
+    keeps others path t old new c.self.inside.board c.tell.new.board c.take.result c.known_after.result kept order c.tell.ensures.here c.in_ok-tell.ensures.texts texts
     (rw c.in_ok-own.ensures.ok at c.known_after.ensures)
 
 pub returns-clause-board : goal.returns-clause-board

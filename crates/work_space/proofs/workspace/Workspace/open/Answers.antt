@@ -1,4 +1,4 @@
-use Rattle.std.proofs.Common.{◌≡◌, ◌∙◌, [], ◌∷◌, Option, Some, ap, sym, subst, refl, true, string_bytes}
+use Rattle.std.proofs.Common.{◌≡◌, ◌∙◌, [], ◌∷◌, Option, Some, ap, sym, subst, refl, string_bytes}
 use Rattle.std.specs.Prelude.{IsSome}
 use Rattle.work_files.specs.Files.{AreInPathOrder, file_at, opened_files}
 use Rattle.work_space.specs.Kept.{IsKept}
@@ -18,14 +18,14 @@ pub invariant_of-self : goal.invariant_of-self
 invariant_of-self c =
     let old = c.self.inside.files in
     let room = c.make_room.new.self in
-    keeps_same old room c.self.inside.board c.self.inside.known c.self.invariant (c.make_room.ensures.ordered c.self.invariant.ordered) c.make_room.ensures.texts
+    keeps_same c.self.inside.reads_others old room c.self.inside.board c.self.inside.known c.self.invariant (c.make_room.ensures.ordered c.self.invariant.ordered) c.make_room.ensures.texts
 
 pub invariant_of-self-in_err-tell : goal.invariant_of-self-in_err-tell
 invariant_of-self-in_err-tell c =
     let old = c.self.inside.files in
     let room = c.make_room.new.self in
-    subst (λ b. IsKept room b c.self.inside.known) (sym c.in_err-tell.ensures.err)
-    (keeps_same old room c.self.inside.board c.self.inside.known c.self.invariant (c.make_room.ensures.ordered c.self.invariant.ordered) c.make_room.ensures.texts)
+    subst (λ b. IsKept room b c.self.inside.reads_others c.self.inside.known) (sym c.in_err-tell.ensures.err)
+    (keeps_same c.self.inside.reads_others old room c.self.inside.board c.self.inside.known c.self.invariant (c.make_room.ensures.ordered c.self.invariant.ordered) c.make_room.ensures.texts)
 
 pub open-requires : goal.open-requires
 open-requires c =
@@ -43,8 +43,9 @@ invariant_of-self-2 c =
     let opened : new ≡ opened_files uri document path old = c.open.ensures ∙ ap (opened_files uri document path) c.in_ok-make_room.ensures.room ∙ opened_in_room uri document path old in
     let order : AreInPathOrder new = subst AreInPathOrder (sym opened) (opened_files-order uri document path old c.self.invariant.ordered) in
     let texts : TextsChangeAt path (Some document.text) old new = subst (λ f. TextsChangeAt path (Some document.text) old f) (sym opened) (texts_change.opened uri document path old) in
-    let kept : IsKept old c.self.inside.board c.take.result = subst (λ (k : Option LastAnalysis). IsKept old c.self.inside.board k) (sym c.take.ensures.value) c.self.invariant in
-    keeps path (Some document.text) old new c.self.inside.board c.tell.new.board c.take.result c.known_after.result kept order c.tell.ensures.here (rw c.in_ok-text.ensures at c.in_ok-tell.ensures.texts) texts (rw c.in_ok-own.ensures.ok at c.known_after.ensures)
+    let others = c.self.inside.reads_others in
+    let kept : IsKept old c.self.inside.board others c.take.result = subst (λ (k : Option LastAnalysis). IsKept old c.self.inside.board others k) (sym c.take.ensures.value) c.self.invariant in
+    keeps others path (Some document.text) old new c.self.inside.board c.tell.new.board c.take.result c.known_after.result kept order c.tell.ensures.here (rw c.in_ok-text.ensures at c.in_ok-tell.ensures.texts) texts (rw c.in_ok-own.ensures.ok at c.known_after.ensures)
 
 pub returns-clause-files : goal.returns-clause-files
 returns-clause-files c =

@@ -13,4 +13,4 @@ invariant_of-self c =
     let new = c.keep.new.self in
     let copy = sym c.in-Some.is ∙ c.in_ok-text.ensures in
     let saved : new ≡ saved_files path old = c.keep.ensures ∙ kept_text path old c.in-Some.text copy in
-    keeps_same old new c.self.inside.board c.self.inside.known c.self.invariant (subst AreInPathOrder (sym saved) (saved_files-order path old c.self.invariant.ordered)) (λ q. ap (text_at q) saved ∙ texts_change.saved path old q)
+    keeps_same c.self.inside.reads_others old new c.self.inside.board c.self.inside.known c.self.invariant (subst AreInPathOrder (sym saved) (saved_files-order path old c.self.invariant.ordered)) (λ q. ap (text_at q) saved ∙ texts_change.saved path old q)

@@ -1,7 +1,0 @@
-use Rattle.std.proofs.Math.Logic.{∥∥₁_elim}
-use base.Stored.{Coded-set}
-use Rattle.proto_decls.specs.contracts.fact.FileFacts.{the_row}
-use Rattle.work_index.proofs.file_work.shared_in.Goals as goal
-
-pub returns : goal.returns
-returns c = ∥∥₁_elim c.out.ensures (Coded-set the_row.coded _ _) (λ stands. stands.1)
