@@ -14,7 +14,10 @@ from test_serve import ASK, EXIT, INITIALIZE, INITIALIZED, OPEN, PROTO3, REPORT,
 FILES, MESSAGES = 12, 500
 
 # Calls of the program of cases, each with its own answers where it finds no memory. An error that is nothing but a refusal is answered as one of the line.
-CALLS = {"tokens": [], "parse": [], "facts": [], "analyse": [], "symbols": [], "references": [], "rename": ["fault 706"], "merge": [], "closed": []}
+CALLS = {
+    **dict.fromkeys(("tokens", "parse", "facts", "others", "analyse", "analyse with others", "symbols", "references", "merge", "closed"), []),
+    "rename": ["fault 706"],
+}
 
 # A stream of one frame, and its end, which is asked for twice, as a fault is.
 STREAM = "frames :: 0 ends 5000 :: Content-Length: 33␍|␍|" + EXIT

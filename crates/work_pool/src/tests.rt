@@ -8,7 +8,7 @@ use std::sync::atomic::{AtomicU64, Ordering};
 use std::sync::{Arc, Wait};
 use std::test::Fail;
 use std::thread::Threads;
-use work_index::{Done, FileWork};
+use work_index::{Done, FileWork, facts_in};
 
 // A gate that counts who enters.
 #[derive(Drop)]
@@ -39,7 +39,7 @@ fn shown(alloc: Global, done: &Done) -> Result<String, AllocError> {
         Done::Made(piece) => {
             let (path, stamp) = (piece.path(), piece.stamp());
             let mut line = format!(in alloc; "{path} {stamp}")?;
-            for decl in piece.out().facts.get().decls.as_slice() {
+            for decl in facts_in(piece).decls.as_slice() {
                 line.push(' ')?;
                 line.push_str(decl.full_name.to_text(alloc)?.as_str())?;
             }
