@@ -31,7 +31,7 @@ NAMES_A_FAILURE = re.compile(r"rt: .*(NOT PROVED|FAILED)|FAILED: |\S+: (NAMES ON
 COUNTS = re.compile(r"(\d+) (?:passed|refused), (\d+) (?:failed|not)$")
 PROVED = re.compile(r"rt: (\w+) (?:proved$|is kept: )")
 # Where a line of `rt ci` on a crate begins: two of its threads that print at once do so on one line.
-BEGINS = re.compile(r"(?=rt: \w+ (?:proved$|is kept: |NOT PROVED))")
+BEGINS = re.compile(r"(?=rt: \w+(?:: its tests are)? (?:proved$|is kept: |NOT PROVED))")
 # The memory that a proof at one job and a check of edits have been seen to take, in bytes.
 OF_A_PROOF, OF_EDITS = 4_500_000_000, 2_000_000_000
 STARTED, TURN = time.time(), threading.Lock()

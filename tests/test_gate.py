@@ -108,10 +108,11 @@ class Lines(unittest.TestCase):
 
     def test_two_at_once(self):
         told, part = [], gate.Part("rt ci", 1, 0)
-        part.run(["printf", "rt: one NOT PROVED: its library low failedrt: two NOT PROVED: its library low failedrt: three proved\n\n\n1 passed, 2 failed\n"], "/", told.append)
-        self.assertEqual(told[1:3], ["rt: two NOT PROVED: its library low failed", "rt: three proved"])
-        self.assertEqual(part.named, [f"rt ci: rt: {it} NOT PROVED: its library low failed" for it in ("one", "two")])
-        self.assertEqual((part.passed, part.failed), (1, 2))
+        lines = [*(f"rt: {it} NOT PROVED: its library low failed" for it in ("one", "two")), "rt: three: its tests are NOT PROVED", "rt: four proved"]
+        part.run(["printf", "%s%s%s%s\n\n\n\n1 passed, 3 failed\n", *lines], "/", told.append)
+        self.assertEqual(told, [*lines, *3 * [""], "1 passed, 3 failed"])
+        self.assertEqual(part.named, [f"rt ci: {it}" for it in lines[:3]])
+        self.assertEqual((part.passed, part.failed), (1, 3))
 
 
 class Programs(unittest.TestCase):
