@@ -109,7 +109,7 @@ fn write_shares<R: Threads + Wait>(
 }
 
 /// Numbers of threads, and files: what comes of an analysis by so many threads. One answer stands for all numbers; one that differs
-/// is shown too. Texts that aren't proto3 are read for what they declare, or aren't.
+/// is shown too. `reads_others` says whether texts that aren't proto3 are read for what they declare.
 pub fn answer<R: Threads + Wait>(
     rt: &R,
     alloc: Global,

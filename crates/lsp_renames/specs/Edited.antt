@@ -19,6 +19,6 @@ respelled name text places = respelled_from name text 0 places
 abbrev pub places_in : ℕ → List Place → List Place
 places_in file places = filter (λ p. p.file == file) places
 
--- the workspace with a name for what stands at each of the places; that a text is read if it isn't proto3, or isn't, stays
+-- the workspace with a name for what stands at each of the places; whether a text is read if it isn't proto3 stays as it was
 abbrev pub edited : List ℕ → List Place → Workspace → Workspace
 edited name places w = map (λ e. (e.1.0, with_text e.1.1 (respelled name e.1.1.text (places_in e.0 places)))) (enumerate_from 0 w)

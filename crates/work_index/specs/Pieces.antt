@@ -4,7 +4,7 @@ use Rattle.piece_collector.specs.Views.{TextAt}
 use Rattle.work_index.specs.Workspace.{SourceAt, Workspace}
 
 module _ (reads_others : Bool) where
-  -- the file of a piece, whose text is read if it isn't proto3, or isn't
+  -- the file of a piece, given whether texts that aren't proto3 are read
   abbrev pub source_of : TextAt → SourceAt
   source_of p = (p.path, record { text = p.text; reads_others = reads_others })
 

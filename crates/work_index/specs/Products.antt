@@ -17,7 +17,7 @@ abbrev pub IsOfOther : List ℕ → Option KnownText → Type 0
 IsOfOther text None = is_other text ≡ false
 IsOfOther text (Some known) = IsKnownOf (record { text = text; reads_others = true }) known
 
--- what of a product counts where such texts are read, or aren't
+-- what of a product counts, given whether such texts are read
 abbrev pub known_by : Bool → FileOut → KnownText
 known_by false out = out.own
 known_by true out = unwrap_or out.other out.own

@@ -20,8 +20,8 @@ use sqlite_items::Items;
 use std::alloc::{AllocError, Global};
 use thread_heap::make_room_for_files;
 
-/// The files of pieces, in their order; texts that aren't proto3 are read for what they declare, or aren't. An `Err` comes only where memory was
-/// refused.
+/// The files of pieces, in their order; `reads_others` says whether texts that aren't proto3 are read for what they declare. An `Err` comes only
+/// where memory was refused.
 pub fn files_of(
     alloc: Global,
     pieces: &[Piece<FileWork>],
@@ -165,7 +165,7 @@ pub fn diagnose_files<G: Gate>(
 }
 
 /// The analysis of the workspace of some pieces, which are in the order of their paths, no path twice: it is that of their
-/// paths and texts, of which those that aren't proto3 are read for what they declare, or aren't. An `Err` comes only where memory was refused.
+/// paths and texts; `reads_others` says whether those that aren't proto3 are read for what they declare. An `Err` comes only where memory was refused.
 pub fn analyse_here(
     alloc: Global,
     pieces: &[Piece<FileWork>],

@@ -11,8 +11,8 @@ use proto_decls::Name;
 use proto_resolve::Table;
 use std::alloc::{AllocError, Global};
 
-/// A file with its facts, which the piece shares, where texts that aren't proto3 are read for what they declare, or aren't. An `Err` comes only where
-/// memory was refused.
+/// A file with its facts, which the piece shares; `reads_others` says whether texts that aren't proto3 are read for what they declare. An `Err` comes
+/// only where memory was refused.
 pub fn named_facts(
     alloc: Global,
     piece: &Piece<FileWork>,
@@ -41,8 +41,8 @@ pub fn all_facts(
     Ok(files)
 }
 
-/// The table of the files of some pieces, which are in the order of their paths; texts that aren't proto3 are read for what they declare, or aren't. It
-/// shares their facts. An `Err` comes only where memory was refused.
+/// The table of the files of some pieces, which are in the order of their paths; `reads_others` says whether texts that aren't proto3 are read for what
+/// they declare. It shares their facts. An `Err` comes only where memory was refused.
 pub fn table_of(
     alloc: Global,
     pieces: &[Piece<FileWork>],

@@ -51,7 +51,7 @@ pub struct FileOut {
 }
 
 impl FileOut {
-    /// What is known of the text, where texts that aren't proto3 are read for what they declare, or aren't.
+    /// What is known of the text; `reads_others` says whether texts that aren't proto3 are read for what they declare.
     pub fn known(&self, reads_others: bool) -> &KnownText
         ensures { result.now ≡ known_by reads_others self.now }
     {
@@ -202,7 +202,7 @@ pub fn tree_in(piece: &Piece<FileWork>) -> &FileTree
     &piece.out().tree
 }
 
-/// What is known of a piece's text, where texts that aren't proto3 are read for what they declare, or aren't.
+/// What is known of a piece's text; `reads_others` says whether texts that aren't proto3 are read for what they declare.
 pub fn known_in(piece: &Piece<FileWork>, reads_others: bool) -> &KnownText
     ensures facts { result.now.facts ≡ facts_by reads_others piece.now.text }
     ensures asked { has_all result.now.asked.value (asked_of (record { text = piece.now.text; reads_others = reads_others })) ≡ true }

@@ -30,8 +30,8 @@ impl Model for PartTable {
 }
 
 impl PartTable {
-    /// The table of the files of some pieces, the first of which has this number, from 0, among all; texts that aren't proto3 are read for what they
-    /// declare, or aren't. Their facts aren't copied. An `Err` comes only where memory was refused.
+    /// The table of the files of some pieces, the first of which has this number, from 0, among all; `reads_others` says whether texts that
+    /// aren't proto3 are read for what they declare. Their facts aren't copied. An `Err` comes only where memory was refused.
     pub fn of(
         alloc: Global,
         first: usize,

@@ -33,8 +33,8 @@ impl Model for SourceFile {
 }
 
 impl SourceFile {
-    /// The file of a piece, whose text is read for what it declares if it isn't proto3, or isn't. An `Err` comes only where memory was refused, here
-    /// and below.
+    /// The file of a piece; `reads_others` says whether a text that isn't proto3 is read for what it declares. An `Err` comes only where memory was
+    /// refused, here and below.
     pub fn of(
         alloc: Global,
         piece: &Piece<FileWork>,

@@ -31,6 +31,6 @@ pub record StaysBut (files : List ℕ) (old new : Workspace) : Type 0 where
 abbrev pub OthersStay : Type 0
 OthersStay = (edits : List (ℕ × List ℕ)) (w : Workspace) → StaysBut (map (λ e. e.0) edits) w (with_texts edits w)
 
--- a file, by its path and its text, which is read if it isn't proto3, or isn't
+-- a file, by its path and its text, given whether texts that aren't proto3 are read
 abbrev pub named_text : Bool → NamedText → SourceAt
 named_text reads_others f = (string_bytes f.path, record { text = string_bytes f.text; reads_others = reads_others })

@@ -25,7 +25,7 @@ NameAllChanges paths before after = (path : List ℕ) → (Contains paths path �
 abbrev pub IsInOrder : Workspace → Type 0
 IsInOrder w = IsStrictlySortedBy (slice_cmp nat_cmp) (map (λ f. f.0) w)
 
--- the workspace of the texts of a board, which are read if they aren't proto3, or aren't
+-- the workspace of the texts of a board, given whether those that aren't proto3 are read
 pub record IsWorkspaceOf (reads_others : Bool) (board : BoardView) (w : Workspace) : Type 0 where
   pub ordered : IsInOrder w
   pub sources : (path : List ℕ) → sources_by_path w path ≡ known_source reads_others path board

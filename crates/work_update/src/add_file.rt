@@ -60,7 +60,8 @@ fn make_way(
     Ok(())
 }
 
-// The parts of an analysis with one more file, which is that of the piece and gets the number `at`. Its text is read if it isn't proto3, or isn't.
+// The parts of an analysis with one more file, which is that of the piece and gets the number `at`. `reads_others` says whether its
+// text is read if it isn't proto3.
 fn with_file(
     alloc: Global,
     parts: AnalysisParts,
@@ -93,9 +94,9 @@ fn with_file(
     })
 }
 
-// The analysis of a workspace with one more file, which is that of the piece, from the analysis without it. Its text is read if it isn't proto3, or
-// isn't. None of the others imports it: those stay linked as they were, but for the numbers of files, of which none changes if its path comes after
-// theirs.
+// The analysis of a workspace with one more file, which is that of the piece, from the analysis without it. `reads_others` says whether its text
+// is read if it isn't proto3. None of the others imports it: those stay linked as they were, but for the numbers of files, of which none changes if
+// its path comes after theirs.
 pub fn add_file(
     alloc: Global,
     earlier: Analysis,

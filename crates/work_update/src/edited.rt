@@ -203,8 +203,8 @@ pub fn edits_keep_meaning(
     }
 }
 
-/// The analysis of a workspace of these files, which are in the order of their paths, no path twice. Texts that aren't proto3 are read for what they
-/// declare, or aren't. An `Err` comes only where memory was refused.
+/// The analysis of a workspace of these files, which are in the order of their paths, no path twice. `reads_others` says whether texts that aren't
+/// proto3 are read for what they declare. An `Err` comes only where memory was refused.
 pub fn analyse_texts(
     alloc: Global,
     files: &[NamedText],

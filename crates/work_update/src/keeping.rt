@@ -81,7 +81,7 @@ struct ReadText {
     facts: SharedFacts,
 }
 
-// Reads a text; if it isn't proto3, for what it declares, or not.
+// Reads a text; `reads_others` says whether one that isn't proto3 is read for what it declares.
 fn read_text(alloc: Global, text: &str, reads_others: bool) -> Result<ReadText, AllocError>
     ensures tree { IfOk result (λ read. read.tree ≡ value_tree text.now) }
     ensures facts { IfOk result (λ read. read.facts ≡ facts_by reads_others text.now) }

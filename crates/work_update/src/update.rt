@@ -137,7 +137,7 @@ fn numbers_now(
     Ok(to)
 }
 
-// The analysis of the workspace of some pieces, from one before changes at these paths; texts that aren't proto3 are read, or aren't.
+// The analysis of the workspace of some pieces, from one before changes at these paths; `reads_others` says whether texts that aren't proto3 are read.
 fn update_by(
     alloc: Global,
     earlier: Analysis,
@@ -160,8 +160,8 @@ fn update_by(
 }
 
 /// The analysis of the texts of a board, from one of earlier texts: `changes` are the paths at which these differ, and there may be others
-/// among them. The board has to be complete, and is as before. Texts that aren't proto3 are read for what they declare, or aren't; a file that was
-/// read otherwise before counts as one that got another text.
+/// among them. The board has to be complete, and is as before. `reads_others` says whether texts that aren't proto3 are read for what they
+/// declare; a file that was read otherwise before counts as one that got another text.
 ///
 /// If files only got other texts, the links of those are made anew, and of the files that may ask for a name that a change touches. If files
 /// came or left, those that stayed and see the same files keep their links, under the numbers that declarations have now. A file that came,
@@ -192,8 +192,8 @@ pub fn update_analysis(
     updated
 }
 
-/// The analysis of the texts of a board, from nothing. The board has to be complete, and is as before. Texts that aren't proto3 are read for what they
-/// declare, or aren't. An `Err` comes only where memory was refused.
+/// The analysis of the texts of a board, from nothing. The board has to be complete, and is as before. `reads_others` says whether texts that
+/// aren't proto3 are read for what they declare. An `Err` comes only where memory was refused.
 pub fn analyse_board(
     alloc: Global,
     board: &mut Board<FileWork>,

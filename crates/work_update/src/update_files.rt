@@ -143,9 +143,9 @@ fn link_after(
     Ok(resolutions)
 }
 
-// The analysis of the workspace of some pieces after files came, left or got other texts; texts that aren't proto3 are read, or aren't. Given are the
-// analysis before, and for each file there its number now, or `None` if it left, has another text or is read otherwise. A file that stayed as it was,
-// and sees the same files as before, is not linked again.
+// The analysis of the workspace of some pieces after files came, left or got other texts; `reads_others` says whether those that aren't proto3 are
+// read. Given are the analysis before, and for each file there its number now, or `None` if it left, has another text or is read otherwise. A file
+// that stayed as it was, and sees the same files as before, is not linked again.
 pub fn update_files(
     alloc: Global,
     earlier: Analysis,

@@ -68,8 +68,8 @@ pub fn move_of(to: &[Option<FileNo>], before: usize, now: usize) -> FilesMove
 }
 
 // The table of the files of some pieces, from the table before files came, left or got other texts; and the graph before, where imports may lead
-// elsewhere now. Texts that aren't proto3 are read, or aren't. Where one came or left and all others stayed, its names alone are put in order or taken
-// out; else the table is made anew.
+// elsewhere now. `reads_others` says whether texts that aren't proto3 are read. Where one came or left and all others stayed, its names alone are put
+// in order or taken out; else the table is made anew.
 pub fn table_after(
     alloc: Global,
     table: Table,

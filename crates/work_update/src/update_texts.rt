@@ -387,7 +387,7 @@ fn link_waiting(
     Ok(resolutions)
 }
 
-// The files of all pieces, from those before changes of the texts of some, which are read if they aren't proto3, or aren't: the others stay.
+// The files of all pieces, from those before changes of the texts of some: the others stay. `reads_others` says whether texts that aren't proto3 are read.
 fn with_changed(
     alloc: Global,
     files: Vec<SourceFile>,
@@ -406,8 +406,8 @@ fn with_changed(
     Ok(files)
 }
 
-// The analysis of the workspace of some pieces after changes of the texts of some files, whose numbers are given; those of them that aren't proto3 are
-// read, or aren't. Links again only those files, the files of which the imports say another thing than before, and of those that see a changed one the
+// The analysis of the workspace of some pieces after changes of the texts of some files, whose numbers are given; `reads_others` says whether those that
+// aren't proto3 are read. Links again only those files, the files of which the imports say another thing than before, and of those that see a changed one the
 // ones that may ask for a name that the change touches: all of them if it touches many names, or the package's.
 pub fn update_texts(
     alloc: Global,
