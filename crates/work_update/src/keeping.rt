@@ -5,7 +5,6 @@ ghost use Rattle.proto_names.specs.Files.{facts_at};
 ghost use Rattle.proto_resolve.specs.Resolved.{resolved};
 ghost use Rattle.proto_tree.specs.declared.node.FileTree.{FileTree};
 ghost use Rattle.proto_tree.specs.Read.{value_tree};
-ghost use Rattle.work_index.specs.Products.{known_by};
 ghost use Rattle.work_index.specs.Workspace.{Workspace, all_facts, analysis, merged, source_facts};
 ghost use Rattle.work_update.specs.Bindings.{Means, SameMeaning};
 ghost use Rattle.work_update.specs.Changes.{AreLinked, HasPlaces, IsLinked, waits};
@@ -20,7 +19,7 @@ use proto_decls::{FileFacts, SharedFacts};
 use proto_resolve::{Index, Table, resolve_file, same_exports, same_imports, seen_law};
 use proto_tree::FileTree;
 use std::alloc::{AllocError, Global};
-use work_index::{Analysis, FileOut, FileWork, KnownText, SourceFile, diagnostics_of, tree_of};
+use work_index::{Analysis, FileOut, FileWork, SourceFile, diagnostics_of, tree_of};
 
 // Other texts by file, and whose are taken first: that of one file, if it is given, else those of all.
 #[derive(Clone, Copy)]
@@ -60,19 +59,6 @@ fn is_quiet(before: &FileFacts, after: &FileFacts) -> bool
     same_exports(after, before) && same_imports(after, before)
 }
 
-// What is known of a text, given what it says as proto3, and as another language if it is one: where such texts are read the second counts.
-fn known_of(own: KnownText, as_other: Option<KnownText>, reads_others: bool) -> KnownText
-    ensures { (tree : FileTree) → result ≡ known_by reads_others (record { tree = tree; own = own; other = as_other }) }
-{
-    if !reads_others {
-        return own;
-    }
-    match as_other {
-        Some(known) => known,
-        None => own,
-    }
-}
-
 // A text that was read.
 #[derive(Drop)]
 struct ReadText {
@@ -86,8 +72,9 @@ fn read_text(alloc: Global, text: &str, reads_others: bool) -> Result<ReadText, 
     ensures tree { IfOk result (λ read. read.tree ≡ value_tree text.now) }
     ensures facts { IfOk result (λ read. read.facts ≡ facts_by reads_others text.now) }
 {
-    let FileOut { tree, own, other } = FileWork::linking_once(alloc).work(text)?;
-    let KnownText { facts, .. } = known_of(own, other, reads_others);
+    let out = FileWork::linking_once(alloc).work(text)?;
+    let facts = out.known(reads_others).facts.another()?;
+    let FileOut { tree, .. } = out;
     Ok(ReadText { tree, facts })
 }
 
