@@ -30,7 +30,7 @@ LOST = {
     "b.proto": 'S|import "a.proto";|message B { Gone g = 1; }|',
     "c.proto": 'S|import "b.proto";|message C { Gone g = 1; }|',
 }
-WHY = "not checked for unknown names, since an import is missing or isn't proto3"
+WHY = "not checked for unknown names, since an import is missing, too long or not proto3"
 
 # Files by path, the files that are named, and what the last line says behind `protols: `.
 UNCHECKED = [

@@ -50,6 +50,6 @@ pub fn tell_summary(rt: &impl Eprint, checked: &Checked) {
     let unchecked = checked.unchecked;
     let unchecked_word = word_for(unchecked, "file", "files");
     let _told = eprintln!(rt;
-        "protols: {files} {file_word} checked, {errors} {error_word}; {unchecked} {unchecked_word} not checked for unknown names, since an import is missing or isn't proto3: {path}"
+        "protols: {files} {file_word} checked, {errors} {error_word}; {unchecked} {unchecked_word} not checked for unknown names, since an import is missing, too long or not proto3: {path}"
     );
 }
