@@ -170,7 +170,7 @@ other_facts text = let own = facts_of text in other_facts_in text (other_tree te
 abbrev pub is_other : List ℕ → Bool
 is_other text = let tree = value_tree text in not (is_too_long text) && is_some (not_proto3 (stated text tree.nodes))
 
--- the facts of a text, where the declarations of such texts are read, or aren't
+-- the facts of a text; `reads_others` says whether one of another language is read for what it declares
 abbrev pub facts_by : Bool → List ℕ → FileFacts
 facts_by reads_others text = if reads_others && is_other text then other_facts text else facts_of text
 
