@@ -45,7 +45,7 @@ UNCHECKED = [
     # A file that isn't proto3 is a file whose imports aren't known, and none of those that aren't checked.
     ({"a.proto": 'S|import "old.proto";|message A { Gone g = 1; }|', "old.proto": OLD + 'import "none.proto";|'}, [], f"2 files checked, 0 errors; 1 file {WHY}: old.proto"),
     ({"old.proto": OLD + 'import "none.proto";|'}, [], "1 file checked, 0 errors"),
-    # Nor are those of a file that is too long, which is read no further.
+    # Of a file that is too long the imports aren't known either.
     ({"a.proto": 'S|import "big.proto";|message A { Gone g = 1; }|', "big.proto": "S|" + " " * 16_777_216}, [], f"2 files checked, 1 error; 1 file {WHY}: big.proto"),
     # Public imports show a file from afar.
     (
