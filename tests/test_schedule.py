@@ -40,6 +40,17 @@ class Order(unittest.TestCase):
         self.assertEqual(self.started([*beside, *TASKS], 4)[0][0], ("low", 4))
         self.assertEqual(self.started([*beside, *TASKS], 3)[0][0], ("low", 1))
 
+    def test_two_chains_of_about_a_length(self):
+        tasks = [task("beside", [], 60), task("low", [], 10), task("left", ["low"], 100), task("right", ["low"], 98), task("top", ["left", "right"], 100)]
+        # Neither waits for the processor that `beside` has, and both share the jobs.
+        self.assertEqual(self.started(tasks, 2), ([("low", 1), ("beside", 1), ("left", 1), ("right", 1), ("top", 2)], 110 + 100 * kit.GAIN))
+        self.assertEqual(self.started(tasks, 4)[0], [("low", 4), ("beside", 1), ("left", 2), ("right", 2), ("top", 4)])
+
+    def test_many_of_a_length_start_as_processors_get_free(self):
+        tasks = [task(f"same{n}", [], 100) for n in range(9)]
+        self.assertEqual(len(kit.Schedule(tasks, None, 4).starting(0.0)), 4)
+        self.assertEqual(self.started(tasks, 4)[0], [(f"same{n}", 1) for n in range(7)] + [("same7", 2), ("same8", 4)])
+
     def test_what_runs_counts_by_what_is_left_of_it(self):
         tasks = [task("short", [], 50), task("long", [], 100), task("other", ["short"], 90)]
         self.assertEqual(self.started(tasks, 4)[0], [("short", 4), ("long", 1), ("other", 4)])

@@ -28,6 +28,8 @@ TESTS_OF_TOOLS = ("test_gate.py", "test_schedule.py", "test_wrong_bodies.py")
 # The most jobs that one check gains from, how many processors it keeps busy then, and which part of its time at one job it takes (a chain of 3,650 s at one
 # job took 2,770 s by the clock).
 MOST_JOBS, BUSY, GAIN = 4, 2, 0.76
+# A chain of at least this part of the longest counts as the longest.
+NEARLY = 0.95
 # Which part of its time from nothing a check takes over kept work, as seen of the program's.
 OVER_KEPT = 0.3
 # What a crate without a row takes: so many seconds for any check, and one for so many bytes.
@@ -162,15 +164,15 @@ def proof_task(crate, is_used):
     return task_of(crate, crate.name, [it.name for it in crate.below()], call)
 
 
-Running = collections.namedtuple("Running", "processors memory ends")
+Running = collections.namedtuple("Running", "processors memory ends is_first")
 
 
 class Schedule:
     """Tasks side by side: each once those that it waits for went well, first the one with the longest chain of others behind it.
 
-    A check has one job. One with the longest chain of all that are left or running, less what those have done, has as many as a check gains from, if it
-    starts where the processors that these keep busy would idle, or where there are so many processors that the others still have some. All others run at a
-    lower priority, since the whole ends no sooner than that chain does.
+    A check has one job. Those with the longest chain of all that are left or running, less what those have done, or nearly, share as many as a check gains
+    from, if they start where the processors that these keep busy would idle, or where there are so many processors that the others still have some. They
+    don't wait for a processor that another has: all others run at a lower priority, since the whole ends no sooner than that chain does.
     """
 
     def __init__(self, tasks, ended, lanes):
@@ -203,17 +205,21 @@ class Schedule:
     def starting(self, now):
         """The tasks that start now, each with its jobs and whether it has the longest chain. They count as running from then on."""
         ready = [it for it in self.left if all(self.given.get(below) is True for below in self.waits_for(it))]
-        found = []
+        longest = max((self.chain(it, now) for it in [*self.running, *(other.name for other in self.left)]), default=0)
+        first, found = [it for it in ready if self.behind[it.name] >= NEARLY * longest], []
         for at, task in enumerate(ready):
+            is_first = task in first
             idle = self.lanes - sum(it.processors for it in self.running.values())
+            taken = sum(it.processors for it in self.running.values() if it.is_first or not is_first)
             room = self.memory - sum(it.memory for it in self.running.values())
-            if idle <= 0 or self.running and task.memory > room:
+            if taken >= self.lanes or self.running and task.memory > room:
                 continue
-            is_first = self.behind[task.name] >= max(self.chain(it, now) for it in [*self.running, *(other.name for other in self.left)])
-            is_wide = is_first and (self.lanes >= 2 * BUSY or idle - (len(ready) - at - 1) >= BUSY)
+            may_share = is_first and (self.lanes >= 2 * BUSY or idle - (len(ready) - at - 1) >= BUSY)
+            jobs = max(1, min(MOST_JOBS, self.lanes) // len(first)) if may_share else 1
             self.left.remove(task)
-            self.running[task.name] = Running(BUSY if is_wide else 1, task.memory, now + task.seconds * (GAIN if is_wide else 1))
-            found.append((task, min(MOST_JOBS, self.lanes) if is_wide else 1, is_first))
+            processors, part = (BUSY, GAIN) if jobs > 1 else (1, 1)
+            self.running[task.name] = Running(processors, task.memory, now + task.seconds * part, is_first)
+            found.append((task, jobs, is_first))
         return found
 
     def foreseen(self):
