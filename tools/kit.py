@@ -172,7 +172,7 @@ class Schedule:
 
     A check has one job. Those with the longest chain of all that are left or running, less what those have done, or nearly, share as many as a check gains
     from, if they start where the processors that these keep busy would idle, or where there are so many processors that the others still have some. They
-    don't wait for a processor that another has: all others run at a lower priority, since the whole ends no sooner than that chain does.
+    don't wait for a processor that one with a shorter chain has: all others run at a lower priority, since the whole ends no sooner than that chain does.
     """
 
     def __init__(self, tasks, ended, lanes):
@@ -210,6 +210,7 @@ class Schedule:
         for at, task in enumerate(ready):
             is_first = task in first
             idle = self.lanes - sum(it.processors for it in self.running.values())
+            # (the processors of those that don't give way to it)
             taken = sum(it.processors for it in self.running.values() if it.is_first or not is_first)
             room = self.memory - sum(it.memory for it in self.running.values())
             if taken >= self.lanes or self.running and task.memory > room:
