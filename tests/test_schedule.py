@@ -51,6 +51,11 @@ class Order(unittest.TestCase):
         self.assertEqual(len(kit.Schedule(tasks, None, 4).starting(0.0)), 4)
         self.assertEqual(self.started(tasks, 4)[0], [(f"same{n}", 1) for n in range(7)] + [("same7", 2), ("same8", 4)])
 
+    def test_a_task_gives_way_by_how_much_time_it_has_to_spare(self):
+        tasks = [task("low", [], 10), task("soon", [], 8), task("late", [], 1), task("middle", ["low"], 10), task("top", ["middle", "soon"], 80), task("end", ["late"], 9)]
+        found = {it.name: gives_way for it, _, gives_way in kit.Schedule(tasks, None, 4).starting(0.0)}
+        self.assertEqual(found, {"low": 0, "soon": kit.LEAST_WAY + 1, "late": kit.LEAST_WAY + 7})
+
     def test_what_runs_counts_by_what_is_left_of_it(self):
         tasks = [task("short", [], 50), task("long", [], 100), task("other", ["short"], 90)]
         self.assertEqual(self.started(tasks, 4)[0], [("short", 4), ("long", 1), ("other", 4)])

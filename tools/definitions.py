@@ -28,12 +28,16 @@ ORDER = {
     "proto_resolve": "Sites Names Uses Finding FindingLaws ViewDiagnostics Resolved Laws DiagnosticLaws Seen Outlines".split(),
     "doc_text": "Lines Positions Edits Laws".split(),
     "piece_collector": "Events History Views Board Runs Fault Laws".split(),
-    "work_index": "Workspace Unchecked Pieces Fault".split(),
-    "work_update": "Updates Bindings Edited Changes".split(),
+    "work_index": "Workspace Pieces".split(),
+    "work_shares": "Diagnosis Unchecked Fault".split(),
+    "work_changes": ["Changes"],
+    "work_meaning": "Bindings Edited".split(),
+    "work_update": ["Updates"],
     "work_files": "Files Roots Texts Disk View".split(),
     "work_space": "BoardTexts View".split(),
     "lsp_answers": "Context Questions Answers Reports Diagnostics Ranges Views".split(),
     "lsp_core": "Session Core Run View".split(),
+    "lsp_runs": ["Listed"],
 }
 
 LAW = re.compile(r"((?:^///.*\n)+)pub fn (\w+)\(", re.MULTILINE)
@@ -65,12 +69,6 @@ def front_comment(path, mark):
 
 def first_sentence(text):
     return re.split(r"(?<=\.) (?=[A-Z`(])", text)[0]
-
-
-def subject(crate):
-    """What the crate is about, in the first sentence of its own description."""
-    src = ROOT / "crates" / crate / "src"
-    return first_sentence(front_comment(src / "lib.rt" if (src / "lib.rt").exists() else src / "main.rt", "//! "))
 
 
 def named_files(crate):
@@ -211,7 +209,7 @@ def listed(crate, needed):
     if not (public or private or stated):
         return []
     at = f"../crates/{crate}"
-    lines = ["", f"## `{crate}`", "", subject(crate)]
+    lines = ["", f"## `{crate}`"]
     lines += [""] if public else []
     for name in public:
         said = first_sentence(front_comment(ROOT / "crates" / crate / "specs" / (name + ".antt"), "-- "))

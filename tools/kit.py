@@ -34,8 +34,8 @@ NEARLY = 0.95
 OVER_KEPT = 0.3
 # What a crate without a row takes: so many seconds for any check, and one for so many bytes.
 LEAST, BYTES = 10, 500
-# By how much the priority of a task without the longest chain is lowered, as `nice` counts.
-GIVES_WAY = 10
+# By how much the priority of a task is lowered that nothing waits for, as `nice` counts, and at least by how much that of one without the longest chain.
+GIVES_WAY, LEAST_WAY = 10, 2
 # The most memory that a check has been seen to take: what the kit foresees is far more for a crate above many others.
 MOST_MEMORY = 4_000_000_000
 
@@ -172,7 +172,8 @@ class Schedule:
 
     A check has one job. Those with the longest chain of all that are left or running, less what those have done, or nearly, share as many as a check gains
     from, if they start where the processors that these keep busy would idle, or where there are so many processors that the others still have some. They
-    don't wait for a processor that one with a shorter chain has: all others run at a lower priority, since the whole ends no sooner than that chain does.
+    don't wait for a processor that one with a shorter chain has: all others run at a lower priority, since the whole ends no sooner than that chain does. The
+    shorter a task's chain, the lower: one with little time to spare would else hold up the longest, which waits for it too.
     """
 
     def __init__(self, tasks, ended, lanes):
@@ -203,7 +204,7 @@ class Schedule:
         return self.behind[name] - max(0.0, done)
 
     def starting(self, now):
-        """The tasks that start now, each with its jobs and whether it has the longest chain. They count as running from then on."""
+        """The tasks that start now, each with its jobs and by how much its priority is lowered. They count as running from then on."""
         ready = [it for it in self.left if all(self.given.get(below) is True for below in self.waits_for(it))]
         longest = max((self.chain(it, now) for it in [*self.running, *(other.name for other in self.left)]), default=0)
         first, found = [it for it in ready if self.behind[it.name] >= NEARLY * longest], []
@@ -220,7 +221,8 @@ class Schedule:
             self.left.remove(task)
             processors, part = (BUSY, GAIN) if jobs > 1 else (1, 1)
             self.running[task.name] = Running(processors, task.memory, now + task.seconds * part, is_first)
-            found.append((task, jobs, is_first))
+            spare = 1 - self.behind[task.name] / longest if longest else 0
+            found.append((task, jobs, 0 if is_first else LEAST_WAY + round((GIVES_WAY - LEAST_WAY) * spare)))
         return found
 
     def foreseen(self):
@@ -234,12 +236,11 @@ class Schedule:
             it.starting(now)
         return (now - began) * (self.took / self.expected if self.expected else 1)
 
-    def one(self, task, jobs, is_first):
+    def one(self, task, jobs, gives_way):
         began, well = time.time(), False
         try:
-            if not is_first:
-                # (on Linux a priority is a thread's own, and what it starts has the same)
-                os.setpriority(os.PRIO_PROCESS, threading.get_native_id(), os.getpriority(os.PRIO_PROCESS, 0) + GIVES_WAY)
+            # (on Linux a priority is a thread's own, and what it starts has the same)
+            os.setpriority(os.PRIO_PROCESS, threading.get_native_id(), os.getpriority(os.PRIO_PROCESS, 0) + gives_way)
             well = task.call(jobs)
         finally:
             with self.turn:

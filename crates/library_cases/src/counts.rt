@@ -14,7 +14,7 @@ use proto_lex::lex;
 use proto_syntax::{parse, parse_text};
 use std::alloc::{AllocError, Global};
 use work_index::{Analysis, FileWork, analyse_here};
-use work_update::analyse_texts;
+use work_meaning::analyse_texts;
 
 // How many statements stand at the top of a text.
 fn statements(alloc: Global, text: &str) -> Result<usize, AllocError> {

@@ -6,7 +6,7 @@ use crate::words::first_word;
 use piece_collector::{Board, Job, Lent, Piece, Work};
 use std::alloc::{AllocError, Global};
 use work_index::FileWork;
-use work_update::NamedText;
+use work_meaning::NamedText;
 
 /// A text with its path and its stamp.
 #[derive(Clone, Copy)]

@@ -8,7 +8,8 @@ use proto_decls::Diag;
 use std::alloc::{AllocError, Global};
 use std::sync::Wait;
 use std::thread::Threads;
-use work_index::{Analysis, AnalysisSettings, FileWork, analyse_in_shares};
+use work_index::{Analysis, FileWork};
+use work_shares::{AnalysisSettings, analyse_in_shares};
 
 // Line and column of an offset, from 0.
 fn place(text: &str, offset: usize) -> (u64, u64) {

@@ -6,7 +6,8 @@ use import_graph::{Graph, NamedFacts, are_in_path_order};
 use piece_collector::Piece;
 use proto_names::NameTable;
 use std::alloc::{AllocError, Global};
-use work_index::{FileWork, PartTable, merge_tables};
+use work_index::FileWork;
+use work_shares::{PartTable, merge_tables};
 
 // The table of one of three stretches of files, by its number from 0. The first two have a third of the files each, the last one has the rest.
 fn stretch(

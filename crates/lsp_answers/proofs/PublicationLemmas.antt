@@ -10,7 +10,9 @@ use Rattle.proto_decls.specs.declared.diagnostic.Diag.{Diag}
 use Rattle.lsp_rpc.specs.Notification.{publication_value}
 use Rattle.lsp_rpc.specs.Workspace.{DocumentData}
 use Rattle.work_files.specs.Files.{OpenDocument, File, Files, file_at, text_of, workspace}
-use Rattle.work_space.proofs.WorkspaceOrder.{Ascend, ascend-workspace}
+use Rattle.work_files.proofs.WorkspaceOrder.{ascend-texts}
+use Rattle.work_update.specs.Updates.{IsInOrder}
+use Rattle.work_update.proofs.ByPath.{sources-ascend}
 use Rattle.work_index.specs.Workspace.{SourceAt, analysis, diags_at, sources_of}
 use Rattle.lsp_answers.specs.Context.{Context}
 use Rattle.lsp_answers.specs.Diagnostics.{placed}
@@ -100,7 +102,7 @@ module _ (c : Context) where
 pub publications_are_reports : PublicationsAgreeWithReports
 publications_are_reports reads_others c order is =
     let w = c.workspace in
-    let ascend : Ascend w = subst Ascend (sym is) (ascend-workspace reads_others c.files order) in
+    let ascend : IsInOrder w = subst IsInOrder (sym is) (sources-ascend reads_others (workspace c.files) (ascend-texts c.files order)) in
     let reports : workspace_reports c ≡ map (report_at c) w = by_path (λ diags file. report_of c diags (file.0, file.1.text)) (analysis w) w refl ascend in
     let own : map (found_said c) c.files ≡ map (own_said c) c.files = own-values (said c) c.files order in
     published-said c c.files ∙ ap (filter_map published_of) own ∙ own-agree c c.files

@@ -18,8 +18,9 @@ use Rattle.lsp_rpc.specs.Diagnostic.{DiagnosticData}
 use Rattle.lsp_rpc.specs.Workspace.{DocumentData}
 use Rattle.work_files.specs.Files.{text_at, workspace}
 use Rattle.work_files.proofs.PathOrder.{order-apart}
-use Rattle.work_space.proofs.WorkspaceOrder.{Ascend, ascend-workspace}
-use Rattle.work_update.proofs.ByPath.{AreBehind, paths}
+use Rattle.work_files.proofs.WorkspaceOrder.{ascend-texts}
+use Rattle.work_update.specs.Updates.{IsInOrder}
+use Rattle.work_update.proofs.ByPath.{AreBehind, paths, sources-ascend}
 use Rattle.work_files.proofs.WorkspaceLemmas.{text_of_workspace}
 use Rattle.work_index.specs.Workspace.{Source, SourceAt, Workspace, AnalysisData, analysis, diags_at, no_file, sources_of}
 use Rattle.lsp_answers.specs.Diagnostics.{placed}
@@ -44,14 +45,14 @@ module _ {X : Type 0} (of : List Diag → SourceAt → X) (diags : List (List Di
   pass-one n p ps [] all = refl
   pass-one n p ps (file ∷ w) all = rw (another_path p file.0 all.0) (ap (λ l. found_from (n + 1) ps file ∷ l) (pass-one n p ps w all.1))
 
-  found-all : (n : ℕ) (w : Workspace) → Ascend w → map found_at (enumerate_from n w) ≡ map (found_from n (paths w)) w
+  found-all : (n : ℕ) (w : Workspace) → IsInOrder w → map found_at (enumerate_from n w) ≡ map (found_from n (paths w)) w
   unfolding IsStrictlySortedBy
   found-all n [] order = refl
   found-all n (file ∷ w) order =
       rw ((bytes_decides file.0 file.0).1 refl) (ap (λ l. found_at (n, file) ∷ l) (found-all (n + 1) w order.1 ∙ sym (pass-one n file.0 (paths w) w order.0)))
 
 -- what is made of each file by what an analysis says of its path
-pub by_path : {X : Type 0} (of : List Diag → SourceAt → X) (a : AnalysisData) (w : Workspace) → a.paths ≡ paths w → Ascend w
+pub by_path : {X : Type 0} (of : List Diag → SourceAt → X) (a : AnalysisData) (w : Workspace) → a.paths ≡ paths w → IsInOrder w
     → map (found_at of a.diagnostics) (enumerate_from 0 w) ≡ map (λ file. of (diags_at a file.0) file) w
 by_path of a w same ascend =
     found-all of a.diagnostics 0 w ascend
@@ -96,7 +97,7 @@ reports_of_documents reads_others c order is =
     let e = c.encoding in
     let w = c.workspace in
     let a = analysis w in
-    let ascend : Ascend w = subst Ascend (sym is) (ascend-workspace reads_others c.files order) in
+    let ascend : IsInOrder w = subst IsInOrder (sym is) (sources-ascend reads_others (workspace c.files) (ascend-texts c.files order)) in
     let said : List Diag → SourceAt → List DiagnosticData = λ diags file. placed e file.1.text diags in
     let of : SourceAt → Option (List ℕ) → List DiagnosticData = λ file text. placed e (unwrap_or text []) (diags_at a file.0) in
     let text : (path : List ℕ) → text_in (value_in w path) ≡ text_at path c.files =

@@ -12,7 +12,7 @@ use lsp_rpc::{Id, rename_reply, report_reply, symbols_reply, workspace_reply};
 use std::alloc::{AllocError, Global};
 use std::marker::Model;
 use work_files::Files;
-use work_space::Snapshot;
+use work_index::Snapshot;
 use workspace_uri::Roots;
 
 /// The files of a session with their analysis, about which questions are answered. Contracts see the texts of the roots, the

@@ -15,7 +15,7 @@ use lsp_rpc::{Diagnostic, DocumentReport};
 use proto_decls::Diag;
 use std::alloc::AllocError;
 use work_files::FileEntry;
-use work_space::Snapshot;
+use work_index::Snapshot;
 
 // What is wrong in the file with a path; nothing where there is none.
 fn diagnostics_at<'s>(snapshot: &Snapshot<'s>, path: &str) -> &'s [Diag]

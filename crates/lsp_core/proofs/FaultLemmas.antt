@@ -3,8 +3,8 @@ use Rattle.std.proofs.Common.{◌≡◌, refl, ap, Result, Ok, Err}
 use Rattle.std.specs.Prelude.{IfErr}
 use Rattle.piece_collector.specs.declared.fault.BoardFault.{BoardFault}
 use Rattle.piece_collector.specs.declared.fault.BoardFault.TheVariants as board
-use Rattle.work_index.specs.declared.fault.AnalyseFault.{AnalyseFault}
-use Rattle.work_index.specs.declared.fault.AnalyseFault.TheVariants as analysis
+use Rattle.work_shares.specs.declared.fault.AnalyseFault.{AnalyseFault}
+use Rattle.work_shares.specs.declared.fault.AnalyseFault.TheVariants as analysis
 use Rattle.work_pool.specs.declared.fault.PoolFault.{PoolFault}
 use Rattle.work_pool.specs.declared.fault.PoolFault.TheVariants as pool
 use Rattle.work_config.specs.Fault.{core_fault_of, fault_of_analysis, fault_of_pool, serve_fault_of, ComesWithoutThreads, IsOfCore, IsOfWorkers}
@@ -42,10 +42,6 @@ refused_of_pool pool.ThreadRefused is = refl
 pub not_of_analysis : (fault : AnalyseFault) → ¬ (fault_of_analysis fault ≡ core.Exhausted)
 not_of_analysis analysis.Memory is = cc
 not_of_analysis analysis.ThreadRefused is = cc
-
-pub of_pool : (fault : PoolFault) → IsOfWorkers (serve_fault_of (fault_of_pool fault))
-of_pool pool.Memory = tt
-of_pool pool.ThreadRefused = tt
 
 -- only a core runs out of stamps
 pub of_served : (fault : CoreFault) → serve_fault_of fault ≡ serve.Exhausted → fault ≡ core.Exhausted

@@ -11,8 +11,6 @@ use Rattle.work_config.specs.Configuration.{Configuration}
 use Rattle.lsp_core.specs.Core.{Event, Arrive, Advance, Give, Offer, Fail, processed, done, board_events, CoreState, IsAfter, IsLegal, IsSettled}
 use Rattle.lsp_core.specs.Session.{session}
 use Rattle.lsp_core.specs.declared.step.Step.{Step}
-use Rattle.lsp_core.specs.declared.run.CoreEvent.{CoreEvent}
-use Rattle.lsp_core.specs.declared.run.CoreEvent.TheVariants as listed
 
 -- what a worker sends back, as an event of the core
 abbrev pub event_of : Done → Event
@@ -29,11 +27,6 @@ pub data Incoming : Type 0 where
 abbrev pub incoming_of_done : Done → Incoming
 incoming_of_done (job.Made piece) = Made piece.path piece.stamp piece.text
 incoming_of_done (job.Failed path stamp) = Failed (string_bytes path) stamp
-
-abbrev pub incoming_of : CoreEvent → Incoming
-incoming_of (listed.Message body) = Message body.items
-incoming_of (listed.Offer sent) = incoming_of_done sent
-incoming_of listed.Work = Work
 
 -- ---- all work
 

@@ -2,7 +2,7 @@
 //!
 //! A [`Core`] takes the bodies of messages and gives the bodies of replies. It gives a [`Job`] for each text, and takes what is made of it in any order.
 //! Requests about files wait until all work is there, and so does each notification after which diagnostics are published, to an editor that doesn't ask
-//! for them. [`run_core`] runs a core over a list of messages and of work that is brought.
+//! for them.
 #![tactic(auto)]
 
 mod documents;
@@ -11,11 +11,9 @@ mod pending;
 mod phase;
 mod questions;
 mod reply;
-mod run;
 mod session;
 mod session_core;
 mod step;
-mod working;
 
 pub use laws::{
     client_stays, documents_are_of_the_workspace, files_are_in_path_order, publications_agree,
@@ -24,7 +22,6 @@ pub use laws::{
 pub use lsp_answers::reports_agree_with_documents;
 pub use piece_collector::{Job, Piece, Verdict};
 pub use reply::Reply;
-pub use run::{CoreEvent, CoreRun, run_core};
 pub use session_core::Core;
 pub use work_config::{Config, CoreFault, DiskFile};
 pub use work_index::{Done, FileWork, Gate, OpenGate};

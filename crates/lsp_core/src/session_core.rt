@@ -26,8 +26,9 @@ use std::sync::Wait;
 use std::thread::Threads;
 use work_config::{Config, CoreFault};
 use work_dispatch::{bring_result, hand_out_jobs};
-use work_index::{AnalyseFault, Done, Gate};
+use work_index::{Done, Gate};
 use work_pool::Pool;
+use work_shares::AnalyseFault;
 use work_space::Workspace;
 
 /// A session that takes the bodies of messages and gives the bodies of replies. The work on the texts is done outside: the core
@@ -35,7 +36,6 @@ use work_space::Workspace;
 /// notification after which something is published; all later messages wait behind them.
 ///
 /// After a fault each call that answers a `Result` answers that fault, and changes nothing then.
-#[derive(Drop)]
 pub struct Core {
     alloc: Global,
     session: Session,
@@ -44,6 +44,20 @@ pub struct Core {
     /// What is left to be answered to the message that has begun.
     pending: Option<Pending>,
     fault: Option<CoreFault>,
+}
+
+// (Written out: a derived one would be proved again, with those of all parts, in each crate that drops such a value.)
+impl Drop for Core {
+    fn drop(self) {
+        let Core {
+            alloc: _,
+            session: _,
+            workspace: _,
+            queue: _,
+            pending: _,
+            fault: _,
+        } = self;
+    }
 }
 
 impl Core {
@@ -450,8 +464,8 @@ impl Core {
         self.unprocessed() > 0
     }
 
-    // How many messages came that aren't processed.
-    pub(crate) fn unprocessed(&self) -> usize
+    /// How many messages came that aren't processed.
+    pub fn unprocessed(&self) -> usize
         ensures { result ≡ unprocessed (core_state self.now) }
     {
         match &self.pending {
@@ -460,16 +474,11 @@ impl Core {
         }
     }
 
-    // The last stamp that was given; before the first one, the stamp that the board counts from.
-    pub(crate) fn last_stamp(&self) -> u64
+    /// The last stamp that was given; before the first one, the stamp that the board counts from.
+    pub fn last_stamp(&self) -> u64
         ensures { result ≡ (let board = (core_state self.now).board in board.last) }
     {
         self.workspace.last_stamp()
-    }
-
-    // The allocator that the core was made with.
-    pub(crate) fn alloc(&self) -> Global {
-        self.alloc
     }
 
     /// Whether an exit was processed, and if so, whether a shutdown came before it.

@@ -10,8 +10,8 @@ use Rattle.doc_text.specs.declared.position.Range.{Range}
 use Rattle.proto_laws.proofs.Holders.{cases_in}
 use Rattle.work_index.specs.Workspace.{SourceAt, analysis, no_file}
 use Rattle.work_index.proofs.Known.{known_workspace}
-use Rattle.work_update.specs.Bindings.{SameMeaning}
-use Rattle.work_update.specs.Edited.{with_text}
+use Rattle.work_meaning.specs.Bindings.{SameMeaning}
+use Rattle.work_meaning.specs.Edited.{with_text}
 use Rattle.lsp_renames.specs.Edited.{edited, places_in, respelled}
 use Rattle.lsp_queries.specs.Offsets.{symbol_at}
 use Rattle.lsp_queries.specs.PlaceLaws.{PlacesLieInTheTexts, text_in}

@@ -14,7 +14,7 @@ use Rattle.lsp_queries.proofs.Pairs.{pairs-head, pairs-tail}
 use Rattle.lsp_answers.specs.Answers.{DocumentPlaceData, document_of, edits_at, ranges_in, rename_reply, uri_at}
 use Rattle.lsp_answers.specs.Context.{Context}
 use Rattle.work_index.specs.Workspace.{SourceAt}
-use Rattle.work_update.specs.Edited.{with_text}
+use Rattle.work_meaning.specs.Edited.{with_text}
 use Rattle.work_laws.specs.EditLaws.{changed_from_the_last}
 use Rattle.lsp_laws.specs.DocumentLaws.{EditTheWorkspace, EditUnderUris, IsRenamed, RenamesEditTheWorkspace, RenamesEditUnderUris, UrisDiffer, changes_with, ranges_of, ranges_under, with_new_name}
 use Rattle.lsp_laws.proofs.EditedFiles.{numbered}

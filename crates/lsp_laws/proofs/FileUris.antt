@@ -16,7 +16,7 @@ use Rattle.lsp_rpc.specs.Params.{OpenedDocument, ChangedDocument, opened_of, cha
 use Rattle.lsp_rpc.specs.declared.method.Method.{Method}
 use Rattle.lsp_rpc.specs.declared.method.Method.TheVariants.{Initialize, Shutdown, Exit, DidOpen, DidChange, DidSave, DidClose, DocumentDiagnostic, WorkspaceDiagnostic, WorkspaceSymbol, Definition, References, Rename}
 use Rattle.work_index.specs.Workspace.{Workspace, no_file, sources_of}
-use Rattle.work_update.proofs.ByPath.{one_place, text-at}
+use Rattle.work_update.proofs.ByPath.{one_place, sources-ascend, text-at}
 use Rattle.work_update.proofs.Updates.{read_as}
 use Rattle.work_config.specs.Configuration.{Configuration, in_root_order}
 use Rattle.work_files.specs.Disk.{FileData}
@@ -24,7 +24,7 @@ use Rattle.work_files.specs.Files.{OpenDocument, File, Files, empty_file, file_a
 use Rattle.work_files.specs.Roots.{FoundFilesAreKept, FoundFilesStayKept, RootsAreAsBefore, RootsStay}
 use Rattle.work_space.proofs.Held.{source_in_workspace}
 use Rattle.work_files.proofs.PathOrder.{changed_files-order, closed_files-order, from_disk-order, opened_files-order, saved_files-order}
-use Rattle.work_space.proofs.WorkspaceOrder.{ascend-workspace}
+use Rattle.work_files.proofs.WorkspaceOrder.{ascend-texts}
 use Rattle.work_files.proofs.TextChanges.{file-set, file-with, file-without, file_by_bytes, same_test}
 use Rattle.lsp_answers.specs.Answers.{uri_at}
 use Rattle.lsp_answers.specs.Reports.{uri_of}
@@ -235,7 +235,7 @@ module _ (s : State) (good : IsGood s) where
   path_at n = (get_or (sources_of s.reads_others (workspace s.files)) n no_file).0
 
   has-text : (n : ℕ) → n < length known → option_map (read_as s.reads_others) (text_at (path_at n) s.files) ≡ Some (get_or known n no_file).1
-  has-text n lt = sym (source_in_workspace s.reads_others s.files good.order (path_at n)) ∙ text-at known n no_file (ascend-workspace s.reads_others s.files good.order) lt
+  has-text n lt = sym (source_in_workspace s.reads_others s.files good.order (path_at n)) ∙ text-at known n no_file (sources-ascend s.reads_others (workspace s.files) (ascend-texts s.files good.order)) lt
 
   leads-back : (n : ℕ) → n < length known → path_of s (uri_at (context_of s) n) ≡ Some (path_at n)
   leads-back n lt = by (file_at (path_at n) s.files) refl (has-text n lt)
@@ -247,7 +247,7 @@ module _ (s : State) (good : IsGood s) where
   uris-differ : UrisDiffer (context_of s)
   uris-differ m n first second same =
       let paths : Some (path_at m) ≡ Some (path_at n) = sym (leads-back m first) ∙ ap (path_of s) same ∙ leads-back n second in
-      one_place known m n no_file (ascend-workspace s.reads_others s.files good.order) first second (cc (paths))
+      one_place known m n no_file (sources-ascend s.reads_others (workspace s.files) (ascend-texts s.files good.order)) first second (cc (paths))
 
 pub uris-stay : RootsStay → FoundFilesStayKept → UrisStayApart
 uris-stay stay keep config bodies lead =

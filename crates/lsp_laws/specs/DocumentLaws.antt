@@ -5,8 +5,8 @@ use Rattle.std.specs.Option.{option_map_or}
 use Rattle.doc_text.specs.declared.position.Range.{Range}
 use Rattle.doc_text.specs.Edits.{ChangeData}
 use Rattle.work_index.specs.Workspace.{Workspace, analysis}
-use Rattle.work_update.specs.Bindings.{SameMeaning}
-use Rattle.work_update.specs.Edited.{with_text}
+use Rattle.work_meaning.specs.Bindings.{SameMeaning}
+use Rattle.work_meaning.specs.Edited.{with_text}
 use Rattle.lsp_renames.specs.ByFile.{by_file}
 use Rattle.lsp_renames.specs.Edited.{edited, places_in, respelled}
 use Rattle.lsp_queries.specs.PlaceLaws.{text_in}

@@ -1,8 +1,8 @@
 -- What is known after the edits.
 use Rattle.std.proofs.Common.{◌≡◌, ◌∙◌, ℕ, List, map, ap}
 use Rattle.work_index.specs.Workspace.{AnalysisData, analysis, texts_of, workspace_in}
-use Rattle.work_update.specs.Edited.{edit_view, with_texts}
-use Rattle.work_update.specs.declared.edited.EditedText.{EditedText}
+use Rattle.work_meaning.specs.Edited.{edit_view, with_texts}
+use Rattle.work_meaning.specs.declared.edited.EditedText.{EditedText}
 use Rattle.lsp_renames.specs.Cutting.{AreCutOut, edits_of}
 use Rattle.lsp_renames.specs.Renaming.{analysis_after}
 use Rattle.lsp_queries.specs.declared.place.Place.{Place}

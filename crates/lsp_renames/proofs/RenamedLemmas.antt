@@ -5,7 +5,7 @@ use Rattle.std.proofs.lemmas.Bool.{false_from_ne_true}
 use Rattle.proto_names.specs.declared.decl_ref.DeclRef.{DeclRef}
 use Rattle.work_index.specs.Workspace.{AnalysisData}
 use Rattle.lsp_queries.specs.Answers.{sites_of}
-use Rattle.work_update.specs.Bindings.{same_meaning}
+use Rattle.work_meaning.specs.Bindings.{same_meaning}
 use Rattle.lsp_queries.specs.Files.{place_of}
 use Rattle.lsp_queries.specs.Offsets.{symbol_at}
 use Rattle.lsp_renames.specs.Renaming.{ChangesMeaning, ChangesMeaningAt, KeepsMeaning, analysis_after, checked, is_identifier, is_taken, new_full_name, renamed_decl, renamed_known, renamed_symbol}
@@ -16,7 +16,7 @@ use Rattle.lsp_renames.specs.declared.fault.RenameFault.TheVariants.{BadName, Me
 use Rattle.lsp_queries.specs.declared.offsets.Symbol.{Symbol}
 use Rattle.lsp_queries.specs.declared.offsets.Symbol.TheVariants.{Declared, Package}
 use Rattle.lsp_queries.specs.declared.place.Place.{Place}
-use Rattle.work_update.proofs.Meaning.{same-meaning-law}
+use Rattle.work_meaning.proofs.Meaning.{same-meaning-law}
 
 abbrev Answer : Type 0
 Answer = Result (List Place) RenameFault

@@ -7,8 +7,8 @@ use Rattle.std.proofs.lemmas.Bool.{eqb-true}
 use Rattle.std.proofs.lemmas.List.{get_or-map, get_or_default}
 use Rattle.std.proofs.lemmas.List.Elements.{All-cons, All-head, All-map, All-nil, All-tail}
 use Rattle.std.proofs.lemmas.Slice.Zip.{get_or-zip, length-zip}
-use Rattle.work_update.specs.Edited.{edit_view, text_after, with_text, with_texts}
-use Rattle.work_update.specs.declared.edited.EditedText.{EditedText}
+use Rattle.work_meaning.specs.Edited.{edit_view, text_after, with_text, with_texts}
+use Rattle.work_meaning.specs.declared.edited.EditedText.{EditedText}
 use Rattle.lsp_queries.specs.declared.place.Place.{Place}
 use Rattle.lsp_renames.specs.Edited.{edited, places_in, respelled}
 use Rattle.lsp_renames.specs.ByFile.{behind, by_file, later}

@@ -2,7 +2,7 @@
 use Rattle.std.specs.Prelude.{ℕ, ◌==◌, List, [], ◌∷◌, ◌++◌, drop, filter, map, slice_range}
 use Rattle.std.specs.List.{enumerate_from}
 use Rattle.work_index.specs.Workspace.{Workspace}
-use Rattle.work_update.specs.Edited.{with_text}
+use Rattle.work_meaning.specs.Edited.{with_text}
 use Rattle.lsp_queries.specs.declared.place.Place.{Place}
 
 -- The text from an offset on, with a name for what stands at each of the places, which are in order: up to a place the text

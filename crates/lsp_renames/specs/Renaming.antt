@@ -9,7 +9,7 @@ use Rattle.proto_names.specs.Files.{is_within}
 use Rattle.proto_decls.specs.FullNames.{scope_of}
 use Rattle.work_index.specs.Workspace.{AnalysisData, analysis, decls_named, workspace_in}
 use Rattle.lsp_queries.specs.Answers.{sites_of}
-use Rattle.work_update.specs.Bindings.{SameMeaning, same_meaning}
+use Rattle.work_meaning.specs.Bindings.{SameMeaning, same_meaning}
 use Rattle.lsp_renames.specs.Edited.{edited}
 use Rattle.lsp_renames.specs.UnknownUses.{has_others, has_unknown_uses}
 use Rattle.lsp_queries.specs.Files.{decl_of, package_in, place_of}

@@ -1,14 +1,14 @@
 // The texts that a rename makes.
 ghost use Rattle.std.specs.Prelude.{◌≡◌, ◌≤◌, ◌<◌, ◌++◌, drop, length, map, string_bytes, IfOk};
 ghost use Rattle.work_index.specs.Workspace.{texts_of};
-ghost use Rattle.work_update.specs.Edited.{edit_view};
+ghost use Rattle.work_meaning.specs.Edited.{edit_view};
 ghost use Rattle.lsp_renames.specs.Cutting.{AreCutOut, CanBeCut, edits_of};
 ghost use Rattle.lsp_renames.specs.Edited as spec;
 
 use lsp_queries::{Place, count_in};
 use std::alloc::{AllocError, Global};
 use work_index::Analysis;
-use work_update::EditedText;
+use work_meaning::EditedText;
 
 // A text with a name at each of some places, which can be cut out of it in turn.
 fn respelled(alloc: Global, text: &str, places: &[Place], name: &str) -> Result<String, AllocError>

@@ -2,7 +2,7 @@
 //!
 //! [`rename`] answers by [`Edits`], whose places are in bytes; nothing here knows of positions, URIs or the protocol. What a new name
 //! changes is said in specs/Renaming.antt, which declarations may have uses that aren't known in specs/UnknownUses.antt, the texts that it makes in
-//! specs/Edited.antt, and when it changes the meaning of a name in specs/Bindings.antt of `work_update`.
+//! specs/Edited.antt, and when it changes the meaning of a name in specs/Bindings.antt of `work_meaning`.
 #![tactic(auto)]
 
 mod edited;

@@ -17,7 +17,7 @@ use proto_decls::{Name, joined};
 use proto_resolve::DeclRef;
 use std::alloc::{AllocError, Global};
 use work_index::Analysis;
-use work_update::edits_keep_meaning;
+use work_meaning::edits_keep_meaning;
 
 /// The edits that give a declaration another name: what stands at each of the places becomes the new name.
 #[derive(Debug, Drop)]

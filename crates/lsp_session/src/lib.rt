@@ -14,9 +14,8 @@ mod threading;
 pub use ended::Ended;
 pub use laws::nothing_follows_an_exit;
 pub use lsp_core::{
-    Core, CoreEvent, CoreRun, Reply, client_stays, documents_are_of_the_workspace,
-    files_are_in_path_order, publications_agree, reports_agree, reports_agree_with_documents,
-    run_core,
+    Core, Reply, client_stays, documents_are_of_the_workspace, files_are_in_path_order,
+    publications_agree, reports_agree, reports_agree_with_documents,
 };
 pub use piece_collector::{Job, Piece, Verdict};
 pub use serving::serve;

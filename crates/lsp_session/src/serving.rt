@@ -5,7 +5,7 @@ ghost use Rattle.lsp_frame.specs.Counts.{NoError, HasFailed};
 ghost use Rattle.lsp_frame.specs.FrameReader.{source_of, last_answer, IsOpen};
 ghost use Rattle.lsp_frame.specs.Stream.{frames};
 ghost use Rattle.work_config.specs.Configuration.{Configuration};
-ghost use Rattle.work_config.specs.Fault.{ComesWhileServing, IsOfWorkers, NoErrorUnless};
+ghost use Rattle.work_config.specs.Fault.{ComesWhileServing, NoErrorUnless};
 ghost use Rattle.work_config.specs.Sending.{SendsPrefix};
 ghost use Rattle.lsp_core.specs.Core.{ExhaustsStamps};
 ghost use Rattle.lsp_session.specs.Serving.{Calls, IsCaused, Served};
@@ -22,8 +22,8 @@ use std::alloc::Global;
 use std::marker::Send;
 use std::sync::{Arc, Wait};
 use std::thread::Threads;
-use work_config::{Config, ServeFault};
-use work_index::{FileWork, Gate};
+use work_config::{Config, ServeFault, start_pool};
+use work_index::Gate;
 use work_pool::Pool;
 
 // What a session is started with: the files, how many workers there are, and the gate that they pass.
@@ -31,21 +31,6 @@ struct Start<'g, G: Gate> {
     config: Config,
     workers: usize,
     gate: &'g Arc<G>,
-}
-
-// Starts the workers.
-fn start_pool<R: Threads + Wait + Clone + Send + Drop + 'static, G: Gate + 'static>(
-    rt: &R,
-    alloc: Global,
-    workers: usize,
-    gate: &Arc<G>,
-) -> Result<Pool, ServeFault>
-    ensures { IfErr result IsOfWorkers }
-{
-    match Pool::start(rt, FileWork::new(alloc), workers, gate) {
-        Ok(pool) => Ok(pool),
-        Err(fault) => Err(ServeFault::from(fault)),
-    }
 }
 
 // Serves a session with a new core, message by message, to its end.

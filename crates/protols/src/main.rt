@@ -2,41 +2,24 @@
 //! `protols check` lists what is wrong in folders of files.
 #![tactic(auto)]
 
-mod status;
+ghost use Rattle.std.specs.Prelude.{◌≡◌};
+ghost use Rattle.std.specs.Process.{exit_status};
+ghost use Rattle.protols.specs.Status.{session_status};
 
-use crate::status::{fail, status_of, status_of_check};
 use lsp_frame::{FrameReader, FromRead, ToWrite};
-use lsp_session::{Config, Ended, OpenGate, ServeFault, serve};
+use lsp_session::{Config, Ended, ServeFault, serve};
 use program_folder::FolderReader;
 use program_options::options;
 use program_options::words::Options;
-use program_start::{Failure, check_of, configuration, tell_summary};
-use std::alloc::{AllocError, Global};
-use std::env::{self, Args, Env};
-use std::io::{self, BufReader, ErrorKind};
+use program_start::{
+    Failure, check_files, configuration, explain, fail, failed, open_gate, read_words,
+    status_of_check,
+};
+use std::io::{self, BufReader};
 use std::marker::Send;
 use std::process::ExitCode;
-use std::rt::Files;
-use std::sync::{Arc, Wait};
+use std::sync::Wait;
 use std::thread::Threads;
-use work_check::{Asked, Checked, check_as};
-
-const NOT_UTF8: &str = "error: a word of the command line isn't UTF-8
-
-Usage: protols serve [--root DIR] [--proto-path DIR]... [--read-others]
-                     [--workers N] [--stdio] [--clientProcessId ID]
-       protols check [--root DIR] [--proto-path DIR]... [--read-others]
-                     [--workers N] [--format FORMAT] [--quiet] [FILE]...
-
-For more information, try '--help'.";
-
-// A gate that no worker waits at.
-fn open_gate(alloc: Global) -> Result<Arc<OpenGate>, ServeFault> {
-    match Arc::new(alloc, OpenGate) {
-        Ok(gate) => Ok(gate),
-        Err(_) => Err(ServeFault::Memory),
-    }
-}
 
 // Serves an editor on standard input and output with so many workers. The input is buffered, the output is written through.
 fn serve_with<R: Threads + Wait + Clone + Send + Drop + Input + Print + AllocGlobal + 'static>(
@@ -82,75 +65,15 @@ fn serve_editor<
     Ok(serve_with(rt, config, workers)?)
 }
 
-// Writes the lines of a check to standard output, and answers what was found.
-fn check_with<R: Threads + Wait + Clone + Send + Drop + Print + AllocGlobal + 'static>(
-    rt: &R,
-    asked: Asked,
-) -> Result<Checked, ServeFault> {
-    let alloc = rt.alloc();
-    let gate = open_gate(alloc)?;
-    let mut writer = ToWrite::new(io::writer(rt));
-    check_as(rt, alloc, &mut writer, &gate, asked)
-}
-
-// Checks what these options ask for, says how much that was, and answers whether an error was found.
-fn check_files<
-    'd,
-    R: Threads
-        + Wait
-        + Clone
-        + Send
-        + Drop
-        + FolderReader
-        + Files
-        + Print
-        + Eprint
-        + AllocGlobal
-        + 'static,
->(rt: &R, options: &Options<'d>) -> Result<bool, Failure<'d>> {
-    let asked = check_of(rt, options)?;
-    let checked = check_with(rt, asked)?;
-    if !options.quiet {
-        tell_summary(rt, &checked);
-    }
-    Ok(checked.errors > 0)
-}
-
-// Writes what is to be said of the command line: the help, or what is wrong with it.
-fn explain<R: Print + Eprint>(rt: &R, error: &clap::Error) -> ExitCode {
-    let told = error.print(rt);
-    if error.use_stderr() {
-        ExitCode::from(2)
-    } else if told.is_err() {
-        fail(rt, ServeFault::Write.code())
-    } else {
-        ExitCode::from(0)
-    }
-}
-
-// The words that the program was started with, in a list. (`collect` would ask for less once memory was refused.)
-fn listed(alloc: Global, words: Args) -> Result<Vec<String>, AllocError> {
-    let mut list = Vec::with_capacity(alloc, words.len())?;
-    for word in words {
-        list.push(word)?;
-    }
-    Ok(list)
-}
-
-// The words that the program was started with, or the status with which it ends where they can't be read.
-fn read_words<R: Env + Eprint + AllocGlobal>(rt: &R) -> Result<Vec<String>, ExitCode> {
-    match env::args(rt) {
-        Ok(words) => match listed(rt.alloc(), words) {
-            Ok(words) => Ok(words),
-            Err(_) => Err(fail(rt, ServeFault::Memory.code())),
-        },
-        Err(error) if error.kind() == ErrorKind::OutOfMemory => {
-            Err(fail(rt, ServeFault::Memory.code()))
-        }
-        Err(_) => {
-            let _told = eprintln!(rt; "{NOT_UTF8}");
-            Err(ExitCode::from(2))
-        }
+// The status that says how the session ended.
+fn status_of(rt: &impl Eprint, ended: Result<Ended, Failure<'_>>) -> ExitCode
+    ensures { exit_status result ≡ session_status ended.entry }
+{
+    match ended {
+        Ok(Ended::Exit { after_shutdown }) => ExitCode::from(if after_shutdown { 0 } else { 1 }),
+        Ok(Ended::InputEnd) => ExitCode::from(1),
+        Ok(Ended::BadFrame(code)) => fail(rt, code),
+        Err(failure) => failed(rt, &failure),
     }
 }
 

@@ -3,10 +3,8 @@ use crate::configs::config_of;
 use crate::frames::put_body;
 use crate::settings::bytes_of;
 use library_cases::{Line, Names, field, first_word, number, plain, verdict_word};
-use lsp_session::{
-    Core, CoreEvent, CoreFault, CoreRun, Done, FileWork, Job, OpenGate, Piece, Reply, Verdict,
-    run_core,
-};
+use lsp_runs::{CoreEvent, CoreRun, run_core};
+use lsp_session::{Core, CoreFault, Done, FileWork, Job, OpenGate, Piece, Reply, Verdict};
 use std::alloc::{AllocError, Global};
 use std::sync::Wait;
 use std::thread::Threads;

@@ -6,7 +6,7 @@ use Rattle.std.specs.declared.alloc.AllocError.{AllocError}
 use Rattle.std.specs.declared.thread.PromisedHandle.{PromisedHandle}
 use Rattle.std.specs.declared.thread.Promise as Promise
 use Rattle.std.specs.PromisedHandle.{KeepsEach}
-use Rattle.work_index.proofs.Kept.{KeptAt, kept_at}
+use Rattle.work_shares.proofs.Kept.{KeptAt, kept_at}
 use Rattle.work_check.specs.Steps.{AreAnswered, AreLinesBetween, left_from}
 use Rattle.work_check.specs.declared.listed.Listed.{Listed}
 use Rattle.work_check.specs.declared.shares.ShareLines.{ShareLines}

@@ -6,7 +6,7 @@ use Rattle.std.specs.declared.alloc.Global.{Global}
 use Rattle.std.specs.declared.string.String.{String}
 use Rattle.proto_decls.specs.declared.diagnostic.Diag.{Diag}
 use Rattle.check_lines.specs.Lines.{lines_of, ListedFileData, written, is_error_message, document}
-use Rattle.work_index.specs.Unchecked.{unchecked, first_lost}
+use Rattle.work_shares.specs.Unchecked.{unchecked, first_lost}
 use Rattle.work_config.specs.Configuration.{Configuration, files_of}
 use Rattle.work_index.specs.Workspace.{SourceAt, Workspace, AnalysisData, all_facts, analysis, no_file, sources_of}
 use Rattle.work_files.specs.Files.{Files, text_of, workspace}

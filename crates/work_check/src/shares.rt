@@ -8,7 +8,7 @@ use std::snapshot::Snapshot;
 use std::sync::Wait;
 use std::thread;
 use std::thread::{Promise, Threads};
-use work_index::AnalyseFault;
+use work_shares::AnalyseFault;
 
 // The lines of a share: of consecutive files.
 #[derive(Drop)]

@@ -1,3 +1,4 @@
 mod RootOrder
 mod ConfigLemmas
 pub mod SendingLemmas
+mod FaultLemmas

@@ -4,8 +4,8 @@ use Rattle.lsp_frame.specs.Counts.{HasFailed, NoError}
 use Rattle.lsp_frame.specs.declared.counts.Counts.{Counts}
 use Rattle.piece_collector.specs.declared.fault.BoardFault.{BoardFault}
 use Rattle.piece_collector.specs.declared.fault.BoardFault.TheVariants as board
-use Rattle.work_index.specs.declared.fault.AnalyseFault.{AnalyseFault}
-use Rattle.work_index.specs.declared.fault.AnalyseFault.TheVariants as analysis
+use Rattle.work_shares.specs.declared.fault.AnalyseFault.{AnalyseFault}
+use Rattle.work_shares.specs.declared.fault.AnalyseFault.TheVariants as analysis
 use Rattle.work_pool.specs.declared.fault.PoolFault.{PoolFault}
 use Rattle.work_pool.specs.declared.fault.PoolFault.TheVariants as pool
 use Rattle.work_config.specs.declared.fault.CoreFault.{CoreFault}

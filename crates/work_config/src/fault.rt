@@ -6,8 +6,8 @@ ghost use Rattle.work_config.specs.declared.fault.CoreFault.TheVariants as core;
 use piece_collector::BoardFault;
 use std::alloc::AllocError;
 use thiserror::Error;
-use work_index::AnalyseFault;
 use work_pool::PoolFault;
+use work_shares::AnalyseFault;
 
 /// Why a core stopped.
 #[derive(Clone, Copy, Debug, PartialEq, Eq, Error)]

@@ -2,16 +2,7 @@ pub mod Numbered
 pub mod ByFile
 pub mod Ascending
 pub mod Steps
-pub mod Balance
 pub mod Crossing
-pub mod Merged
-pub mod Taken
-pub mod Refused
-pub mod Joined
-pub mod Kept
-pub mod KeptShares
-pub mod Promised
 pub mod OwnDiags
 pub mod Known
-pub mod FirstLost
-pub mod WhyUnchecked
+pub mod OfAnalysis

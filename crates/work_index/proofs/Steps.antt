@@ -5,8 +5,7 @@ use Rattle.std.proofs.lemmas.List.FromFn.{length-enumerate_from}
 use Rattle.std.specs.List.{enumerate_from}
 use Rattle.piece_collector.specs.Views.{TextAt}
 use Rattle.proto_decls.specs.declared.named_facts.NamedFacts.{NamedFacts}
-use Rattle.work_index.specs.Pieces.{source_of, workspace_of}
-use Rattle.work_index.specs.Shares.{AreNumbersIn}
+use Rattle.work_index.specs.Pieces.{AreNumbersIn, source_of, workspace_of}
 use Rattle.work_index.specs.Workspace.{SourceAt, named_facts, all_facts}
 
 -- what f makes of each of the files from n on

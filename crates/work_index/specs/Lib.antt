@@ -1,10 +1,5 @@
 pub mod Workspace
-pub mod Unchecked
 pub mod Pieces
 pub mod Products
-pub mod Fault
-pub mod Stretches
-pub mod Parts
-pub mod Shares
 pub mod Known
 pub mod AnalysisParts

@@ -95,16 +95,6 @@ workspace_in a = zip a.paths a.sources
 pub record IsKnown (a : AnalysisData) : Type 0 where
   pub is : a ≡ analysis (workspace_in a)
 
--- the paths of the files of a workspace and their texts, what each text says by itself, and what is wrong in each file
-pub record DiagnosisData : Type 0 where
-  pub paths : List (List ℕ)
-  pub sources : List Source
-  pub files : List NamedFacts
-  pub diagnostics : List (List Diag)
-
-abbrev pub diagnosis : Workspace → DiagnosisData
-diagnosis w = let a = analysis w in record { paths = a.paths; sources = a.sources; files = all_facts w; diagnostics = a.diagnostics }
-
 -- ---- reading it
 
 abbrev pub decl_in : List FileFacts → DeclRef → Decl

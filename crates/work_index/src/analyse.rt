@@ -3,8 +3,7 @@ ghost use Rattle.std.specs.Prelude.{◌≡◌, ◌<◌, ◌++◌, Bool, [], ◌�
 ghost use Rattle.std.specs.List.{enumerate_from};
 ghost use Rattle.proto_decls.specs.Facts.{facts_of};
 ghost use Rattle.piece_collector.specs.Board.{Ascends};
-ghost use Rattle.work_index.specs.Pieces.{source_of, workspace_of};
-ghost use Rattle.work_index.specs.Shares.{AreNumbersIn};
+ghost use Rattle.work_index.specs.Pieces.{AreNumbersIn, source_of, workspace_of};
 ghost use Rattle.work_index.specs.Workspace.{Source, Workspace, all_facts, analysis, resolution_of, merged, diagnostics_of, source_facts};
 
 use crate::analysis::{Analysis, AnalysisParts, Resolutions};
@@ -102,8 +101,8 @@ fn push_linked(
     push_found(alloc, piece, found, resolutions)
 }
 
-// What is known, beside their facts, of some pieces, which are files of the table. The first has this number there, and the
-// others those that follow. Enters the gate before each file.
+/// What is known, beside their facts, of some pieces, which are files of the table. The first has this number there, from 0, and the others those
+/// that follow. Enters the gate before each file. An `Err` comes only where memory was refused.
 pub fn link_files<G: Gate>(
     alloc: Global,
     table: &Table,
@@ -142,8 +141,9 @@ fn push_diagnosed(
     Ok(())
 }
 
-// What is wrong in the files of some pieces, which are files of the table. The first has this number there, and the others those that
-// follow. Enters the gate before each file. What the names of a file mean is dropped as soon as that is known.
+/// What is wrong in the files of some pieces, which are files of the table. The first has this number there, from 0, and the others those that
+/// follow. Enters the gate before each file. What the names of a file mean is dropped as soon as that is known, so there are no links. An `Err` comes
+/// only where memory was refused.
 pub fn diagnose_files<G: Gate>(
     alloc: Global,
     table: &Table,

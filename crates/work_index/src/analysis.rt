@@ -15,11 +15,21 @@ use std::marker::Model;
 /// wrong in each file.
 ///
 /// A file is a number: its place, counted from 0, in the list of paths. An analysis owns all that it holds.
-#[derive(Drop)]
 pub struct Analysis {
     table: Table,
     files: Vec<SourceFile>,
     resolutions: Resolutions,
+}
+
+// (Written out: a derived one would be proved again, with those of all parts, in each crate that drops such a value.)
+impl Drop for Analysis {
+    fn drop(self) {
+        let Analysis {
+            table: _,
+            files: _,
+            resolutions: _,
+        } = self;
+    }
 }
 
 /// What an analysis is made of.

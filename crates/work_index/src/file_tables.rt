@@ -26,7 +26,8 @@ pub fn named_facts(
     })
 }
 
-// The files of some pieces, with their facts, which aren't copied.
+/// The files of some pieces, with their facts, which the pieces share; `reads_others` says whether texts that aren't proto3 are read for what they
+/// declare. An `Err` comes only where memory was refused.
 pub fn all_facts(
     alloc: Global,
     pieces: &[Piece<FileWork>],

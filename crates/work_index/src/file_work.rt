@@ -40,7 +40,6 @@ impl KnownText {
 }
 
 /// What is made of a file's text by itself. It doesn't depend on whether texts that aren't proto3 are read for what they declare: who uses it says so.
-#[derive(Drop)]
 pub struct FileOut {
     /// The tree of the text; that of the empty text where the text has more than 16,777,216 bytes.
     pub tree: FileTree,
@@ -48,6 +47,17 @@ pub struct FileOut {
     pub own: KnownText,
     /// What the text says where it is read though it isn't proto3. `None` of a proto3 text, and of one that is too long.
     pub other: Option<KnownText>,
+}
+
+// (Written out: a derived one would be proved again, with those of all parts, in each crate that drops such a value.)
+impl Drop for FileOut {
+    fn drop(self) {
+        let FileOut {
+            tree: _,
+            own: _,
+            other: _,
+        } = self;
+    }
 }
 
 impl FileOut {
@@ -59,6 +69,18 @@ impl FileOut {
             Some(known) if reads_others => known,
             _ => &self.own,
         }
+    }
+
+    /// The tree of the text.
+    pub fn into_tree(self) -> FileTree
+        ensures { result ≡ self.tree }
+    {
+        let FileOut {
+            tree,
+            own: _,
+            other: _,
+        } = self;
+        tree
     }
 }
 

@@ -13,12 +13,23 @@ use work_links::Asked;
 
 /// A file of a workspace: its path, its text, whether that is read for what it declares if it isn't proto3, and what is known of it by itself. The
 /// text and what is known of it are shared with the piece that was made of the text. Contracts see the path, and the text with the choice.
-#[derive(Drop)]
 pub struct SourceFile {
     path: Name,
     text: SharedText,
     reads_others: bool,
     known: KnownText,
+}
+
+// (Written out: a derived one would be proved again, with those of all parts, in each crate that drops such a value.)
+impl Drop for SourceFile {
+    fn drop(self) {
+        let SourceFile {
+            path: _,
+            text: _,
+            reads_others: _,
+            known: _,
+        } = self;
+    }
 }
 
 impl Model for SourceFile {

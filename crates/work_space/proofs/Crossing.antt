@@ -1,7 +1,7 @@
 -- What threads read side by side: the files of a workspace, with what is wrong in them.
 use denote.Param.Send.{IsSync, struct_sync, recorded_sync, view_sync}
 use denote.Struct.Declared.{shape}
-use Rattle.work_index.proofs.Crossing.{diagnosis_sync}
+use Rattle.work_shares.proofs.Crossing.{diagnosis_sync}
 use Rattle.work_space.specs.contracts.diagnosed.DiagnosedFiles as DiagnosedFiles
 use Rattle.work_space.specs.contracts.diagnosed.DiagnosedFiles.TheInside as inside
 

@@ -17,7 +17,7 @@ use Rattle.piece_collector.specs.Views.{BoardView}
 use Rattle.work_files.specs.Files.{File, Files, text_of, text_at, workspace, AreInPathOrder}
 use Rattle.work_space.specs.BoardTexts.{HoldsTexts, StampsRunOut, first_events}
 use Rattle.work_space.proofs.Held.{text_in_workspace}
-use Rattle.work_space.proofs.WorkspaceOrder.{Texts, TextsAscend, ascend-texts, paths_in}
+use Rattle.work_files.proofs.WorkspaceOrder.{Texts, TextsAscend, ascend-texts, paths_in}
 use Rattle.work_update.proofs.ByPath.{AreBehind}
 
 abbrev set_text : List Event → List ℕ × List ℕ → List Event

@@ -5,12 +5,13 @@ use Rattle.std.specs.Map.{lookup}
 use Rattle.piece_collector.specs.Views.{BoardView}
 use Rattle.work_index.specs.Workspace.{sources_of}
 use Rattle.work_update.specs.Updates.{IsWorkspaceOf, sources_by_path}
+use Rattle.work_update.proofs.ByPath.{sources-ascend}
 use Rattle.work_update.proofs.Updates.{read_as}
 use Rattle.work_files.specs.Files.{Files, text_at, workspace, AreInPathOrder}
 use Rattle.work_space.specs.BoardTexts.{HoldsTexts}
 use Rattle.work_space.specs.Kept.{source_at}
 use Rattle.work_files.proofs.PathOrder.{order-apart}
-use Rattle.work_space.proofs.WorkspaceOrder.{Texts, ascend-workspace}
+use Rattle.work_files.proofs.WorkspaceOrder.{Texts, ascend-texts}
 use Rattle.work_files.proofs.TextChanges.{same_test}
 use Rattle.work_files.proofs.WorkspaceLemmas.{text_of_workspace}
 
@@ -34,6 +35,6 @@ source_in_workspace reads_others files order q = source-among reads_others (work
 -- the workspace of files is that of a board that has their texts
 pub workspace_of_board : (reads_others : Bool) (files : Files) (board : BoardView) → AreInPathOrder files → HoldsTexts files board → IsWorkspaceOf reads_others board (sources_of reads_others (workspace files))
 workspace_of_board reads_others files board order holds = record {
-  ordered = ascend-workspace reads_others files order;
+  ordered = sources-ascend reads_others (workspace files) (ascend-texts files order);
   sources = λ q. source_in_workspace reads_others files order q ∙ ap (option_map (read_as reads_others)) (sym (holds q));
 }

@@ -1,7 +1,5 @@
-pub mod WorkspaceOrder
 pub mod Held
 pub mod FirstEvents
 pub mod Noted
 pub mod Crossing
-mod OfAnalysis
 mod Keeps

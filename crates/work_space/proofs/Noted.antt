@@ -15,9 +15,10 @@ use Rattle.work_files.specs.Files.{Files, AreInPathOrder, text_at, workspace}
 use Rattle.work_space.specs.Kept.{AreNoted, IsOf, source_at}
 use Rattle.work_files.specs.Texts.{TextsChangeAt}
 use Rattle.work_space.specs.declared.last_analysis.LastAnalysis.{LastAnalysis}
+use Rattle.work_update.proofs.ByPath.{sources-ascend}
 use Rattle.work_update.proofs.Updates.{read_as}
 use Rattle.work_space.proofs.Held.{source_in_workspace}
-use Rattle.work_space.proofs.WorkspaceOrder.{ascend-workspace}
+use Rattle.work_files.proofs.WorkspaceOrder.{ascend-texts}
 
 -- ---- one more path
 
@@ -79,7 +80,7 @@ module _ (reads_others : Bool) (files : Files) (now : LastAnalysis) (order : Are
   known_fresh is none =
       let same : workspace_in now.analysis ≡ own = ap workspace_in is ∙ known_workspace own in record {
         is = record { is = is ∙ ap analysis (sym same) };
-        ordered = subst IsInOrder (sym same) (ascend-workspace reads_others files order);
+        ordered = subst IsInOrder (sym same) (sources-ascend reads_others (workspace files) (ascend-texts files order));
         changes = λ q out. sym (ap (λ w. sources_by_path w q) same ∙ source_in_workspace reads_others files order q);
       }
 
@@ -90,4 +91,4 @@ module _ (reads_others : Bool) (files : Files) (now : LastAnalysis) (order : Are
       let named : NameAllChanges [] (sources_by_path known) (source_at reads_others files) =
       subst (λ (paths : List (String Global)). NameAllChanges (map string_bytes paths) (sources_by_path known) (source_at reads_others files)) none of.changes in
       let is = of.is in
-      is.is ∙ ap analysis (one_list known own of.ordered (ascend-workspace reads_others files order) (λ q. sym (named q (λ has. absurd (omega (arith, has.1)))) ∙ sym (source_in_workspace reads_others files order q)))
+      is.is ∙ ap analysis (one_list known own of.ordered (sources-ascend reads_others (workspace files) (ascend-texts files order)) (λ q. sym (named q (λ has. absurd (omega (arith, has.1)))) ∙ sym (source_in_workspace reads_others files order q)))

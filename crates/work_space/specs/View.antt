@@ -3,7 +3,8 @@ use Rattle.std.specs.Prelude.{Bool}
 use Rattle.std.specs.List.{zip}
 use Rattle.piece_collector.specs.Views.{BoardView}
 use Rattle.work_files.specs.Files.{Files}
-use Rattle.work_index.specs.Workspace.{Workspace, DiagnosisData}
+use Rattle.work_index.specs.Workspace.{Workspace}
+use Rattle.work_shares.specs.Diagnosis.{DiagnosisData}
 
 -- the files of a workspace, the board of their texts, whether texts that aren't proto3 are read for what they declare, and whether an analysis
 -- of the files as they are is known

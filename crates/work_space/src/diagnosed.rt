@@ -1,35 +1,43 @@
 // Files with what is wrong in each.
 ghost use Rattle.std.specs.Prelude.{◌≡◌, length, slice_index_or};
 ghost use Rattle.work_index.specs.Workspace as index;
+ghost use Rattle.work_shares.specs.Diagnosis as shares;
 ghost use Rattle.work_space.specs.View.{diagnosed_files};
 
 use import_graph::FileNo;
 use std::marker::Model;
-use work_index::Diagnosis;
+use work_shares::Diagnosis;
 
 /// The files of a workspace with what is wrong in each, which never change. A file is a number: its place, from 0, in the order of
 /// their paths. Contracts see them as the workspace: the paths of the files, each with its text and how it is read.
-#[derive(Drop)]
 pub struct DiagnosedFiles {
     diagnosis: Diagnosis,
+}
+
+// (Written out: a derived one would be proved again, with those of all parts, in each crate that drops such a value.)
+impl Drop for DiagnosedFiles {
+    fn drop(self) {
+        let DiagnosedFiles { diagnosis: _ } = self;
+    }
 }
 
 impl Model for DiagnosedFiles {
     ghost use Rattle.std.specs.Prelude.{◌≡◌};
     ghost use Rattle.work_index.specs.Workspace as index;
+    ghost use Rattle.work_shares.specs.Diagnosis as shares;
     ghost use Rattle.work_space.specs.View.{diagnosed_files};
 
     ghost Value = { index.Workspace };
 
     ghost view = { λ d. diagnosed_files d.diagnosis };
 
-    ghost invariant = { λ d. d.diagnosis ≡ index.diagnosis (diagnosed_files d.diagnosis) };
+    ghost invariant = { λ d. d.diagnosis ≡ shares.diagnosis (diagnosed_files d.diagnosis) };
 }
 
 impl DiagnosedFiles {
     // The files of which this is the diagnosis.
     pub(crate) fn of(diagnosis: Diagnosis) -> DiagnosedFiles
-        requires { diagnosis ≡ index.diagnosis (diagnosed_files diagnosis) }
+        requires { diagnosis ≡ shares.diagnosis (diagnosed_files diagnosis) }
         ensures { result ≡ diagnosed_files diagnosis }
     {
         DiagnosedFiles { diagnosis }
@@ -66,7 +74,7 @@ impl DiagnosedFiles {
 
     /// What is wrong in the files.
     pub fn diagnosis(&self) -> &Diagnosis
-        ensures { result.now ≡ index.diagnosis self.now }
+        ensures { result.now ≡ shares.diagnosis self.now }
     {
         &self.diagnosis
     }

@@ -15,7 +15,6 @@ ghost use Rattle.work_files.specs.View.{document_view, file_view};
 
 use crate::diagnosed::DiagnosedFiles;
 use crate::last_analysis::{LastAnalysis, analyse, known_after};
-use crate::snapshot::Snapshot;
 use collector_laws::texts_of_events;
 use piece_collector::{Board, BoardFault, Job, Piece, SharedText, Verdict};
 use std::alloc::{AllocError, Global};
@@ -23,20 +22,33 @@ use std::marker::Model;
 use std::sync::Wait;
 use std::thread::Threads;
 use work_files::{DiskFile, Document, FileEntry, Files, VersionedChanges};
-use work_index::{AnalyseFault, AnalysisSettings, FileWork, Gate, analyse_in_shares, diagnose};
+use work_index::{FileWork, Gate, Snapshot};
+use work_shares::{AnalyseFault, AnalysisSettings, analyse_in_shares, diagnose};
 
 /// The files that an editor's session knows, the board of their texts with the work on them, and the analysis of them.
 ///
 /// Each change of a text is told to the board, which then wants work on it. Once the board is complete the files can be
 /// analysed. Contracts see a workspace as its files, its board, whether texts that aren't proto3 are read for what they declare, and whether
 /// an analysis of the files as they are is known.
-#[derive(Drop)]
 pub struct Workspace {
     alloc: Global,
     files: Files,
     board: Board<FileWork>,
     reads_others: bool,
     known: Option<LastAnalysis>,
+}
+
+// (Written out: a derived one would be proved again, with those of all parts, in each crate that drops such a value.)
+impl Drop for Workspace {
+    fn drop(self) {
+        let Workspace {
+            alloc: _,
+            files: _,
+            board: _,
+            reads_others: _,
+            known: _,
+        } = self;
+    }
 }
 
 impl Model for Workspace {
@@ -386,9 +398,10 @@ impl Workspace {
     {
         let Workspace {
             alloc,
+            files: _,
             mut board,
             reads_others,
-            ..
+            known: _,
         } = self;
         let settings = AnalysisSettings {
             workers,

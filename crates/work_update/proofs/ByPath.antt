@@ -13,8 +13,9 @@ use Rattle.std.proofs.lemmas.Cmp.{nat_list_cmp_total, nat_list_eq_equiv}
 use Rattle.std.proofs.lemmas.List.{length-map}
 use Rattle.std.proofs.lemmas.List.Quantifiers.{position-Some}
 use Rattle.std.proofs.lemmas.Map.Text.{is_eq-slice_cmp}
+use Rattle.std.proofs.lemmas.Simd.{map-map}
 use Rattle.collector_laws.proofs.Lists.{one_list}
-use Rattle.work_index.specs.Workspace.{SourceAt, Workspace, no_file}
+use Rattle.work_index.specs.Workspace.{SourceAt, Workspace, no_file, sources_of}
 use Rattle.work_update.specs.Updates.{IsInOrder, sources_by_path}
 
 -- each path comes after p
@@ -144,3 +145,8 @@ same_paths old new before after same =
     sym (marked_paths old)
     ∙ ap (map (λ (e : List ℕ × Bool). e.0)) (one_list (marked old) (marked new) (subst P (sym (marked_paths old)) before) (subst P (sym (marked_paths new)) after) (λ path. marked-at path old ∙ same path ∙ sym (marked-at path new)))
     ∙ marked_paths new
+
+-- the files of some texts ascend by path where the texts do, however they are read
+pub sources-ascend : (reads_others : Bool) (texts : List (List ℕ × List ℕ)) → IsStrictlySortedBy (slice_cmp nat_cmp) (map (λ f. f.0) texts) → IsInOrder (sources_of reads_others texts)
+sources-ascend reads_others texts ascend =
+    subst (λ ps. IsStrictlySortedBy (slice_cmp nat_cmp) ps) (sym (map-map (λ (f : SourceAt). f.0) (λ file. (file.0, record { text = file.1; reads_others = reads_others })) texts)) ascend

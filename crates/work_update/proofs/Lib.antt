@@ -1,15 +1,6 @@
-pub mod Changed
-pub mod Relinked
 pub mod Stayed
 pub mod FilesMoves
 pub mod Unimported
 pub mod Arrived
 pub mod ByPath
 pub mod Updates
-pub mod KeptFiles
-pub mod OtherTexts
-pub mod Alike
-pub mod FileByFile
-pub mod Meaning
-pub mod Quiet
-pub mod TextsByFile

@@ -20,9 +20,9 @@ use Rattle.work_index.specs.declared.analysis.Resolutions.{Resolutions}
 use Rattle.work_index.specs.Pieces.{workspace_of}
 use Rattle.work_index.specs.Workspace.{Workspace, all_facts, diagnostics_of, named_facts, no_file, resolution_of, source_facts}
 use Rattle.work_update.specs.declared.update_files.Earlier.{Earlier}
-use Rattle.work_update.specs.Changes.{no_links}
+use Rattle.work_changes.specs.Changes.{no_links}
 use Rattle.work_update.specs.Stayed.{HasMoved, IsEarlier, IsEarlierThan, IsSameFile, Stay, WasGraph}
-use Rattle.work_update.proofs.Relinked.{facts_in}
+use Rattle.work_changes.proofs.LinkedAgain.{facts_in}
 
 -- a graph has each file of its workspace
 pub graph_length : (w : Workspace) → length (graph_of (all_facts w)) ≡ length w

@@ -22,7 +22,7 @@ use Rattle.work_index.specs.AnalysisParts.{AreParts}
 use Rattle.work_update.specs.Arrivals.{TakesIn}
 use Rattle.work_update.specs.FilesMoves.{HasCome}
 use Rattle.work_update.specs.Stayed.{HasMoved, IsSameFile, Stay}
-use Rattle.work_update.specs.Changes.{no_links}
+use Rattle.work_changes.specs.Changes.{no_links}
 use Rattle.work_update.proofs.FilesMoves.{come_to, with_one_more, with_one_that_came}
 use Rattle.work_update.proofs.Stayed.{links_moved}
 

@@ -24,7 +24,7 @@ use Rattle.piece_collector.specs.Views.{BoardView, SlotView, TextAt, slot_of, te
 use Rattle.work_index.specs.Pieces.{source_of, workspace_of}
 use Rattle.work_index.specs.Workspace.{AnalysisData, IsKnown, NoneImports, Source, SourceAt, Workspace, analysis, no_file, workspace_in}
 use Rattle.work_update.specs.Arrivals.{Arrives}
-use Rattle.work_update.specs.Edited.{StaysBut}
+use Rattle.work_changes.specs.Changes.{StaysBut}
 use Rattle.work_update.specs.Stayed.{Stay}
 use Rattle.work_update.specs.Updates.{AreNumbersNow, HasStayed, IsArrival, IsInOrder, IsUnchangedAt, IsWorkspaceOf, NameAllChanges, known_source, numbers_of, sources_by_path}
 use Rattle.work_update.proofs.ByPath.{AreBehind, at_position, behind-later, no_text, none-at, own_position, path-at, paths, same_paths, symm, text-at}

@@ -7,7 +7,7 @@ use Rattle.import_graph.specs.Moves.{IsMovedOutlook, place}
 use Rattle.import_graph.specs.Outlooks.{outlook}
 use Rattle.work_index.specs.Workspace.{Workspace, all_facts, no_file, resolution_of}
 use Rattle.work_update.specs.declared.update_files.Earlier.{Earlier}
-use Rattle.work_update.specs.Changes.{no_links}
+use Rattle.work_changes.specs.Changes.{no_links}
 
 -- the file g of a workspace and the file n of another have the same path and the same text, which is read alike
 pub record IsSameFile (old new : Workspace) (g n : ℕ) : Type 0 where

@@ -10,11 +10,11 @@ ghost use Rattle.work_update.specs.Updates.{AreNumbersNow, HasStayed, IsArrival,
 
 use crate::add_file::add_file;
 use crate::update_files::update_files;
-use crate::update_texts::update_texts;
 use import_graph::FileNo;
 use piece_collector::{Board, Piece};
 use std::alloc::{AllocError, Global};
 use std::cmp::Ordering;
+use work_changes::update_texts;
 use work_index::{Analysis, FileWork, analyse_here};
 
 // The piece of the one file of which the path is given, if it came and no file of the analysis imports it.

@@ -9,7 +9,7 @@ ghost use Rattle.work_links.specs.Touched.{links_after};
 ghost use Rattle.piece_collector.specs.Board.{Ascends};
 ghost use Rattle.work_index.specs.Pieces.{workspace_of};
 ghost use Rattle.work_index.specs.Workspace.{analysis, diagnostics_of, no_file, resolution_of, workspace_in};
-ghost use Rattle.work_update.specs.Changes.{no_links};
+ghost use Rattle.work_changes.specs.Changes.{no_links};
 ghost use Rattle.work_update.specs.Stayed.{AreNumbersBefore, HasMoved, IsEarlierThan, Stay, WasGraph};
 
 use crate::update_table::table_after;

@@ -1,6 +1,6 @@
 use Rattle.std.proofs.Common.{◌≡◌, ◌≤◌, ◌-◌, ◌++◌, drop, length, map}
 use Rattle.work_index.specs.Workspace.{texts_of}
-use Rattle.work_update.specs.Edited.{edit_view}
+use Rattle.work_meaning.specs.Edited.{edit_view}
 use Rattle.lsp_renames.specs.Cutting.{edits_of}
 use Rattle.lsp_renames.proofs.edited.edited_texts.Given as goal
 

@@ -2,8 +2,8 @@ use Rattle.std.proofs.Common.{◌≡◌, ◌+◌, ◌-◌, ◌++◌, take, drop,
 use Rattle.std.proofs.lemmas.List.{take_all}
 use Rattle.std.proofs.lemmas.Option.{get_or_from_slice_get}
 use Rattle.work_index.specs.Workspace.{texts_of}
-use Rattle.work_update.specs.Edited.{edit_view}
-use Rattle.work_update.specs.declared.edited.EditedText.{EditedText}
+use Rattle.work_meaning.specs.Edited.{edit_view}
+use Rattle.work_meaning.specs.declared.edited.EditedText.{EditedText}
 use Rattle.lsp_renames.specs.ByFile.{by_file}
 use Rattle.lsp_renames.specs.Cutting.{CanBeCut, edits_of}
 use Rattle.lsp_renames.specs.Edited.{respelled}

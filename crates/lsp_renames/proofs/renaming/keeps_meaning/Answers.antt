@@ -1,7 +1,7 @@
 use Rattle.std.proofs.Common.{◌↔◌, subst}
 use Rattle.std.specs.Prelude.{IfOk, IsTrue}
 use Rattle.work_index.specs.Workspace.{AnalysisData}
-use Rattle.work_update.specs.Bindings.{SameMeaning}
+use Rattle.work_meaning.specs.Bindings.{SameMeaning}
 use Rattle.lsp_renames.proofs.AfterEdits.{analysed-after}
 use Rattle.lsp_renames.proofs.WithTexts.{edits-there}
 use Rattle.lsp_renames.proofs.renaming.keeps_meaning.Goals as goal

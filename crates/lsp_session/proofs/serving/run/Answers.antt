@@ -22,7 +22,7 @@ returns-in-Err-clause-cause g c =
 pub returns-in-Err-start_pool-clause-served : goal.returns-in-Err-start_pool-clause-served
 returns-in-Err-start_pool-clause-served g c =
     let fault = c.in-Err-start_pool.fault in
-    let of = c.in-Err-start_pool.ensures in
+    let of = c.in-Err-start_pool.ensures.fault in
     fails_at_start c.args.start.config _ _ fault (of_workers fault of) (λ is. absurd (not_of_workers fault of is))
 
 pub returns-in-Err-start_pool-clause-reads : goal.returns-in-Err-start_pool-clause-reads
@@ -33,7 +33,7 @@ returns-in-Err-start_pool-clause-writes g c = no_calls _ _ _
 
 pub returns-in-Err-start_pool-clause-cause : goal.returns-in-Err-start_pool-clause-cause
 returns-in-Err-start_pool-clause-cause g c =
-    core_caused (g.S.ByteSource.counts (source_of c.args.reader.now)) (g.S.ByteSource.counts (source_of c.args.reader.now)) (g.K.ByteSink.counts c.args.writer.now) (g.K.ByteSink.counts c.args.writer.now) c.in-Err-start_pool.fault (of_workers c.in-Err-start_pool.fault c.in-Err-start_pool.ensures)
+    core_caused (g.S.ByteSource.counts (source_of c.args.reader.now)) (g.S.ByteSource.counts (source_of c.args.reader.now)) (g.K.ByteSink.counts c.args.writer.now) (g.K.ByteSink.counts c.args.writer.now) c.in-Err-start_pool.fault (of_workers c.in-Err-start_pool.fault c.in-Err-start_pool.ensures.fault)
 
 pub returns-clause-served : goal.returns-clause-served
 returns-clause-served g c = c.serve_messages-ended.ensures.served c.args.start.config (knows-none c.args.start.config (core_state c.in-Ok.core) c.in-Ok.ensures.is_after) c.in-Ok.ensures.open

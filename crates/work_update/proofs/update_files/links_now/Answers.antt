@@ -10,7 +10,7 @@ use Rattle.proto_resolve.specs.declared.resolve.Links.{Links}
 use Rattle.work_index.proofs.Numbered.{piece_at, pieces_length}
 use Rattle.work_index.specs.Pieces.{source_of, workspace_of}
 use Rattle.work_index.specs.Workspace.{all_facts, named_facts, no_file, resolution_of}
-use Rattle.work_update.specs.Changes.{no_links}
+use Rattle.work_changes.specs.Changes.{no_links}
 use Rattle.work_update.specs.Stayed.{HasMoved}
 use Rattle.work_update.proofs.Stayed.{graph_length, links_moved, number_within, one_further, one_taken}
 use Rattle.work_update.proofs.update_files.links_now.Goals as goal

@@ -11,7 +11,7 @@ use Rattle.work_index.specs.Pieces.{workspace_of}
 use Rattle.work_index.specs.Workspace.{all_facts, named_facts}
 use Rattle.work_index.proofs.Ascending.{in_path_order}
 use Rattle.work_update.specs.Stayed.{HasMoved, IsSameFile}
-use Rattle.work_update.proofs.Changed.{kept_as}
+use Rattle.work_changes.proofs.Changed.{kept_as}
 use Rattle.work_update.proofs.FilesMoves.{put_in, taken_out}
 use Rattle.work_update.proofs.Unimported.{imports_moved}
 use Rattle.work_update.proofs.update_table.table_after.Goals as goal

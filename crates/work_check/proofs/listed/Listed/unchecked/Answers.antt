@@ -2,8 +2,9 @@ use Rattle.std.proofs.Common.{◌≡◌, ◌<◌, ◌∙◌, ap, filter, get_or,
 use Rattle.std.specs.Prelude.{All}
 use Rattle.std.proofs.lemmas.List.{length-map}
 use Rattle.std.proofs.lemmas.List.Elements.{All-filter}
-use Rattle.work_index.specs.Unchecked.{unchecked}
-use Rattle.work_index.specs.Workspace.{DiagnosisData, named_facts, no_file}
+use Rattle.work_shares.specs.Unchecked.{unchecked}
+use Rattle.work_index.specs.Workspace.{named_facts, no_file}
+use Rattle.work_shares.specs.Diagnosis.{DiagnosisData}
 use Rattle.work_check.specs.Listing.{is_wanted}
 use Rattle.work_check.proofs.listed.Listed.unchecked.Goals as goal
 

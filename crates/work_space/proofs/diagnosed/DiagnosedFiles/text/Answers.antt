@@ -1,6 +1,7 @@
 use Rattle.std.proofs.Common.{◌≡◌, ◌<◌, ◌∙◌, length, map, ap}
-use Rattle.work_index.specs.Workspace.{DiagnosisData, Workspace}
-use Rattle.work_space.proofs.OfAnalysis.{text_of_file}
+use Rattle.work_index.specs.Workspace.{Workspace}
+use Rattle.work_index.proofs.OfAnalysis.{text_of_file}
+use Rattle.work_shares.specs.Diagnosis.{DiagnosisData}
 use Rattle.work_space.proofs.diagnosed.DiagnosedFiles.text.Goals as goal
 
 pub returns-then-file-file_count : goal.returns-then-file-file_count

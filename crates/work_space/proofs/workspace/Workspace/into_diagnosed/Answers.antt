@@ -4,7 +4,8 @@ use Rattle.std.proofs.Common.{◌≡◌, ◌∙◌, ap, sym, subst}
 use Rattle.piece_collector.specs.Board.{IsFull}
 use Rattle.work_index.proofs.Crossing.{out_send}
 use Rattle.work_index.specs.Pieces.{workspace_of}
-use Rattle.work_index.specs.Workspace.{diagnosis, sources_of}
+use Rattle.work_index.specs.Workspace.{sources_of}
+use Rattle.work_shares.specs.Diagnosis.{diagnosis}
 use Rattle.work_files.specs.Files.{workspace}
 use Rattle.work_space.specs.View.{WorkspaceData, diagnosed_files}
 use Rattle.work_space.proofs.Keeps.{lent_files}

@@ -3,7 +3,7 @@ use denote.Exit.{yes}
 use denote.Struct.Field.{u64-field}
 use contract.Lifetimes.{Lfts}
 use Rattle.std.proofs.Common.{rules, ◌≡◌, ◌++◌, ◌∷◌, [], sym, subst}
-use Rattle.work_index.proofs.Crossing.{four_send, heap_send}
+use Rattle.work_shares.proofs.Crossing.{four_send, heap_send}
 use Rattle.work_check.proofs.Crossing.{listed_sync}
 use Rattle.work_check.proofs.ListedShares.{AreConsecutive, all_answered, one_more}
 use Rattle.work_check.proofs.shares.fn.list_shares.scope.Goals as goal

@@ -1,0 +1,11 @@
+pub mod Balance
+pub mod Crossing
+pub mod Merged
+pub mod Taken
+pub mod Refused
+pub mod Joined
+pub mod Kept
+pub mod KeptShares
+pub mod Promised
+pub mod FirstLost
+pub mod WhyUnchecked

@@ -1,6 +1,0 @@
-use Rattle.std.proofs.Common.{◌∙◌, length, ap}
-use Rattle.work_space.proofs.OfAnalysis.{as_many}
-use Rattle.work_space.proofs.snapshot.Snapshot.file_count.Goals as goal
-
-pub returns : goal.returns
-returns c = c.file_count.ensures ∙ as_many c.self.inside.analysis.now c.self.invariant ∙ ap length c.self.view_is

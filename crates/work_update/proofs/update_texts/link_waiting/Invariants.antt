@@ -1,5 +1,0 @@
-use Rattle.work_update.proofs.Relinked.{AreLinkedUpTo}
-use Rattle.work_update.proofs.update_texts.link_waiting.Given as goal
-
-abbrev pub invariant-loop-file : goal.invariant-loop-file
-invariant-loop-file l = AreLinkedUpTo l.table l.files l.waiting.items l.resolutions l.file

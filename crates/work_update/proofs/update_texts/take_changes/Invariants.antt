@@ -1,6 +1,0 @@
-use Rattle.std.proofs.Common.{drop}
-use Rattle.work_update.specs.Changes.{AreTakenBut}
-use Rattle.work_update.proofs.update_texts.take_changes.Given as goal
-
-abbrev pub invariant-loop-file : goal.invariant-loop-file
-invariant-loop-file l = AreTakenBut (drop l.file-index l.changed) l.table l.files l.relinking
